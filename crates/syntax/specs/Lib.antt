@@ -1,0 +1,6 @@
+pub mod Types
+pub mod Commands
+pub mod Operands
+pub mod Job
+pub mod Reading
+pub mod Tree

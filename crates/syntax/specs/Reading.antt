@@ -1,0 +1,255 @@
+-- Reading (document 01, "The bytes of a job" and numbers 2 to 7): the job that the bytes write, or the first refusal.
+use Prim.Native.Nat.{ℕ, zero, suc, _+_, _-_}
+use mathlib.Core.Bool.{Bool, true, false, cond, _&&_, _||_, not}
+use mathlib.Core.List.{List, [], _∷_, _++_}
+use mathlib.Core.Option.{Option, none, some}
+use lib.ListN.{length, getD, getElem?, drop, take}
+use lib.Dec.{eqb, ltb, leb}
+use Rattle.order.specs.Sets.{members, all-of}
+use Rattle.order.specs.Effects.{Effect, reduced}
+use Rattle.syntax.specs.Types.{Ty, num, pair, cell, fn, lim, grant, TypeEntry, e-num, e-pair, e-cell, e-fn, e-lim, e-grant, tree, depth}
+use Rattle.syntax.specs.Commands.{Cmd, c-num, c-top, c-var, c-pair, c-part, c-fn, c-app, c-new, c-asg, c-read, c-sum, c-test, c-lim, c-grant, c-newkey, c-assoc}
+use Rattle.syntax.specs.Commands.{Op, o-host, o-local, o-number, o-pair, o-cell, o-function, o-limit, o-grant, o-value, o-rights, o-end, opOf, operands, width, sectionOf, fields}
+use Rattle.syntax.specs.Commands.{x-number, x-top, x-variable, x-pair, x-part, x-function, x-apply, x-cell, x-assign, x-read, x-sum, x-test, x-limit, x-grant, x-newkey, x-associate}
+use Rattle.syntax.specs.Operands.{kids, typesOf, usesVar, bindsVar, bindsName}
+use Rattle.syntax.specs.Job.{Name, HostValue, Job, uppers}
+
+-- a refusal: its number, and its place
+pub record Refusal : Type 0 where
+  pub number : ℕ
+  pub place : ℕ
+
+-- what has been read so far, and the section that reading is in
+pub record State : Type 0 where
+  pub section : ℕ
+  pub job : Job
+
+-- "At most 64 names with 0 and 1, 256 types, 64 variables, 512 expressions."
+abbrev pub most-names : ℕ
+most-names = 64
+
+abbrev pub most-types : ℕ
+most-types = 256
+
+abbrev pub most-variables : ℕ
+most-variables = 64
+
+abbrev pub most-expressions : ℕ
+most-expressions = 512
+
+abbrev pub most-depth : ℕ
+most-depth = 16
+
+-- a name that is 0, 1 or declared
+unfoldable pub declared : List Name → ℕ → Bool
+declared ds q = ltb q (2 + length ds)
+
+unfoldable pub isHost : Option Name → Bool
+isHost none = false
+isHost (some d) = d .host
+
+-- a host name or 1
+unfoldable pub hostName : List Name → ℕ → Bool
+hostName ds q = eqb q 1 || (leb 2 q && isHost (getElem? ds (q - 2)))
+
+-- a host name, 1 or 0
+unfoldable pub openName : List Name → ℕ → Bool
+openName ds q = eqb q 0 || hostName ds q
+
+-- a declared name that is not the host's
+unfoldable pub localName : List Name → ℕ → Bool
+localName ds q = leb 2 q && declared ds q && not (hostName ds q)
+
+-- a written set: reduced, of declared names
+unfoldable pub setOk : List Name → Effect → Bool
+setOk ds s = all-of (declared ds) (members s) && reduced (uppers ds) s
+
+-- 01, 02: the upper name is not 0 and declared earlier; a host name's is a host name or 1
+unfoldable pub nameOk : List Name → Name → Bool
+nameOk ds d = not (eqb (d .upper) 0) && declared ds (d .upper) && (not (d .host) || hostName ds (d .upper))
+
+-- 10 to 15: names declared, r not 0, parts earlier, the set as above; depth at most 16
+unfoldable pub partsOk : List Name → ℕ → TypeEntry → Bool
+partsOk ds n (e-num q) = declared ds q
+partsOk ds n (e-pair q a b) = declared ds q && ltb a n && ltb b n
+partsOk ds n (e-cell q a) = declared ds q && ltb a n
+partsOk ds n (e-fn q a b s) = declared ds q && ltb a n && ltb b n && setOk ds s
+partsOk ds n (e-lim q r) = declared ds q && declared ds r && not (eqb r 0)
+partsOk ds n (e-grant q r) = declared ds q && declared ds r && not (eqb r 0)
+
+unfoldable pub typeOk : List Name → List TypeEntry → TypeEntry → Bool
+typeOk ds ts e = partsOk ds (length ts) e && leb (depth (tree (ts ++ (e ∷ [])) (length ts))) most-depth
+
+-- 20: a cell of unkeyed numbers, or a limit or grant key (n is then 0), of 0, 1 and host names
+unfoldable pub unkeyedNumber : Ty → Bool
+unkeyedNumber (num q) = eqb q 0
+unkeyedNumber (pair q A B) = false
+unkeyedNumber (cell q A) = false
+unkeyedNumber (fn q A B s) = false
+unkeyedNumber (lim q r) = false
+unkeyedNumber (grant q r) = false
+
+unfoldable pub hostTypeOk : List Name → Ty → ℕ → Bool
+hostTypeOk ds (num q) n = false
+hostTypeOk ds (pair q A B) n = false
+hostTypeOk ds (cell q A) n = openName ds q && unkeyedNumber A
+hostTypeOk ds (fn q A B s) n = false
+hostTypeOk ds (lim q r) n = openName ds q && openName ds r && eqb n 0
+hostTypeOk ds (grant q r) n = openName ds q && openName ds r && eqb n 0
+
+unfoldable pub hostValueOk : List Name → List TypeEntry → HostValue ℕ → Bool
+hostValueOk ds ts h = ltb (h .ty) (length ts) && hostTypeOk ds (tree ts (h .ty)) (h .init)
+
+-- 21: of 1 and host names
+unfoldable pub rightsOk : List Name → Effect → Bool
+rightsOk ds s = setOk ds s && all-of (hostName ds) (members s)
+
+-- an expression: operands and types earlier, variables below 64, a bound variable not the host's, a bound name local
+unfoldable pub cmdOk : Job → Cmd ℕ → Bool
+cmdOk J k =
+    all-of (λ e. ltb e (length (J .cmds))) (kids k)
+    && all-of (λ t. ltb t (length (J .types))) (typesOf k)
+    && all-of (λ v. ltb v most-variables) (usesVar k)
+    && all-of (λ v. leb (length (J .values)) v && ltb v most-variables) (bindsVar k)
+    && all-of (localName (J .names)) (bindsName k)
+
+-- what a command writes; `unwritten` where an operand has no meaning
+pub data Written : Type 0 where
+  w-name : Name → Written
+  w-type : TypeEntry → Written
+  w-value : HostValue ℕ → Written
+  w-rights : Effect → Written
+  w-cmd : Cmd ℕ → Written
+  w-end : Written
+  unwritten : Written
+
+-- 34: part 1 or 2
+unfoldable pub partOf : ℕ → ℕ → Written
+partOf a i = cond (eqb i 1) (w-cmd (c-part a true)) (cond (eqb i 2) (w-cmd (c-part a false)) unwritten)
+
+-- 3A: sum (0) or difference (1)
+unfoldable pub sumOf : ℕ → ℕ → ℕ → Written
+sumOf op a b = cond (eqb op 0) (w-cmd (c-sum true a b)) (cond (eqb op 1) (w-cmd (c-sum false a b)) unwritten)
+
+-- 3C: "c (0 to 4) keys, unused key operands FFFF, then the body"
+unfoldable pub limitOf : ℕ → List ℕ → ℕ → Written
+limitOf c ks b = cond (leb c 4 && all-of (λ e. eqb e 0xFFFF) (drop c ks)) (w-cmd (c-lim (take c ks) b)) unwritten
+
+-- by a command's operands, in order
+unfoldable pub written : Op → List ℕ → Written
+written o-host o = w-name (record { host = true; upper = getD o 0 0 })
+written o-local o = w-name (record { host = false; upper = getD o 0 0 })
+written o-number o = w-type (e-num (getD o 0 0))
+written o-pair o = w-type (e-pair (getD o 0 0) (getD o 1 0) (getD o 2 0))
+written o-cell o = w-type (e-cell (getD o 0 0) (getD o 1 0))
+written o-function o = w-type (e-fn (getD o 0 0) (getD o 1 0) (getD o 2 0) (getD o 3 0))
+written o-limit o = w-type (e-lim (getD o 0 0) (getD o 1 0))
+written o-grant o = w-type (e-grant (getD o 0 0) (getD o 1 0))
+written o-value o = w-value (record { ty = getD o 0 0; init = getD o 1 0 })
+written o-rights o = w-rights (getD o 0 0)
+written x-number o = w-cmd (c-num (getD o 0 0))
+written x-top o = w-cmd c-top
+written x-variable o = w-cmd (c-var (getD o 0 0))
+written x-pair o = w-cmd (c-pair (getD o 0 0) (getD o 1 0))
+written x-part o = partOf (getD o 0 0) (getD o 1 0)
+written x-function o = w-cmd (c-fn (getD o 0 0) (getD o 1 0) (getD o 2 0))
+written x-apply o = w-cmd (c-app (getD o 0 0) (getD o 1 0))
+written x-cell o = w-cmd (c-new (getD o 0 0) (getD o 1 0))
+written x-assign o = w-cmd (c-asg (getD o 0 0) (getD o 1 0))
+written x-read o = w-cmd (c-read (getD o 0 0))
+written x-sum o = sumOf (getD o 0 0) (getD o 1 0) (getD o 2 0)
+written x-test o = w-cmd (c-test (getD o 0 0) (getD o 1 0) (getD o 2 0) (getD o 3 0))
+written x-limit o = limitOf (getD o 0 0) (take 4 (drop 1 o)) (getD o 5 0)
+written x-grant o = w-cmd (c-grant (getD o 0 0) (getD o 1 0))
+written x-newkey o = w-cmd (c-newkey (getD o 0 0) (getD o 1 0) (getD o 2 0) (getD o 3 0) (getD o 4 0))
+written x-associate o = w-cmd (c-assoc (getD o 0 0) (getD o 1 0))
+written o-end o = w-end
+
+-- the job with one entry more, where the entry meets its conditions
+unfoldable pub given : Bool → Job → Option Job
+given true J = some J
+given false J = none
+
+unfoldable pub enter : Written → Job → Option Job
+enter (w-name d) J =
+    given (nameOk (J .names) d) (record { names = J .names ++ (d ∷ []); types = J .types; values = J .values; rights = J .rights; cmds = J .cmds })
+enter (w-type e) J =
+    given (typeOk (J .names) (J .types) e) (record { names = J .names; types = J .types ++ (e ∷ []); values = J .values; rights = J .rights; cmds = J .cmds })
+enter (w-value h) J =
+    given (hostValueOk (J .names) (J .types) h) (record { names = J .names; types = J .types; values = J .values ++ (h ∷ []); rights = J .rights; cmds = J .cmds })
+enter (w-rights s) J =
+    given (rightsOk (J .names) s) (record { names = J .names; types = J .types; values = J .values; rights = s; cmds = J .cmds })
+enter (w-cmd k) J =
+    given (cmdOk J k) (record { names = J .names; types = J .types; values = J .values; rights = J .rights; cmds = J .cmds ++ (k ∷ []) })
+enter w-end J = some J
+enter unwritten J = none
+
+-- number 3: before or after its section, a second 21, an expression or FF before 21, FF with no expression
+unfoldable pub misplaced : State → ℕ → Bool
+misplaced st sec =
+    ltb sec (st .section)
+    || (eqb sec 3 && eqb (st .section) 3)
+    || (leb 4 sec && ltb (st .section) 3)
+    || (eqb sec 5 && eqb (length (st .job .cmds)) 0)
+
+-- number 5: one entry more than a limit; the rights and the end have none
+unfoldable pub full : Job → ℕ → Bool
+full J sec =
+    (eqb sec 0 && leb most-names (2 + length (J .names)))
+    || (eqb sec 1 && leb most-types (length (J .types)))
+    || (eqb sec 2 && leb most-variables (length (J .values)))
+    || (eqb sec 4 && leb most-expressions (length (J .cmds)))
+
+-- what one command comes to
+pub data Step : Type 0 where
+  refuse : ℕ → Step
+  proceed : State → Step
+  finish : Job → Step
+
+unfoldable pub settle : ℕ → Option Job → Step
+settle sec none = refuse 6
+settle sec (some J) = cond (eqb sec 5) (finish J) (proceed (record { section = sec; job = J }))
+
+-- "within one command": 3, 4, 5, 6 in this order; `s` is what follows the command byte
+unfoldable pub command : Op → List ℕ → State → Step
+command op s st =
+    cond (misplaced st (sectionOf op)) (refuse 3)
+    (cond (ltb (length s) (width op)) (refuse 4)
+    (cond (full (st .job) (sectionOf op)) (refuse 5)
+    (settle (sectionOf op) (enter (written op (fields (operands op) s)) (st .job)))))
+
+-- the job, or the refusal
+pub data Read : Type 0 where
+  refused : Refusal → Read
+  read : Job → Read
+
+abbrev pub refusedAt : ℕ → ℕ → Read
+refusedAt n p = refused (record { number = n; place = p })
+
+-- after FF: 7 where a byte follows
+unfoldable pub ended : ℕ → List ℕ → Job → Read
+ended pos [] J = read J
+ended pos (b ∷ s) J = refusedAt 7 pos
+
+-- go on at the next command
+unfoldable pub onward : Step → ℕ → List ℕ → (State → Read) → Read
+onward (refuse n) pos s next = refusedAt n pos
+onward (proceed st) pos s next = next st
+onward (finish J) pos s next = ended (suc pos) s J
+
+unfoldable pub onOp : Option Op → ℕ → (Op → Read) → Read
+onOp none pos f = refusedAt 2 pos
+onOp (some op) pos f = f op
+
+-- from the command at offset `pos` on; each command takes a byte or more
+unfoldable pub readFrom : ℕ → ℕ → State → List ℕ → Read
+readFrom zero pos st s = refusedAt 4 pos
+readFrom (suc f) pos st [] = refusedAt 4 pos
+readFrom (suc f) pos st (b ∷ s) =
+    onOp (opOf b) pos (λ op. onward (command op s st) pos s (λ next. readFrom f (pos + 1 + width op) next (drop (width op) s)))
+
+abbrev pub noJob : Job
+noJob = record { names = []; types = []; values = []; rights = 0; cmds = [] }
+
+unfoldable pub reading : List ℕ → Read
+reading s = readFrom (suc (length s)) 0 (record { section = 0; job = noJob }) s

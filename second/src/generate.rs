@@ -1,0 +1,93 @@
+//! A seeded generator of jobs: most of them well typed, many damaged.
+
+mod build;
+mod damage;
+mod limits;
+
+use crate::job::Job;
+use crate::read::write;
+
+/// A small generator of numbers (splitmix64).
+#[derive(Clone, Debug)]
+pub struct Rng(u64);
+
+impl Rng {
+    pub fn new(seed: u64) -> Self {
+        Rng(seed)
+    }
+
+    pub fn next(&mut self) -> u64 {
+        self.0 = self.0.wrapping_add(0x9E37_79B9_7F4A_7C15);
+        let mut z = self.0;
+        z = (z ^ z >> 30).wrapping_mul(0xBF58_476D_1CE4_E5B9);
+        z = (z ^ z >> 27).wrapping_mul(0x94D0_49BB_1331_11EB);
+        z ^ z >> 31
+    }
+
+    /// A number below `bound`, which is not 0.
+    pub fn below(&mut self, bound: usize) -> usize {
+        (self.next() % bound as u64) as usize
+    }
+
+    /// True `percent` times in a hundred.
+    pub fn chance(&mut self, percent: usize) -> bool {
+        self.below(100) < percent
+    }
+
+    /// One of a list that is not empty.
+    pub fn pick<T: Copy>(&mut self, list: &[T]) -> T {
+        list[self.below(list.len())]
+    }
+}
+
+/// Where a job comes from.
+#[derive(Clone, Copy, Debug, PartialEq, Eq)]
+pub enum Source {
+    /// Built by the typing rules.
+    Typed,
+    /// Built by the typing rules around a function that calls itself.
+    Loop,
+    /// Built, and then changed in its tables.
+    Changed,
+    /// Built, and then changed in its bytes.
+    Damaged,
+    /// Near one of the limits.
+    Limits,
+}
+
+/// The job of a seed.
+pub fn job(seed: u64) -> (Source, Vec<u8>) {
+    let mut rng = Rng::new(seed);
+    let rng = &mut rng;
+    match rng.below(100) {
+        0..28 => (Source::Typed, write(&typed(rng))),
+        28..42 => (Source::Loop, write(&looped(rng))),
+        42..72 => {
+            let mut job = if rng.chance(25) { looped(rng) } else { typed(rng) };
+            for _ in 0..1 + rng.below(3) {
+                damage::tables(rng, &mut job);
+            }
+            (Source::Changed, write(&job))
+        }
+        72..92 => {
+            let mut bytes = write(&typed(rng));
+            for _ in 0..1 + rng.below(2) {
+                damage::bytes(rng, &mut bytes);
+            }
+            (Source::Damaged, bytes)
+        }
+        _ => (Source::Limits, limits::job(rng)),
+    }
+}
+
+/// A job that the typing rules mostly accept.
+pub fn typed(rng: &mut Rng) -> Job {
+    build::job(rng, false)
+}
+
+/// The same with a function that calls itself through a cell.
+pub fn looped(rng: &mut Rng) -> Job {
+    build::job(rng, true)
+}
+
+pub use limits::{heavy, ladder};

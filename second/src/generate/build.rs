@@ -1,0 +1,956 @@
+//! Jobs built by the typing rules.
+
+use std::collections::HashMap;
+
+use super::Rng;
+use crate::job::*;
+use crate::names::{Names, bits};
+
+/// A type of the builder's own table, where equal types have one number.
+type Ty = u16;
+/// An expression of the builder's own table.
+type Node = u16;
+
+/// Local variables are numbered from here until the host values are counted.
+const LOCAL: u8 = 128;
+
+struct Made {
+    expr: Expr,
+    ty: Ty,
+    effect: u64,
+}
+
+struct Builder<'r> {
+    rng: &'r mut Rng,
+    names: Names,
+    types: Vec<Type>,
+    numbers: HashMap<Type, Ty>,
+    hosts: Vec<(Ty, u32)>,
+    nodes: Vec<Made>,
+    locals: u8,
+    /// Variables and names in scope.
+    variables: Vec<(u8, Ty)>,
+    scope: u64,
+}
+
+/// Builds a job; the rights are mostly those it needs.
+pub fn job(rng: &mut Rng, looped: bool) -> Job {
+    loop {
+        let mut builder = Builder::new(rng);
+        let fuel = 1 + builder.rng.below(7);
+        let root = match looped {
+            true => builder.loop_job(),
+            false => Some(builder.any(fuel)),
+        };
+        if let Some(job) = root.and_then(|root| builder.finish(root)) {
+            return job;
+        }
+    }
+}
+
+impl<'r> Builder<'r> {
+    fn new(rng: &'r mut Rng) -> Self {
+        let mut names = Names::default();
+        let mut open = vec![1];
+        let count = if rng.chance(5) { rng.below(30) } else { rng.below(6) };
+        for _ in 0..count {
+            let upper = rng.pick(&open);
+            if rng.chance(15) {
+                // A local name that nothing binds.
+                names.declare(upper, false);
+            } else {
+                open.push(names.declare(upper, true));
+            }
+        }
+        let scope = names.host() | 2;
+        let mut builder = Builder {
+            rng,
+            names,
+            types: Vec::new(),
+            numbers: HashMap::new(),
+            hosts: Vec::new(),
+            nodes: Vec::new(),
+            locals: 0,
+            variables: Vec::new(),
+            scope,
+        };
+        for _ in 0..builder.rng.below(5) {
+            builder.random_host();
+        }
+        builder
+    }
+
+    // Types.
+
+    fn ty(&mut self, key: u8, shape: Shape) -> Ty {
+        let ty = Type { key, shape };
+        let next = self.types.len() as Ty;
+        *self.numbers.entry(ty).or_insert_with(|| {
+            self.types.push(ty);
+            next
+        })
+    }
+
+    fn number(&mut self) -> Ty {
+        self.ty(0, Shape::Number)
+    }
+
+    fn at(&self, ty: Ty) -> Type {
+        self.types[ty as usize]
+    }
+
+    /// Every name in a type.
+    fn mentions(&self, ty: Ty) -> u64 {
+        let Type { key, shape } = self.at(ty);
+        1 << key
+            | match shape {
+                Shape::Number => 0,
+                Shape::Pair(a, b) => self.mentions(a) | self.mentions(b),
+                Shape::Cell(a) => self.mentions(a),
+                Shape::Function(a, b, effect) => self.mentions(a) | self.mentions(b) | effect,
+                Shape::Limit(name) | Shape::Grant(name) => 1 << name,
+            }
+    }
+
+    fn subtype(&self, a: Ty, b: Ty) -> bool {
+        let (x, y) = (self.at(a), self.at(b));
+        a == b
+            || self.names.below(x.key, y.key)
+                && match (x.shape, y.shape) {
+                    (Shape::Pair(a1, a2), Shape::Pair(b1, b2)) => {
+                        self.subtype(a1, b1) && self.subtype(a2, b2)
+                    }
+                    (Shape::Function(a1, a2, ae), Shape::Function(b1, b2, be)) => {
+                        self.subtype(b1, a1)
+                            && self.subtype(a2, b2)
+                            && self.names.set_below(ae, be)
+                    }
+                    (a, b) => a == b,
+                }
+    }
+
+    /// A type above (or below) another that mentions none of `avoid`.
+    fn widen(&mut self, ty: Ty, avoid: u64, up: bool) -> Option<Ty> {
+        let Type { mut key, shape } = self.at(ty);
+        while avoid >> key & 1 == 1 || key > 1 && self.rng.chance(10) {
+            key = if up { self.names.upper(key) } else { 0 };
+        }
+        if key == 0 && up && self.rng.chance(15) {
+            let names: Vec<u8> = bits(self.scope & !avoid).collect();
+            key = self.rng.pick(&names);
+        }
+        let shape = match shape {
+            Shape::Pair(a, b) => Shape::Pair(self.widen(a, avoid, up)?, self.widen(b, avoid, up)?),
+            Shape::Function(from, to, effect) => {
+                let mut wide = effect & !avoid;
+                if up {
+                    for name in bits(effect & avoid) {
+                        wide |= 1 << self.names.upper(name);
+                    }
+                    if self.rng.chance(30) {
+                        wide |= self.some_names() & !avoid;
+                    }
+                }
+                let effect = self.names.reduce(wide);
+                Shape::Function(self.widen(from, avoid, !up)?, self.widen(to, avoid, up)?, effect)
+            }
+            _ if self.mentions(ty) & avoid & !(1 << self.at(ty).key) == 0 => shape,
+            _ => return None,
+        };
+        Some(self.ty(key, shape))
+    }
+
+    fn some_names(&mut self) -> u64 {
+        self.scope & self.rng.next() & self.rng.next() & !1
+    }
+
+    fn some_name(&mut self) -> u8 {
+        let names: Vec<u8> = bits(self.scope).collect();
+        self.rng.pick(&names)
+    }
+
+    /// No key, or a name in scope.
+    fn some_key(&mut self) -> u8 {
+        if self.rng.chance(55) { 0 } else { self.some_name() }
+    }
+
+    fn some_type(&mut self, depth: usize) -> Ty {
+        let key = self.some_key();
+        let deep = if depth == 0 { 0 } else { self.rng.below(10) };
+        let shape = match deep {
+            0..5 => Shape::Number,
+            5 => Shape::Pair(self.some_type(depth - 1), self.some_type(depth - 1)),
+            6 => Shape::Cell(self.some_type(depth - 1)),
+            7 => {
+                let effect = self.some_names();
+                let effect = self.names.reduce(effect);
+                Shape::Function(self.some_type(depth - 1), self.some_type(depth - 1), effect)
+            }
+            8 => Shape::Limit(self.some_name()),
+            _ => Shape::Grant(self.some_name()),
+        };
+        self.ty(key, shape)
+    }
+
+    // Expressions.
+
+    fn of(&self, node: Node) -> &Made {
+        &self.nodes[node as usize]
+    }
+
+    fn shape(&self, node: Node) -> Shape {
+        self.at(self.of(node).ty).shape
+    }
+
+    fn touched(&self, node: Node) -> u64 {
+        let made = self.of(node);
+        made.effect | 1 << self.at(made.ty).key
+    }
+
+    /// Adds an expression whose operands have the right types.
+    fn add(&mut self, expr: Expr) -> Option<Node> {
+        let (ty, effect) = self.typed(expr)?;
+        let effect = self.names.reduce(effect);
+        self.nodes.push(Made { expr, ty, effect });
+        Some(self.nodes.len() as Node - 1)
+    }
+
+    fn typed(&mut self, expr: Expr) -> Option<(Ty, u64)> {
+        Some(match expr {
+            Expr::Number(_) => (self.number(), 0),
+            Expr::Top => (self.ty(0, Shape::Limit(1)), 0),
+            Expr::Variable(v) => (self.variables.iter().find(|known| known.0 == v)?.1, 0),
+            Expr::Pair(a, b) => {
+                let shape = Shape::Pair(self.of(a).ty, self.of(b).ty);
+                (self.ty(0, shape), self.of(a).effect | self.of(b).effect)
+            }
+            Expr::Part(a, part) => match self.shape(a) {
+                Shape::Pair(first, _) if part == 1 => (first, self.touched(a)),
+                Shape::Pair(_, second) => (second, self.touched(a)),
+                _ => return None,
+            },
+            Expr::Function(_, from, body) => {
+                let shape = Shape::Function(from, self.of(body).ty, self.of(body).effect);
+                (self.ty(0, shape), 0)
+            }
+            Expr::Apply(a, b) => match self.shape(a) {
+                Shape::Function(from, to, latent) if self.subtype(self.of(b).ty, from) => {
+                    (to, self.touched(a) | self.of(b).effect | latent)
+                }
+                _ => return None,
+            },
+            Expr::NewCell(ty, a) => {
+                if !self.subtype(self.of(a).ty, ty) {
+                    return None;
+                }
+                (self.ty(0, Shape::Cell(ty)), self.of(a).effect)
+            }
+            Expr::Assign(a, b) => match self.shape(a) {
+                Shape::Cell(content) if self.subtype(self.of(b).ty, content) => {
+                    (content, self.touched(a) | self.of(b).effect)
+                }
+                _ => return None,
+            },
+            Expr::Read(a) => match self.shape(a) {
+                Shape::Cell(content) => (content, self.touched(a)),
+                _ => return None,
+            },
+            Expr::Sum(a, b) | Expr::Difference(a, b) => match (self.shape(a), self.shape(b)) {
+                (Shape::Number, Shape::Number) => {
+                    (self.number(), self.touched(a) | self.touched(b))
+                }
+                _ => return None,
+            },
+            Expr::Test(a, b, c, ty) => {
+                let fits = self.shape(a) == Shape::Number
+                    && self.subtype(self.of(b).ty, ty)
+                    && self.subtype(self.of(c).ty, ty);
+                if !fits {
+                    return None;
+                }
+                (ty, self.touched(a) | self.of(b).effect | self.of(c).effect)
+            }
+            Expr::Limit(count, keys, body) => {
+                let (mut effect, mut allowed) = (0, 0);
+                for &key in &keys[..count as usize] {
+                    let Shape::Limit(name) = self.shape(key) else {
+                        return None;
+                    };
+                    effect |= self.touched(key);
+                    allowed |= 1 << name;
+                }
+                if !self.names.set_below(self.of(body).effect, allowed) {
+                    return None;
+                }
+                (self.of(body).ty, effect | self.of(body).effect)
+            }
+            Expr::Grant(key, body) => match self.shape(key) {
+                Shape::Grant(name) => {
+                    let left = self.names.without(self.of(body).effect, name);
+                    (self.of(body).ty, self.touched(key) | left)
+                }
+                _ => return None,
+            },
+            Expr::NewKey(_, name, key, body, ty) => {
+                let fits = self.shape(key) == Shape::Limit(self.names.upper(name))
+                    && self.subtype(self.of(body).ty, ty);
+                if !fits {
+                    return None;
+                }
+                (ty, self.touched(key) | self.names.raise(self.of(body).effect, name))
+            }
+            Expr::Associate(value, key) => match self.shape(key) {
+                Shape::Limit(name) => {
+                    let shape = self.shape(value);
+                    (self.ty(name, shape), self.touched(value) | self.touched(key))
+                }
+                _ => return None,
+            },
+        })
+    }
+
+    fn some_number(&mut self) -> Node {
+        let number = match self.rng.below(6) {
+            0 => 0,
+            1 => u32::MAX,
+            2 => self.rng.next() as u32,
+            _ => self.rng.below(10) as u32,
+        };
+        self.literal(number)
+    }
+
+    fn literal(&mut self, number: u32) -> Node {
+        self.add(Expr::Number(number)).expect("a number has no operands")
+    }
+
+    fn new_variable(&mut self) -> Option<u8> {
+        if self.locals as usize + self.hosts.len() >= VARIABLES - 4 {
+            return None;
+        }
+        self.locals += 1;
+        Some(LOCAL + self.locals - 1)
+    }
+
+    /// Something built with a variable in scope.
+    fn under(&mut self, variable: u8, ty: Ty, build: impl FnOnce(&mut Self) -> Option<Node>) -> Option<Node> {
+        self.variables.push((variable, ty));
+        let node = build(self);
+        self.variables.retain(|known| known.0 != variable);
+        node
+    }
+
+    fn host(&mut self, ty: Ty, number: u32) -> Option<Node> {
+        if self.locals as usize + self.hosts.len() >= VARIABLES - 4 {
+            return None;
+        }
+        let v = self.hosts.len() as u8;
+        self.hosts.push((ty, number));
+        self.variables.insert(0, (v, ty));
+        self.add(Expr::Variable(v))
+    }
+
+    fn host_key(&mut self) -> u8 {
+        let names: Vec<u8> = bits(self.names.host() | 2).collect();
+        if self.rng.chance(60) { 0 } else { self.rng.pick(&names) }
+    }
+
+    fn random_host(&mut self) -> Option<Node> {
+        let key = self.host_key();
+        let names: Vec<u8> = bits(self.names.host() | 2).collect();
+        let name = self.rng.pick(&names);
+        let number = self.number();
+        let shape = match self.rng.below(4) {
+            0 | 1 => Shape::Cell(number),
+            2 => Shape::Limit(name),
+            _ => Shape::Grant(name),
+        };
+        let ty = self.ty(key, shape);
+        let number = match shape {
+            Shape::Cell(_) => self.rng.below(1000) as u32,
+            _ => 0,
+        };
+        self.host(ty, number)
+    }
+
+    /// A variable in scope that passes a test.
+    fn variable(&mut self, test: impl Fn(&Self, Ty) -> bool) -> Option<Node> {
+        let fit: Vec<u8> = self
+            .variables
+            .iter()
+            .filter(|&&(_, ty)| test(self, ty))
+            .map(|&(v, _)| v)
+            .collect();
+        if fit.is_empty() {
+            return None;
+        }
+        let v = self.rng.pick(&fit);
+        self.add(Expr::Variable(v))
+    }
+
+    /// A limit or grant key of a name in scope.
+    fn key(&mut self, name: u8, grant: bool) -> Option<Node> {
+        let shape = if grant { Shape::Grant(name) } else { Shape::Limit(name) };
+        if name == 1 && !grant && self.rng.chance(60) {
+            return self.add(Expr::Top);
+        }
+        if let Some(known) = self.variable(|b, ty| b.at(ty).shape == shape) {
+            return Some(known);
+        }
+        let (limit, own) = (self.ty(0, Shape::Limit(name)), self.ty(0, Shape::Grant(name)));
+        if let Some(pair) = self.variable(|b, ty| b.at(ty).shape == Shape::Pair(limit, own)) {
+            return self.add(Expr::Part(pair, 1 + grant as u8));
+        }
+        if (self.names.host() | 2) >> name & 1 == 0 {
+            return None;
+        }
+        let key = self.host_key();
+        let ty = self.ty(key, shape);
+        self.host(ty, 0)
+    }
+
+    /// Any expression at all.
+    fn any(&mut self, fuel: usize) -> Node {
+        let node = if fuel == 0 { None } else { self.grown(fuel - 1) };
+        match node.or_else(|| self.leaf()) {
+            Some(node) => node,
+            None => self.some_number(),
+        }
+    }
+
+    fn leaf(&mut self) -> Option<Node> {
+        match self.rng.below(6) {
+            0 => self.add(Expr::Top),
+            1 => Some(self.some_number()),
+            2 if self.hosts.len() < 12 => self.random_host(),
+            _ => self.variable(|_, _| true),
+        }
+    }
+
+    fn grown(&mut self, fuel: usize) -> Option<Node> {
+        if self.nodes.len() > 700 {
+            return None;
+        }
+        match self.rng.below(18) {
+            0 => {
+                let (a, b) = (self.any(fuel), self.any(fuel));
+                self.add(Expr::Pair(a, b))
+            }
+            1 => {
+                let pair = self.of_kind(Kind::Pair, fuel)?;
+                let part = 1 + self.rng.below(2) as u8;
+                self.add(Expr::Part(pair, part))
+            }
+            2 => self.function(fuel),
+            3 | 4 => {
+                let function = self.of_kind(Kind::Function, fuel)?;
+                let Shape::Function(from, ..) = self.shape(function) else {
+                    return None;
+                };
+                let argument = self.of_type(from, fuel)?;
+                self.add(Expr::Apply(function, argument))
+            }
+            5 => {
+                let content = self.any(fuel);
+                let ty = self.widen(self.of(content).ty, 0, true)?;
+                self.add(Expr::NewCell(ty, content))
+            }
+            6 | 7 => {
+                let cell = self.of_kind(Kind::Cell, fuel)?;
+                let Shape::Cell(content) = self.shape(cell) else {
+                    return None;
+                };
+                let value = self.of_type(content, fuel)?;
+                self.add(Expr::Assign(cell, value))
+            }
+            8 => {
+                let cell = self.of_kind(Kind::Cell, fuel)?;
+                self.add(Expr::Read(cell))
+            }
+            9 | 10 => {
+                let (a, b) = (self.of_kind(Kind::Number, fuel)?, self.of_kind(Kind::Number, fuel)?);
+                let sum = self.rng.chance(50);
+                self.add(if sum { Expr::Sum(a, b) } else { Expr::Difference(a, b) })
+            }
+            11 => {
+                let node = self.any(fuel);
+                self.test(node, fuel)
+            }
+            12 => {
+                let node = self.any(fuel);
+                self.limit(node)
+            }
+            13 => {
+                let node = self.any(fuel);
+                self.grant(node)
+            }
+            14..17 => self.new_key(fuel),
+            _ => {
+                let node = self.any(fuel);
+                self.associate(node)
+            }
+        }
+    }
+
+    fn function(&mut self, fuel: usize) -> Option<Node> {
+        let v = self.new_variable()?;
+        let from = self.some_type(2);
+        let body = self.under(v, from, |b| Some(b.any(fuel)))?;
+        self.add(Expr::Function(v, from, body))
+    }
+
+    fn of_kind(&mut self, kind: Kind, fuel: usize) -> Option<Node> {
+        if self.rng.chance(45)
+            && let Some(known) = self.variable(|b, ty| b.at(ty).kind() == kind)
+        {
+            return Some(known);
+        }
+        let less = fuel.saturating_sub(1);
+        let node = match kind {
+            Kind::Number if fuel > 0 && self.rng.chance(50) => {
+                let (a, b) = (self.of_kind(kind, less)?, self.of_kind(kind, less)?);
+                self.add(Expr::Sum(a, b))?
+            }
+            Kind::Number => self.some_number(),
+            Kind::Pair => {
+                let (a, b) = (self.any(less), self.any(less));
+                self.add(Expr::Pair(a, b))?
+            }
+            Kind::Cell => {
+                let content = self.any(less);
+                let ty = self.widen(self.of(content).ty, 0, true)?;
+                self.add(Expr::NewCell(ty, content))?
+            }
+            Kind::Function => self.function(less)?,
+            Kind::Limit | Kind::Grant => {
+                let name = self.some_name();
+                self.key(name, kind == Kind::Grant)?
+            }
+        };
+        Some(self.wrapped(node, less))
+    }
+
+    /// An expression whose type is a subtype of the given one.
+    fn of_type(&mut self, ty: Ty, fuel: usize) -> Option<Node> {
+        if self.rng.chance(40)
+            && let Some(known) = self.variable(|b, known| b.subtype(known, ty))
+        {
+            return Some(known);
+        }
+        let less = fuel.saturating_sub(1);
+        let Type { key, shape } = self.at(ty);
+        let node = match shape {
+            Shape::Number if fuel > 0 => self.of_kind(Kind::Number, less)?,
+            Shape::Number => self.some_number(),
+            Shape::Pair(a, b) => {
+                let (a, b) = (self.of_type(a, less)?, self.of_type(b, less)?);
+                self.add(Expr::Pair(a, b))?
+            }
+            Shape::Cell(content) => {
+                let value = self.of_type(content, less)?;
+                self.add(Expr::NewCell(content, value))?
+            }
+            Shape::Function(from, to, effect) => {
+                let from = self.widen(from, 0, true)?;
+                let v = self.new_variable()?;
+                let mut body = self.under(v, from, |b| b.of_type(to, less))?;
+                if !self.names.set_below(self.of(body).effect, effect) {
+                    body = self.under(v, from, |b| b.of_type(to, 0))?;
+                }
+                self.add(Expr::Function(v, from, body))?
+            }
+            Shape::Limit(name) => self.key(name, false)?,
+            Shape::Grant(name) => self.key(name, true)?,
+        };
+        let node = if fuel > 0 { self.wrapped(node, less) } else { node };
+        if self.subtype(self.of(node).ty, ty) {
+            if key > 1
+                && self.rng.chance(50)
+                && let Some(limit) = self.key(key, false)
+                && let Some(keyed) = self.add(Expr::Associate(node, limit))
+            {
+                return Some(keyed);
+            }
+            return Some(node);
+        }
+        // What was wrapped around it may have given it a higher type.
+        if fuel > 0 { self.of_type(ty, 0) } else { None }
+    }
+
+    /// The expression with something around it that keeps its kind.
+    fn wrapped(&mut self, node: Node, fuel: usize) -> Node {
+        if fuel == 0 || self.rng.chance(55) || self.nodes.len() > 700 {
+            return node;
+        }
+        let around = match self.rng.below(9) {
+            0 => self.limit(node),
+            1 => self.grant(node),
+            2 => self.test(node, fuel),
+            3 => self.identity(node),
+            4 => {
+                let other = self.any(fuel - 1);
+                let first = self.rng.chance(50);
+                let pair = if first { Expr::Pair(node, other) } else { Expr::Pair(other, node) };
+                self.add(pair)
+                    .and_then(|pair| self.add(Expr::Part(pair, 2 - first as u8)))
+            }
+            5 => {
+                let ty = self.of(node).ty;
+                self.widen(ty, 0, true)
+                    .and_then(|ty| self.add(Expr::NewCell(ty, node)))
+                    .and_then(|cell| self.add(Expr::Read(cell)))
+            }
+            6 | 7 => self.associate(node),
+            _ => {
+                let ty = self.of(node).ty;
+                self.key_around(move |_| Some(node), ty)
+            }
+        };
+        around.unwrap_or(node)
+    }
+
+    fn limit(&mut self, body: Node) -> Option<Node> {
+        let mut names = Vec::new();
+        for name in bits(self.of(body).effect) {
+            let mut above = name;
+            while above != 1 && self.rng.chance(30) {
+                above = self.names.upper(above);
+            }
+            names.push(above);
+        }
+        while names.len() < 4 && self.rng.chance(40) {
+            names.push(self.some_name());
+        }
+        if names.len() > 4 {
+            names = vec![1];
+        }
+        let mut keys = [UNUSED; 4];
+        for (place, &name) in names.iter().enumerate() {
+            keys[place] = self.key(name, false)?;
+        }
+        self.add(Expr::Limit(names.len() as u8, keys, body))
+    }
+
+    fn grant(&mut self, body: Node) -> Option<Node> {
+        let mut name = self.some_name();
+        if self.rng.chance(70)
+            && let Some(used) = bits(self.of(body).effect).next()
+        {
+            name = used;
+        }
+        let key = self.key(name, true)?;
+        self.add(Expr::Grant(key, body))
+    }
+
+    fn associate(&mut self, value: Node) -> Option<Node> {
+        let name = self.some_name();
+        let key = self.key(name, false)?;
+        self.add(Expr::Associate(value, key))
+    }
+
+    fn test(&mut self, node: Node, fuel: usize) -> Option<Node> {
+        let ty = self.widen(self.of(node).ty, 0, true)?;
+        let other = self.of_type(ty, fuel.saturating_sub(1))?;
+        let number = self.of_kind(Kind::Number, fuel.saturating_sub(1))?;
+        let first = self.rng.chance(50);
+        let (a, b) = if first { (node, other) } else { (other, node) };
+        self.add(Expr::Test(number, a, b, ty))
+    }
+
+    /// The expression as the argument of a function that hands it back.
+    fn identity(&mut self, node: Node) -> Option<Node> {
+        let v = self.new_variable()?;
+        let ty = self.widen(self.of(node).ty, 0, true)?;
+        let body = self.under(v, ty, |b| b.add(Expr::Variable(v)))?;
+        let function = self.add(Expr::Function(v, ty, body))?;
+        self.add(Expr::Apply(function, node))
+    }
+
+    fn new_key(&mut self, fuel: usize) -> Option<Node> {
+        let ty = self.number();
+        self.key_around(|b| Some(b.keyed_body(fuel)), ty)
+    }
+
+    /// Something for the body of a 3E: often a cell with the new key that is put to use.
+    fn keyed_body(&mut self, fuel: usize) -> Node {
+        if self.rng.chance(35) {
+            return self.any(fuel);
+        }
+        let name = 63 - (self.scope.leading_zeros() as u8);
+        let used = |b: &mut Self| {
+            let value = b.of_kind([Kind::Number, Kind::Cell, Kind::Function][b.rng.below(3)], fuel)?;
+            let key = b.key(name, false)?;
+            let keyed = b.add(Expr::Associate(value, key))?;
+            let used = match b.shape(keyed) {
+                Shape::Number => {
+                    let one = b.some_number();
+                    b.add(Expr::Sum(keyed, one))?
+                }
+                Shape::Cell(_) => b.add(Expr::Read(keyed))?,
+                Shape::Function(from, ..) => {
+                    let argument = b.of_type(from, 0)?;
+                    b.add(Expr::Apply(keyed, argument))?
+                }
+                _ => keyed,
+            };
+            if b.rng.chance(50) { b.grant(used) } else { Some(used) }
+        };
+        match used(self) {
+            Some(node) => node,
+            None => self.any(fuel),
+        }
+    }
+
+    /// A 3E around what `build` gives; its own type if that may leave the scope, else a number.
+    fn key_around(&mut self, build: impl FnOnce(&mut Self) -> Option<Node>, _: Ty) -> Option<Node> {
+        if self.names.count() >= 60 {
+            return None;
+        }
+        let upper = self.some_name();
+        let limit = self.key(upper, false)?;
+        let v = self.new_variable()?;
+        let name = self.names.declare(upper, false);
+        let own = 1 << name;
+        let parts = (self.ty(0, Shape::Limit(name)), self.ty(0, Shape::Grant(name)));
+        let pair = self.ty(0, Shape::Pair(parts.0, parts.1));
+        self.scope |= own;
+        let body = self.under(v, pair, build);
+        self.scope &= !own;
+        let mut body = body?;
+        let ty = match self.widen(self.of(body).ty, own, true) {
+            Some(ty) => ty,
+            None => {
+                let number = self.some_number();
+                let both = self.add(Expr::Pair(body, number))?;
+                body = self.add(Expr::Part(both, 2))?;
+                self.number()
+            }
+        };
+        self.add(Expr::NewKey(v, name, limit, body, ty))
+    }
+
+    // Loops: a cell holds a function that reads the cell and calls what it finds.
+
+    fn loop_job(&mut self) -> Option<Node> {
+        let number = self.number();
+        let (n, c) = (self.new_variable()?, self.new_variable()?);
+        let load = self.under(n, number, |b| b.load())?;
+        let cell_key = self.some_key();
+        let result = if self.rng.chance(70) { number } else { self.some_type(1) };
+        let base = self.under(n, number, |b| b.of_type(result, 1))?;
+        let mut effect = self.of(load).effect | self.of(base).effect | 1 << cell_key;
+        if self.rng.chance(20) {
+            effect |= self.some_names();
+        }
+        let effect = self.names.reduce(effect);
+        let function = self.ty(0, Shape::Function(number, result, effect));
+        let cell = self.ty(cell_key, Shape::Cell(function));
+        let tail = result != number || self.rng.chance(70);
+        let count = match self.rng.below(5) {
+            0 => self.rng.below(6) as u32,
+            1 => self.rng.below(300) as u32,
+            _ => 5000,
+        };
+        let around = self.under(c, cell, |b| {
+            let body = b.under(n, number, |b| {
+                let one = b.literal(1);
+                let also_one = b.literal(1);
+                let step = b.add(Expr::Test(load, one, also_one, number))?;
+                let counter = b.add(Expr::Variable(n))?;
+                let less = b.add(Expr::Difference(counter, step))?;
+                let held = b.add(Expr::Variable(c))?;
+                let itself = b.add(Expr::Read(held))?;
+                let mut again = b.add(Expr::Apply(itself, less))?;
+                if !tail {
+                    let one = b.literal(1);
+                    again = b.add(Expr::Sum(again, one))?;
+                }
+                let tested = b.add(Expr::Variable(n))?;
+                b.add(Expr::Test(tested, again, base, result))
+            })?;
+            let looped = b.add(Expr::Function(n, number, body))?;
+            let held = b.add(Expr::Variable(c))?;
+            let assigned = b.add(Expr::Assign(held, looped))?;
+            let count = b.literal(count);
+            b.add(Expr::Apply(assigned, count))
+        })?;
+        let v = self.new_variable()?;
+        let nothing = self.under(v, number, |b| b.of_type(result, 0))?;
+        let first = self.add(Expr::Function(v, number, nothing))?;
+        let mut made = self.add(Expr::NewCell(function, first))?;
+        if cell_key != 0 {
+            let limit = self.key(cell_key, false)?;
+            made = self.add(Expr::Associate(made, limit))?;
+        }
+        let outer = self.add(Expr::Function(c, cell, around))?;
+        let node = self.add(Expr::Apply(outer, made))?;
+        Some(self.wrapped(node, 2))
+    }
+
+    /// A number worked out in each turn of a loop; it mostly uses up one kind of room.
+    fn load(&mut self) -> Option<Node> {
+        let number = self.number();
+        match self.rng.below(9) {
+            0 => Some(self.some_number()),
+            1 => {
+                let value = self.some_number();
+                let cell = self.add(Expr::NewCell(number, value))?;
+                self.add(Expr::Read(cell))
+            }
+            2 => {
+                let (a, b) = (self.some_number(), self.some_number());
+                let pair = self.add(Expr::Pair(a, b))?;
+                self.add(Expr::Part(pair, 1))
+            }
+            3 => {
+                let (x, y) = (self.new_variable()?, self.new_variable()?);
+                let inner = self.under(y, number, |b| b.add(Expr::Variable(y)))?;
+                let inner = self.add(Expr::Function(y, number, inner))?;
+                let ty = self.of(inner).ty;
+                let body = self.some_number();
+                let outer = self.add(Expr::Function(x, ty, body))?;
+                self.add(Expr::Apply(outer, inner))
+            }
+            4 | 5 => {
+                let number = self.key_around(|b| Some(b.keyed_body(1)), number)?;
+                match self.shape(number) {
+                    Shape::Number => Some(number),
+                    _ => {
+                        let both = self.some_number();
+                        let pair = self.add(Expr::Pair(number, both))?;
+                        self.add(Expr::Part(pair, 2))
+                    }
+                }
+            }
+            6 => {
+                let mut sum = self.some_number();
+                for _ in 0..20 + self.rng.below(80) {
+                    let other = self.some_number();
+                    sum = self.add(Expr::Difference(sum, other))?;
+                }
+                Some(sum)
+            }
+            _ => self.of_kind(Kind::Number, 4),
+        }
+    }
+
+    // The end.
+
+    fn finish(mut self, root: Node) -> Option<Job> {
+        let order = self.order(root);
+        if order.len() > EXPRESSIONS {
+            return None;
+        }
+        let mut places = HashMap::new();
+        for (place, &node) in order.iter().enumerate() {
+            places.insert(node, place as u16);
+        }
+        let mut job = Job {
+            names: self.names.clone(),
+            ..Job::default()
+        };
+        let mut declared = HashMap::new();
+        for index in 0..self.hosts.len() {
+            let (ty, number) = self.hosts[index];
+            let ty = self.declare(&mut job, &mut declared, ty)?;
+            job.hosts.push(HostValue { ty, number });
+        }
+        let mut free: Vec<u8> = (job.hosts.len() as u8..VARIABLES as u8).collect();
+        if self.rng.chance(50) {
+            for place in (1..free.len()).rev() {
+                free.swap(place, self.rng.below(place + 1));
+            }
+        }
+        for &node in &order {
+            let mut expr = self.of(node).expr;
+            for operand in references(&mut expr) {
+                *operand = places[operand];
+            }
+            let variable = |v: u8| if v >= LOCAL { free[(v - LOCAL) as usize] } else { v };
+            match &mut expr {
+                Expr::Variable(v) => *v = variable(*v),
+                Expr::Function(v, ty, _) | Expr::NewKey(v, _, _, _, ty) => {
+                    *v = variable(*v);
+                    *ty = self.declare(&mut job, &mut declared, *ty)?;
+                }
+                Expr::NewCell(ty, _) | Expr::Test(_, _, _, ty) => {
+                    *ty = self.declare(&mut job, &mut declared, *ty)?;
+                }
+                _ => {}
+            }
+            job.exprs.push(expr);
+        }
+        job.rights = self.rights(self.of(root).effect);
+        Some(job)
+    }
+
+    /// The expressions below a root, operands before their users.
+    fn order(&mut self, root: Node) -> Vec<Node> {
+        let mut order = Vec::new();
+        let mut open = vec![root];
+        let mixed = self.rng.chance(50);
+        while !open.is_empty() {
+            let last = open.len() - 1;
+            let next = if mixed { self.rng.below(open.len()) } else { last };
+            let node = open.swap_remove(next);
+            order.push(node);
+            open.extend(self.of(node).expr.operands());
+        }
+        order.reverse();
+        order
+    }
+
+    fn declare(&mut self, job: &mut Job, declared: &mut HashMap<Ty, u16>, ty: Ty) -> Option<u16> {
+        if let Some(&known) = declared.get(&ty)
+            && !self.rng.chance(3)
+        {
+            return Some(known);
+        }
+        let mut entry = self.at(ty);
+        match &mut entry.shape {
+            Shape::Pair(a, b) | Shape::Function(a, b, _) => {
+                *a = self.declare(job, declared, *a)?;
+                *b = self.declare(job, declared, *b)?;
+            }
+            Shape::Cell(a) => *a = self.declare(job, declared, *a)?,
+            _ => {}
+        }
+        if job.types.len() == TYPES {
+            return None;
+        }
+        job.types.push(entry);
+        let number = job.types.len() as u16 - 1;
+        declared.insert(ty, number);
+        Some(number)
+    }
+
+    fn rights(&mut self, effect: u64) -> u64 {
+        let open = self.names.host() | 2;
+        let rights = match self.rng.below(20) {
+            0..12 => effect,
+            12..15 => effect | open & self.rng.next() & self.rng.next(),
+            15 | 16 => bits(effect).fold(0, |set, name| set | 1 << self.names.upper(name).max(1)),
+            17 => 2,
+            18 => effect & self.rng.next(),
+            _ => open & self.rng.next(),
+        };
+        self.names.reduce(rights & open)
+    }
+}
+
+/// The operands of an expression, to be changed.
+pub fn references(expr: &mut Expr) -> Vec<&mut u16> {
+    match expr {
+        Expr::Number(_) | Expr::Top | Expr::Variable(_) => vec![],
+        Expr::Part(a, _) | Expr::Function(_, _, a) | Expr::NewCell(_, a) | Expr::Read(a) => vec![a],
+        Expr::Pair(a, b)
+        | Expr::Apply(a, b)
+        | Expr::Assign(a, b)
+        | Expr::Sum(a, b)
+        | Expr::Difference(a, b)
+        | Expr::Grant(a, b)
+        | Expr::NewKey(_, _, a, b, _)
+        | Expr::Associate(a, b) => vec![a, b],
+        Expr::Test(a, b, c, _) => vec![a, b, c],
+        Expr::Limit(count, keys, body) => keys[..*count as usize].iter_mut().chain([body]).collect(),
+    }
+}

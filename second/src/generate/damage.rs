@@ -1,0 +1,254 @@
+//! Changes to jobs: in their tables, where most of the form is kept, and in their bytes.
+
+use super::Rng;
+use super::build::references;
+use crate::job::*;
+use crate::names::Names;
+use crate::read::width;
+
+/// Changes one thing in a job's tables.
+pub fn tables(rng: &mut Rng, job: &mut Job) {
+    let names = job.names.count();
+    let name = rng.below(names) as u8;
+    let expr = rng.below(job.exprs.len());
+    match rng.below(14) {
+        0 | 1 => swap_operands(rng, job),
+        2 => {
+            if let Some(ty) = some(rng, &mut job.types) {
+                ty.key = name;
+            }
+        }
+        3 => {
+            if let Some(ty) = some(rng, &mut job.types) {
+                match &mut ty.shape {
+                    Shape::Limit(own) | Shape::Grant(own) => *own = name.max(1),
+                    Shape::Function(_, _, effect) => {
+                        *effect = job.names.reduce(*effect ^ 1 << name.max(1));
+                    }
+                    _ => ty.key = 0,
+                }
+            }
+        }
+        4 => {
+            let open = job.names.host() | 2;
+            job.rights = job.names.reduce(rng.next() & rng.next() & open);
+        }
+        5 => job.rights = 0,
+        6 => {
+            let ty = rng.below(job.types.len().max(1)) as u16;
+            match &mut job.exprs[expr] {
+                Expr::Function(_, own, _)
+                | Expr::NewCell(own, _)
+                | Expr::Test(_, _, _, own)
+                | Expr::NewKey(_, _, _, _, own) => *own = ty,
+                _ => {}
+            }
+        }
+        7 => {
+            let (a, b) = (rng.below(64) as u8, rng.below(names.max(3)) as u8);
+            let only_name = rng.chance(50);
+            match &mut job.exprs[expr] {
+                Expr::NewKey(_, name, ..) if only_name => *name = b,
+                Expr::Variable(v) | Expr::Function(v, ..) | Expr::NewKey(v, ..) => *v = a,
+                _ => {}
+            }
+        }
+        8 => job.exprs[expr] = other_command(rng, job.exprs[expr]),
+        9 => {
+            // One binder takes over what another binds.
+            let binders: Vec<usize> = (0..job.exprs.len())
+                .filter(|&e| job.exprs[e].binder().is_some())
+                .collect();
+            if !binders.is_empty() {
+                let (from, to) = (rng.pick(&binders), rng.pick(&binders));
+                let Some(binder) = job.exprs[from].binder() else {
+                    return;
+                };
+                match &mut job.exprs[to] {
+                    Expr::NewKey(_, name, ..) if binder.name.is_some() && rng.chance(60) => {
+                        *name = binder.name.unwrap_or(*name);
+                    }
+                    Expr::Function(v, ..) | Expr::NewKey(v, ..) => *v = binder.variable,
+                    _ => {}
+                }
+            }
+        }
+        10 => job.names = other_upper(rng, &job.names),
+        11 => {
+            // A variable for another one, often of another kind.
+            let v = variables(job);
+            if !v.is_empty() {
+                let (a, b) = (rng.pick(&v), rng.pick(&v));
+                job.exprs[a] = job.exprs[b];
+            }
+        }
+        12 => {
+            if let Expr::Number(_) = job.exprs[expr] {
+                job.exprs[expr] = Expr::Top;
+            } else if let Expr::Part(_, part) = &mut job.exprs[expr] {
+                *part = 3 - *part;
+            }
+        }
+        _ => {
+            let count = job.types.len();
+            if let Some(ty) = some(rng, &mut job.types[..]) {
+                let other = rng.below(count) as u16;
+                match &mut ty.shape {
+                    Shape::Pair(a, b) | Shape::Function(a, b, _) => std::mem::swap(a, b),
+                    Shape::Cell(a) if other < *a => *a = other,
+                    _ => {}
+                }
+            }
+        }
+    }
+}
+
+fn some<'a, T>(rng: &mut Rng, list: &'a mut [T]) -> Option<&'a mut T> {
+    let count = list.len();
+    (count > 0).then(|| &mut list[rng.below(count)])
+}
+
+fn variables(job: &Job) -> Vec<usize> {
+    (0..job.exprs.len())
+        .filter(|&expr| matches!(job.exprs[expr], Expr::Variable(_)))
+        .collect()
+}
+
+/// Exchanges two operands that may stand in each other's place.
+fn swap_operands(rng: &mut Rng, job: &mut Job) {
+    let mut uses = Vec::new();
+    for (number, expr) in job.exprs.iter_mut().enumerate() {
+        for (place, operand) in references(expr).into_iter().enumerate() {
+            uses.push((number, place, *operand));
+        }
+    }
+    for _ in 0..20 {
+        if uses.len() < 2 {
+            return;
+        }
+        let (a, b) = (rng.pick(&uses), rng.pick(&uses));
+        if a.2 != b.2 && (a.2 as usize) < b.0 && (b.2 as usize) < a.0 {
+            *references(&mut job.exprs[a.0])[a.1] = b.2;
+            *references(&mut job.exprs[b.0])[b.1] = a.2;
+            return;
+        }
+    }
+}
+
+fn other_command(rng: &mut Rng, expr: Expr) -> Expr {
+    match expr {
+        Expr::Pair(a, b)
+        | Expr::Apply(a, b)
+        | Expr::Assign(a, b)
+        | Expr::Sum(a, b)
+        | Expr::Difference(a, b)
+        | Expr::Grant(a, b)
+        | Expr::Associate(a, b) => match rng.below(7) {
+            0 => Expr::Pair(a, b),
+            1 => Expr::Apply(a, b),
+            2 => Expr::Assign(b, a),
+            3 => Expr::Sum(a, b),
+            4 => Expr::Difference(b, a),
+            5 => Expr::Limit(1, [a, UNUSED, UNUSED, UNUSED], b),
+            _ => Expr::Associate(a, b),
+        },
+        Expr::Part(a, _) => Expr::Read(a),
+        Expr::Read(a) => match rng.below(2) {
+            0 => Expr::Part(a, 1),
+            _ => Expr::Limit(0, [UNUSED; 4], a),
+        },
+        Expr::Limit(count, mut keys, body) if count > 0 => {
+            keys[..count as usize].rotate_left(1);
+            Expr::Limit(count, keys, body)
+        }
+        Expr::Test(a, b, c, ty) => Expr::Test(a, c, b, ty),
+        other => other,
+    }
+}
+
+fn other_upper(rng: &mut Rng, names: &Names) -> Names {
+    let mut changed = Names::default();
+    let which = rng.below(names.count());
+    for name in 2..names.count() {
+        let host = names.host() >> name & 1 == 1;
+        let mut upper = names.upper(name as u8);
+        if name == which {
+            upper = 1 + rng.below(name - 1) as u8;
+        }
+        changed.declare(upper, host);
+    }
+    changed
+}
+
+/// Changes something in a job's bytes.
+pub fn bytes(rng: &mut Rng, bytes: &mut Vec<u8>) {
+    let mut commands = split(bytes);
+    if commands.is_empty() {
+        return bytes.push(rng.next() as u8);
+    }
+    let at = rng.below(commands.len());
+    let edges = [0, 1, 2, 3, 4, 5, 63, 64, 0xFE, 0xFF];
+    match rng.below(12) {
+        0..4 => {
+            let command = &mut commands[at];
+            let place = rng.below(command.len()).max(command.len().min(2) - 1);
+            command[place] = match rng.below(4) {
+                0 => rng.pick(&edges),
+                1 => command[place].wrapping_add(1),
+                2 => command[place] ^ 1 << rng.below(8),
+                _ => rng.next() as u8,
+            };
+        }
+        4 => commands[at][0] = rng.next() as u8,
+        5 => {
+            let other = rng.below(commands.len());
+            commands.swap(at, other);
+        }
+        6 => {
+            let again = commands[at].clone();
+            commands.insert(at, again);
+        }
+        7 => {
+            commands.remove(at);
+        }
+        8 => {
+            let length = commands[at].len();
+            commands[at].truncate(rng.below(length));
+            commands.truncate(at + 1);
+        }
+        9 => {
+            for _ in 0..1 + rng.below(3) {
+                commands.push(vec![rng.next() as u8]);
+            }
+        }
+        10 => {
+            // A section in another's place.
+            let cut = rng.below(commands.len());
+            commands[..].rotate_left(cut);
+        }
+        _ => {
+            // One command until its limit is passed.
+            let limit = match commands[at][0] {
+                0x01 | 0x02 => 63,
+                0x10..=0x15 => 257,
+                0x20 => 65,
+                _ => 513,
+            };
+            let again = commands[at].clone();
+            commands.splice(at..at, std::iter::repeat_n(again, limit));
+        }
+    }
+    *bytes = commands.concat();
+}
+
+/// The commands of a job; a rest that is none is one piece.
+fn split(mut bytes: &[u8]) -> Vec<Vec<u8>> {
+    let mut commands = Vec::new();
+    while let Some(&first) = bytes.first() {
+        let length = width(first).unwrap_or(bytes.len()).min(bytes.len());
+        let (command, rest) = bytes.split_at(length);
+        commands.push(command.to_vec());
+        bytes = rest;
+    }
+    commands
+}

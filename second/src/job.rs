@@ -1,0 +1,210 @@
+//! The tables of a job.
+
+use crate::names::Names;
+
+/// The most declared types a job may have.
+pub const TYPES: usize = 256;
+/// The most variables a job may have.
+pub const VARIABLES: usize = 64;
+/// The most expressions a job may have.
+pub const EXPRESSIONS: usize = 512;
+/// The greatest depth of a declared type.
+pub const DEPTH: u8 = 16;
+/// Stands in 3C for a key operand that is not used.
+pub const UNUSED: u16 = 0xFFFF;
+
+/// Why and where a job is refused.
+#[derive(Clone, Copy, Debug, PartialEq, Eq)]
+pub struct Refusal {
+    pub number: u32,
+    pub place: u32,
+}
+
+impl Refusal {
+    pub(crate) fn at(number: u32, place: usize) -> Self {
+        Refusal {
+            number,
+            place: place as u32,
+        }
+    }
+}
+
+/// The kinds of types and of values.
+#[derive(Clone, Copy, Debug, Default, PartialEq, Eq)]
+pub enum Kind {
+    #[default]
+    Number,
+    Pair,
+    Cell,
+    Function,
+    Limit,
+    Grant,
+}
+
+impl Kind {
+    /// The word that the desk prints.
+    pub fn word(self) -> &'static str {
+        match self {
+            Kind::Number => "number",
+            Kind::Pair => "pair",
+            Kind::Cell => "cell",
+            Kind::Function => "function",
+            Kind::Limit => "limit",
+            Kind::Grant => "grant",
+        }
+    }
+}
+
+/// A type: the name of its key, and what it is apart from that.
+#[derive(Clone, Copy, Debug, PartialEq, Eq, Hash)]
+pub struct Type {
+    pub key: u8,
+    pub shape: Shape,
+}
+
+/// A type without its key. Parts are entries of the type table.
+#[derive(Clone, Copy, Debug, PartialEq, Eq, Hash)]
+pub enum Shape {
+    Number,
+    Pair(u16, u16),
+    Cell(u16),
+    /// From, to, effect.
+    Function(u16, u16, u64),
+    Limit(u8),
+    Grant(u8),
+}
+
+impl Type {
+    /// The type with no key.
+    pub fn unkeyed(shape: Shape) -> Self {
+        Type { key: 0, shape }
+    }
+
+    pub fn kind(self) -> Kind {
+        match self.shape {
+            Shape::Number => Kind::Number,
+            Shape::Pair(..) => Kind::Pair,
+            Shape::Cell(_) => Kind::Cell,
+            Shape::Function(..) => Kind::Function,
+            Shape::Limit(_) => Kind::Limit,
+            Shape::Grant(_) => Kind::Grant,
+        }
+    }
+}
+
+/// A value that the host lends: variable 0, 1, and so on.
+#[derive(Clone, Copy, Debug, PartialEq, Eq)]
+pub struct HostValue {
+    pub ty: u16,
+    pub number: u32,
+}
+
+/// An expression. Operands stand in the order of the job's bytes.
+#[derive(Clone, Copy, Debug, PartialEq, Eq)]
+pub enum Expr {
+    Number(u32),
+    Top,
+    Variable(u8),
+    Pair(u16, u16),
+    Part(u16, u8),
+    /// Variable, its type, body.
+    Function(u8, u16, u16),
+    Apply(u16, u16),
+    NewCell(u16, u16),
+    Assign(u16, u16),
+    Read(u16),
+    Sum(u16, u16),
+    Difference(u16, u16),
+    /// Tested number, branch if not zero, branch if zero, type.
+    Test(u16, u16, u16, u16),
+    /// Number of keys, the keys, body.
+    Limit(u8, [u16; 4], u16),
+    Grant(u16, u16),
+    /// Variable, local name, limit key above, body, type.
+    NewKey(u8, u8, u16, u16, u16),
+    Associate(u16, u16),
+}
+
+/// What an expression binds, and where.
+#[derive(Clone, Copy, Debug)]
+pub struct Binder {
+    pub variable: u8,
+    pub name: Option<u8>,
+    pub body: u16,
+}
+
+impl Expr {
+    /// The expressions used, in order.
+    pub fn operands(&self) -> impl Iterator<Item = u16> + use<> {
+        let (list, count): ([u16; 5], usize) = match *self {
+            Expr::Number(_) | Expr::Top | Expr::Variable(_) => ([0; 5], 0),
+            Expr::Part(a, _) | Expr::Function(_, _, a) | Expr::NewCell(_, a) | Expr::Read(a) => {
+                ([a, 0, 0, 0, 0], 1)
+            }
+            Expr::Pair(a, b)
+            | Expr::Apply(a, b)
+            | Expr::Assign(a, b)
+            | Expr::Sum(a, b)
+            | Expr::Difference(a, b)
+            | Expr::Grant(a, b)
+            | Expr::NewKey(_, _, a, b, _)
+            | Expr::Associate(a, b) => ([a, b, 0, 0, 0], 2),
+            Expr::Test(a, b, c, _) => ([a, b, c, 0, 0], 3),
+            Expr::Limit(count, [a, b, c, d], body) => {
+                let mut list = [a, b, c, d, 0];
+                list[count as usize] = body;
+                (list, count as usize + 1)
+            }
+        };
+        list.into_iter().take(count)
+    }
+
+    /// The type written in the expression.
+    pub fn type_operand(&self) -> Option<u16> {
+        match *self {
+            Expr::Function(_, ty, _)
+            | Expr::NewCell(ty, _)
+            | Expr::Test(_, _, _, ty)
+            | Expr::NewKey(_, _, _, _, ty) => Some(ty),
+            _ => None,
+        }
+    }
+
+    /// What the expression binds.
+    pub fn binder(&self) -> Option<Binder> {
+        match *self {
+            Expr::Function(variable, _, body) => Some(Binder {
+                variable,
+                name: None,
+                body,
+            }),
+            Expr::NewKey(variable, name, _, body, _) => Some(Binder {
+                variable,
+                name: Some(name),
+                body,
+            }),
+            _ => None,
+        }
+    }
+}
+
+/// A job as read: free of refusals 2 to 7.
+#[derive(Clone, Debug, Default, PartialEq, Eq)]
+pub struct Job {
+    pub names: Names,
+    pub types: Vec<Type>,
+    /// For each declared type, every name in it down to its leaves.
+    pub type_names: Vec<u64>,
+    /// For each declared type, its depth.
+    pub depths: Vec<u8>,
+    pub hosts: Vec<HostValue>,
+    pub rights: u64,
+    pub exprs: Vec<Expr>,
+}
+
+impl Job {
+    /// The number of the last expression. A job as read has at least one.
+    pub fn last(&self) -> usize {
+        self.exprs.len() - 1
+    }
+}

@@ -1,0 +1,420 @@
+//! Reading: bytes to tables, refusals 2 to 7.
+
+use crate::fault;
+use crate::job::*;
+
+/// The sections of a job, in order.
+#[derive(Clone, Copy, PartialEq, Eq, PartialOrd, Ord)]
+enum Section {
+    Names,
+    Types,
+    Hosts,
+    Rights,
+    Expressions,
+    End,
+}
+
+/// A command's section and the width of its operands.
+fn command(byte: u8) -> Option<(Section, usize)> {
+    Some(match byte {
+        0x01 | 0x02 => (Section::Names, 1),
+        0x10 => (Section::Types, 1),
+        0x11 => (Section::Types, 5),
+        0x12 => (Section::Types, 3),
+        0x13 => (Section::Types, 13),
+        0x14 | 0x15 => (Section::Types, 2),
+        0x20 => (Section::Hosts, 6),
+        0x21 => (Section::Rights, 8),
+        0x31 => (Section::Expressions, 0),
+        0x32 => (Section::Expressions, 1),
+        0x39 => (Section::Expressions, 2),
+        0x34 => (Section::Expressions, 3),
+        0x30 | 0x33 | 0x36 | 0x37 | 0x38 | 0x3D | 0x3F => (Section::Expressions, 4),
+        0x35 | 0x3A => (Section::Expressions, 5),
+        0x3B | 0x3E => (Section::Expressions, 8),
+        0x3C => (Section::Expressions, 11),
+        0xFF => (Section::End, 0),
+        _ => return None,
+    })
+}
+
+/// The width of a command with its operands.
+pub fn width(byte: u8) -> Option<usize> {
+    command(byte).map(|(_, operands)| 1 + operands)
+}
+
+/// Reads a job.
+pub fn read(job: &[u8]) -> Result<Job, Refusal> {
+    read_with::<{ fault::NONE }>(job)
+}
+
+/// Reads a job with a fault.
+pub fn read_with<const FAULT: u32>(bytes: &[u8]) -> Result<Job, Refusal> {
+    let mut reader = Reader::<FAULT>(Job::default());
+    let mut section = Section::Names;
+    let mut at = 0;
+    loop {
+        let refused = |number| Err(Refusal::at(number, at));
+        let Some(&byte) = bytes.get(at) else {
+            return refused(4);
+        };
+        let Some((own, width)) = command(byte) else {
+            return refused(2);
+        };
+        let end = at + 1 + width;
+        let admitted = match own {
+            Section::Names | Section::Types | Section::Hosts => section <= own,
+            Section::Rights => section < own || FAULT == fault::SECOND_RIGHTS && section == own,
+            Section::Expressions => section >= Section::Rights,
+            Section::End => section == Section::Expressions,
+        };
+        if FAULT == fault::CUT_BEFORE_SECTION && end > bytes.len() {
+            return refused(4);
+        }
+        if !admitted {
+            return refused(3);
+        }
+        if FAULT == fault::LIMIT_BEFORE_CUT && reader.is_full(own) {
+            return refused(5);
+        }
+        let Some(operands) = bytes.get(at + 1..end) else {
+            return refused(4);
+        };
+        if own == Section::End {
+            return match bytes.len() {
+                length if length > end && FAULT != fault::TRAILING => Err(Refusal::at(7, end)),
+                _ => Ok(reader.0),
+            };
+        }
+        if reader.is_full(own) {
+            let swapped = FAULT == fault::OPERAND_BEFORE_LIMIT && own == Section::Types;
+            let bad = swapped && reader.take(byte, Operands(operands)).is_none();
+            return refused(if bad { 6 } else { 5 });
+        }
+        if reader.take(byte, Operands(operands)).is_none() {
+            return refused(6);
+        }
+        section = own;
+        at = end;
+    }
+}
+
+/// The operands of one command, taken from the front.
+struct Operands<'a>(&'a [u8]);
+
+impl Operands<'_> {
+    fn bytes<const N: usize>(&mut self) -> [u8; N] {
+        let (front, rest) = self.0.split_first_chunk().expect("operands of fixed width");
+        self.0 = rest;
+        *front
+    }
+
+    fn byte(&mut self) -> u8 {
+        self.bytes::<1>()[0]
+    }
+
+    fn reference(&mut self) -> u16 {
+        u16::from_le_bytes(self.bytes())
+    }
+
+    fn number(&mut self) -> u32 {
+        u32::from_le_bytes(self.bytes())
+    }
+
+    fn set(&mut self) -> u64 {
+        u64::from_le_bytes(self.bytes())
+    }
+}
+
+struct Reader<const FAULT: u32>(Job);
+
+/// Each method gives nothing where refusal 6 is due.
+impl<const FAULT: u32> Reader<FAULT> {
+    fn is_full(&self, section: Section) -> bool {
+        match section {
+            Section::Names => self.0.names.is_full(),
+            Section::Types => self.0.types.len() == TYPES,
+            Section::Hosts => self.0.hosts.len() == VARIABLES,
+            Section::Expressions => {
+                self.0.exprs.len() == EXPRESSIONS + (FAULT == fault::EXPRESSION_513) as usize
+            }
+            Section::Rights | Section::End => false,
+        }
+    }
+
+    fn take(&mut self, command: u8, operands: Operands) -> Option<()> {
+        match command {
+            0x01 | 0x02 => self.declare(command == 0x01, operands),
+            0x10..=0x15 => self.add_type(command, operands),
+            0x20 => self.add_host(operands),
+            0x21 => self.set_rights(operands),
+            _ => self.add_expr(command, operands),
+        }
+    }
+
+    fn declare(&mut self, host: bool, mut operands: Operands) -> Option<()> {
+        let upper = self.some_name(operands.byte())?;
+        let names = &mut self.0.names;
+        let open = names.host() | 1 << 1;
+        if host && open >> upper & 1 == 0 && FAULT != fault::HOST_UNDER_LOCAL {
+            return None;
+        }
+        names.declare(upper, host);
+        Some(())
+    }
+
+    fn add_type(&mut self, command: u8, mut operands: Operands) -> Option<()> {
+        let key = self.name(operands.byte())?;
+        let shape = match command {
+            0x10 => Shape::Number,
+            0x11 => Shape::Pair(
+                self.ty(operands.reference())?,
+                self.ty(operands.reference())?,
+            ),
+            0x12 => Shape::Cell(self.ty(operands.reference())?),
+            0x13 => Shape::Function(
+                self.ty(operands.reference())?,
+                self.ty(operands.reference())?,
+                self.set(operands.set())?,
+            ),
+            0x14 => Shape::Limit(self.key_name(operands.byte())?),
+            _ => Shape::Grant(self.key_name(operands.byte())?),
+        };
+        let job = &mut self.0;
+        let part = |entry: u16| {
+            let names = match FAULT {
+                fault::PARTS_OUT_OF_SCOPE => 0,
+                _ => job.type_names[entry as usize],
+            };
+            (job.depths[entry as usize], names)
+        };
+        let (below, names) = match shape {
+            Shape::Number => (0, 0),
+            Shape::Limit(name) | Shape::Grant(name) => (0, 1 << name),
+            Shape::Cell(content) => part(content),
+            Shape::Pair(first, second) => join(part(first), part(second)),
+            Shape::Function(from, to, effect) => {
+                let effect = if FAULT == fault::SETS_OUT_OF_SCOPE { 0 } else { effect };
+                join((0, effect), join(part(from), part(to)))
+            }
+        };
+        if below >= DEPTH + (FAULT == fault::DEPTH_17) as u8 {
+            return None;
+        }
+        job.types.push(Type { key, shape });
+        job.type_names.push(names | 1 << key);
+        job.depths.push(below + 1);
+        Some(())
+    }
+
+    fn add_host(&mut self, mut operands: Operands) -> Option<()> {
+        let ty = self.ty(operands.reference())?;
+        let number = operands.number();
+        let job = &mut self.0;
+        let unkeyed = Type::unkeyed(Shape::Number);
+        let lent = match job.types[ty as usize].shape {
+            Shape::Cell(content) => {
+                let content = job.types[content as usize];
+                content == unkeyed
+                    || FAULT == fault::HOST_CELL_KEYED && content.shape == Shape::Number
+            }
+            Shape::Limit(_) | Shape::Grant(_) => number == 0 || FAULT == fault::KEY_WITH_NUMBER,
+            _ => false,
+        };
+        let known = job.type_names[ty as usize] & job.names.local() == 0;
+        if !lent || !known && FAULT != fault::HOST_OF_LOCAL {
+            return None;
+        }
+        job.hosts.push(HostValue { ty, number });
+        Some(())
+    }
+
+    fn set_rights(&mut self, mut operands: Operands) -> Option<()> {
+        let rights = self.set(operands.set())?;
+        if rights & self.0.names.local() != 0 && FAULT != fault::LOCAL_RIGHTS {
+            return None;
+        }
+        self.0.rights = rights;
+        Some(())
+    }
+
+    fn add_expr(&mut self, command: u8, mut operands: Operands) -> Option<()> {
+        let o = &mut operands;
+        let expr = match command {
+            0x30 => Expr::Number(o.number()),
+            0x31 => Expr::Top,
+            0x32 => Expr::Variable(variable(o.byte())?),
+            0x33 => Expr::Pair(self.expr(o)?, self.expr(o)?),
+            0x34 => Expr::Part(self.expr(o)?, Some(o.byte()).filter(|i| (1..=2).contains(i))?),
+            0x35 => Expr::Function(
+                self.bound(o.byte())?,
+                self.ty(o.reference())?,
+                self.expr(o)?,
+            ),
+            0x36 => Expr::Apply(self.expr(o)?, self.expr(o)?),
+            0x37 => Expr::NewCell(self.ty(o.reference())?, self.expr(o)?),
+            0x38 => Expr::Assign(self.expr(o)?, self.expr(o)?),
+            0x39 => Expr::Read(self.expr(o)?),
+            0x3A => match o.byte() {
+                0 => Expr::Sum(self.expr(o)?, self.expr(o)?),
+                1 => Expr::Difference(self.expr(o)?, self.expr(o)?),
+                _ => return None,
+            },
+            0x3B => Expr::Test(
+                self.expr(o)?,
+                self.expr(o)?,
+                self.expr(o)?,
+                self.ty(o.reference())?,
+            ),
+            0x3C => {
+                let count = Some(o.byte()).filter(|&count| count <= 4)?;
+                let mut keys = [UNUSED; 4];
+                for (place, key) in keys.iter_mut().enumerate() {
+                    if place < count as usize {
+                        *key = self.expr(o)?;
+                    } else if o.reference() != UNUSED && FAULT != fault::UNUSED_KEYS {
+                        return None;
+                    }
+                }
+                Expr::Limit(count, keys, self.expr(o)?)
+            }
+            0x3D => Expr::Grant(self.expr(o)?, self.expr(o)?),
+            0x3E => Expr::NewKey(
+                self.bound(o.byte())?,
+                self.local(o.byte())?,
+                self.expr(o)?,
+                self.expr(o)?,
+                self.ty(o.reference())?,
+            ),
+            _ => Expr::Associate(self.expr(o)?, self.expr(o)?),
+        };
+        self.0.exprs.push(expr);
+        Some(())
+    }
+
+    /// A declared name, or 0 or 1.
+    fn name(&self, name: u8) -> Option<u8> {
+        ((name as usize) < self.0.names.count()).then_some(name)
+    }
+
+    /// A declared name other than 0.
+    fn some_name(&self, name: u8) -> Option<u8> {
+        self.name(name).filter(|&name| name != 0)
+    }
+
+    fn key_name(&self, name: u8) -> Option<u8> {
+        match FAULT {
+            fault::KEY_OF_NONE => self.name(name),
+            _ => self.some_name(name),
+        }
+    }
+
+    fn local(&self, name: u8) -> Option<u8> {
+        let free = FAULT == fault::BINDER_OF_HOST_NAME && name > 1;
+        self.name(name)
+            .filter(|&name| free || self.0.names.local() >> name & 1 == 1)
+    }
+
+    fn set(&self, set: u64) -> Option<u64> {
+        let names = &self.0.names;
+        let allowed = names.all() | (FAULT == fault::BIT_0) as u64;
+        let reduced = names.reduce(set) == set & !1 || FAULT == fault::UNREDUCED;
+        (set & !allowed == 0 && reduced).then_some(set & !1)
+    }
+
+    fn ty(&self, ty: u16) -> Option<u16> {
+        ((ty as usize) < self.0.types.len()).then_some(ty)
+    }
+
+    fn expr(&self, operands: &mut Operands) -> Option<u16> {
+        let expr = operands.reference();
+        ((expr as usize) < self.0.exprs.len()).then_some(expr)
+    }
+
+    /// A variable that an expression may bind.
+    fn bound(&self, v: u8) -> Option<u8> {
+        let free = FAULT == fault::BINDER_OF_HOST;
+        variable(v).filter(|&v| free || v as usize >= self.0.hosts.len())
+    }
+}
+
+fn variable(v: u8) -> Option<u8> {
+    ((v as usize) < VARIABLES).then_some(v)
+}
+
+fn join(a: (u8, u64), b: (u8, u64)) -> (u8, u64) {
+    (a.0.max(b.0), a.1 | b.1)
+}
+
+/// Writes a job's tables as bytes.
+pub fn write(job: &Job) -> Vec<u8> {
+    let mut out = Vec::new();
+    for name in 2..job.names.count() as u8 {
+        let host = job.names.host() >> name & 1 == 1;
+        out.extend([if host { 1 } else { 2 }, job.names.upper(name)]);
+    }
+    for ty in &job.types {
+        write_type(&mut out, ty);
+    }
+    for host in &job.hosts {
+        out.push(0x20);
+        out.extend(host.ty.to_le_bytes());
+        out.extend(host.number.to_le_bytes());
+    }
+    out.push(0x21);
+    out.extend(job.rights.to_le_bytes());
+    for expr in &job.exprs {
+        write_expr(&mut out, expr);
+    }
+    out.push(0xFF);
+    out
+}
+
+fn write_type(out: &mut Vec<u8>, ty: &Type) {
+    let (command, parts): (u8, &[u16]) = match ty.shape {
+        Shape::Number => (0x10, &[]),
+        Shape::Pair(first, second) => (0x11, &[first, second]),
+        Shape::Cell(content) => (0x12, &[content]),
+        Shape::Function(from, to, _) => (0x13, &[from, to]),
+        Shape::Limit(_) => (0x14, &[]),
+        Shape::Grant(_) => (0x15, &[]),
+    };
+    out.extend([command, ty.key]);
+    out.extend(parts.iter().flat_map(|part| part.to_le_bytes()));
+    match ty.shape {
+        Shape::Function(_, _, effect) => out.extend(effect.to_le_bytes()),
+        Shape::Limit(name) | Shape::Grant(name) => out.push(name),
+        _ => {}
+    }
+}
+
+fn write_expr(out: &mut Vec<u8>, expr: &Expr) {
+    let (head, references): (&[u8], &[u16]) = match *expr {
+        Expr::Number(n) => {
+            out.push(0x30);
+            return out.extend(n.to_le_bytes());
+        }
+        Expr::Part(a, i) => {
+            out.push(0x34);
+            out.extend(a.to_le_bytes());
+            return out.push(i);
+        }
+        Expr::Top => (&[0x31], &[]),
+        Expr::Variable(v) => (&[0x32, v], &[]),
+        Expr::Pair(a, b) => (&[0x33], &[a, b]),
+        Expr::Function(v, ty, body) => (&[0x35, v], &[ty, body]),
+        Expr::Apply(a, b) => (&[0x36], &[a, b]),
+        Expr::NewCell(ty, a) => (&[0x37], &[ty, a]),
+        Expr::Assign(a, b) => (&[0x38], &[a, b]),
+        Expr::Read(a) => (&[0x39], &[a]),
+        Expr::Sum(a, b) => (&[0x3A, 0], &[a, b]),
+        Expr::Difference(a, b) => (&[0x3A, 1], &[a, b]),
+        Expr::Test(a, b, c, ty) => (&[0x3B], &[a, b, c, ty]),
+        Expr::Limit(count, [a, b, c, d], body) => (&[0x3C, count], &[a, b, c, d, body]),
+        Expr::Grant(a, b) => (&[0x3D], &[a, b]),
+        Expr::NewKey(v, name, key, body, ty) => (&[0x3E, v, name], &[key, body, ty]),
+        Expr::Associate(a, b) => (&[0x3F], &[a, b]),
+    };
+    out.extend(head);
+    out.extend(references.iter().flat_map(|reference| reference.to_le_bytes()));
+}
