@@ -90,4 +90,4 @@ pub fn looped(rng: &mut Rng) -> Job {
     build::job(rng, true)
 }
 
-pub use limits::{heavy, ladder};
+pub use limits::{heavy, ladder, tower};

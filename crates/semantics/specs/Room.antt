@@ -1,10 +1,11 @@
 -- "finished" and "needs a place that is not there", each defined apart from the step.
 use Prim.Native.Nat.{ℕ, suc}
-use mathlib.Core.Bool.{Bool, true, false, _||_}
+use mathlib.Core.Bool.{Bool, true, false}
 use mathlib.Core.List.{List, [], _∷_}
 use mathlib.Core.Option.{Option, none, some}
 use lib.ListN.{length, getElem?}
 use lib.Dec.{leb}
+use Rattle.order.specs.Bools.{_or_}
 use Rattle.syntax.specs.Commands.{Cmd, c-num, c-top, c-var, c-pair, c-part, c-fn, c-app, c-new, c-asg, c-read, c-sum, c-test, c-lim, c-grant, c-newkey, c-assoc}
 use Rattle.semantics.specs.Machine.{Frame, Control, enter, hand, Machine, most-cells, most-keys, most-pairs, most-functions, most-frames, most-bindings}
 use Rattle.semantics.specs.Step.{worked}
@@ -60,7 +61,7 @@ module _ {T : Type 0} where
   lacksAct (c-lim ks b) m = false
   lacksAct (c-grant a b) m = false
   lacksAct (c-newkey x r a b t) m =
-      full (length (m .store .keys)) most-keys || full (length (m .store .pairs)) most-pairs || full (suc (length (m .store .bindings))) most-bindings
+      full (length (m .store .keys)) most-keys or full (length (m .store .pairs)) most-pairs or full (suc (length (m .store .bindings))) most-bindings
   lacksAct (c-assoc a b) m = false
 
   -- a frame that still lacks an operand takes nothing

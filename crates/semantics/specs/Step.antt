@@ -1,10 +1,11 @@
 -- One step of the machine. The expressions are given with type operands of any form: the machine "never looks at types".
 use Prim.Native.Nat.{ℕ, zero, suc, _+_, _-_, _%_, _^_}
-use mathlib.Core.Bool.{Bool, true, false, cond, _&&_}
+use mathlib.Core.Bool.{Bool, true, false, cond}
 use mathlib.Core.List.{List, [], _∷_, _++_, map}
 use mathlib.Core.Option.{Option, none, some}
 use lib.ListN.{length, getElem?, set}
 use lib.Dec.{eqb, ltb}
+use Rattle.order.specs.Bools.{_and_}
 use Rattle.order.specs.Sets.{setOf}
 use Rattle.syntax.specs.Commands.{Cmd, c-num, c-top, c-var, c-pair, c-part, c-fn, c-app, c-new, c-asg, c-read, c-sum, c-test, c-lim, c-grant, c-newkey, c-assoc}
 use Rattle.semantics.specs.Machine.{Kind, k-num, k-pair, k-fn, k-cell, k-lim, k-grant, Value, unkeyed, Two, Bind, b-var, b-name, Link, Closure, Frame, Control, enter, hand, Thread, Store, Machine}
@@ -190,7 +191,7 @@ newKey x r b j m =
     let k = length (m .store .keys) in
     let p = length (m .store .pairs) in
     let n = length (m .store .bindings) in
-    room (ltb k most-keys && ltb p most-pairs && ltb (suc n) most-bindings)
+    room (ltb k most-keys and ltb p most-pairs and ltb (suc n) most-bindings)
     (go b (suc (suc n)) (m .thread .on)
     (withBindings
     (withPairs (withKeys m (m .store .keys ++ (j ∷ []))) (m .store .pairs ++ (record { one = unkeyed (k-lim k); two = unkeyed (k-grant k) } ∷ [])))

@@ -1,10 +1,11 @@
 -- Reading (document 01, "The bytes of a job" and numbers 2 to 7): the job that the bytes write, or the first refusal.
 use Prim.Native.Nat.{ℕ, zero, suc, _+_, _-_}
-use mathlib.Core.Bool.{Bool, true, false, cond, _&&_, _||_, not}
+use mathlib.Core.Bool.{Bool, true, false, cond, not}
 use mathlib.Core.List.{List, [], _∷_, _++_}
 use mathlib.Core.Option.{Option, none, some}
 use lib.ListN.{length, getD, getElem?, drop, take}
 use lib.Dec.{eqb, ltb, leb}
+use Rattle.order.specs.Bools.{_and_, _or_}
 use Rattle.order.specs.Sets.{members, all-of}
 use Rattle.order.specs.Effects.{Effect, reduced}
 use Rattle.syntax.specs.Types.{Ty, num, pair, cell, fn, lim, grant, TypeEntry, e-num, e-pair, e-cell, e-fn, e-lim, e-grant, tree, depth}
@@ -50,35 +51,35 @@ isHost (some d) = d .host
 
 -- a host name or 1
 unfoldable pub hostName : List Name → ℕ → Bool
-hostName ds q = eqb q 1 || (leb 2 q && isHost (getElem? ds (q - 2)))
+hostName ds q = eqb q 1 or (leb 2 q and isHost (getElem? ds (q - 2)))
 
 -- a host name, 1 or 0
 unfoldable pub openName : List Name → ℕ → Bool
-openName ds q = eqb q 0 || hostName ds q
+openName ds q = eqb q 0 or hostName ds q
 
 -- a declared name that is not the host's
 unfoldable pub localName : List Name → ℕ → Bool
-localName ds q = leb 2 q && declared ds q && not (hostName ds q)
+localName ds q = leb 2 q and declared ds q and not (hostName ds q)
 
 -- a written set: reduced, of declared names
 unfoldable pub setOk : List Name → Effect → Bool
-setOk ds s = all-of (declared ds) (members s) && reduced (uppers ds) s
+setOk ds s = all-of (declared ds) (members s) and reduced (uppers ds) s
 
 -- 01, 02: the upper name is not 0 and declared earlier; a host name's is a host name or 1
 unfoldable pub nameOk : List Name → Name → Bool
-nameOk ds d = not (eqb (d .upper) 0) && declared ds (d .upper) && (not (d .host) || hostName ds (d .upper))
+nameOk ds d = not (eqb (d .upper) 0) and declared ds (d .upper) and (not (d .host) or hostName ds (d .upper))
 
 -- 10 to 15: names declared, r not 0, parts earlier, the set as above; depth at most 16
 unfoldable pub partsOk : List Name → ℕ → TypeEntry → Bool
 partsOk ds n (e-num q) = declared ds q
-partsOk ds n (e-pair q a b) = declared ds q && ltb a n && ltb b n
-partsOk ds n (e-cell q a) = declared ds q && ltb a n
-partsOk ds n (e-fn q a b s) = declared ds q && ltb a n && ltb b n && setOk ds s
-partsOk ds n (e-lim q r) = declared ds q && declared ds r && not (eqb r 0)
-partsOk ds n (e-grant q r) = declared ds q && declared ds r && not (eqb r 0)
+partsOk ds n (e-pair q a b) = declared ds q and ltb a n and ltb b n
+partsOk ds n (e-cell q a) = declared ds q and ltb a n
+partsOk ds n (e-fn q a b s) = declared ds q and ltb a n and ltb b n and setOk ds s
+partsOk ds n (e-lim q r) = declared ds q and declared ds r and not (eqb r 0)
+partsOk ds n (e-grant q r) = declared ds q and declared ds r and not (eqb r 0)
 
 unfoldable pub typeOk : List Name → List TypeEntry → TypeEntry → Bool
-typeOk ds ts e = partsOk ds (length ts) e && leb (depth (tree (ts ++ (e ∷ [])) (length ts))) most-depth
+typeOk ds ts e = partsOk ds (length ts) e and leb (depth (tree (ts ++ (e ∷ [])) (length ts))) most-depth
 
 -- 20: a cell of unkeyed numbers, or a limit or grant key (n is then 0), of 0, 1 and host names
 unfoldable pub unkeyedNumber : Ty → Bool
@@ -92,26 +93,26 @@ unkeyedNumber (grant q r) = false
 unfoldable pub hostTypeOk : List Name → Ty → ℕ → Bool
 hostTypeOk ds (num q) n = false
 hostTypeOk ds (pair q A B) n = false
-hostTypeOk ds (cell q A) n = openName ds q && unkeyedNumber A
+hostTypeOk ds (cell q A) n = openName ds q and unkeyedNumber A
 hostTypeOk ds (fn q A B s) n = false
-hostTypeOk ds (lim q r) n = openName ds q && openName ds r && eqb n 0
-hostTypeOk ds (grant q r) n = openName ds q && openName ds r && eqb n 0
+hostTypeOk ds (lim q r) n = openName ds q and openName ds r and eqb n 0
+hostTypeOk ds (grant q r) n = openName ds q and openName ds r and eqb n 0
 
 unfoldable pub hostValueOk : List Name → List TypeEntry → HostValue ℕ → Bool
-hostValueOk ds ts h = ltb (h .ty) (length ts) && hostTypeOk ds (tree ts (h .ty)) (h .init)
+hostValueOk ds ts h = ltb (h .ty) (length ts) and hostTypeOk ds (tree ts (h .ty)) (h .init)
 
 -- 21: of 1 and host names
 unfoldable pub rightsOk : List Name → Effect → Bool
-rightsOk ds s = setOk ds s && all-of (hostName ds) (members s)
+rightsOk ds s = setOk ds s and all-of (hostName ds) (members s)
 
 -- an expression: operands and types earlier, variables below 64, a bound variable not the host's, a bound name local
 unfoldable pub cmdOk : Job → Cmd ℕ → Bool
 cmdOk J k =
     all-of (λ e. ltb e (length (J .cmds))) (kids k)
-    && all-of (λ t. ltb t (length (J .types))) (typesOf k)
-    && all-of (λ v. ltb v most-variables) (usesVar k)
-    && all-of (λ v. leb (length (J .values)) v && ltb v most-variables) (bindsVar k)
-    && all-of (localName (J .names)) (bindsName k)
+    and all-of (λ t. ltb t (length (J .types))) (typesOf k)
+    and all-of (λ v. ltb v most-variables) (usesVar k)
+    and all-of (λ v. leb (length (J .values)) v and ltb v most-variables) (bindsVar k)
+    and all-of (localName (J .names)) (bindsName k)
 
 -- what a command writes; `unwritten` where an operand has no meaning
 pub data Written : Type 0 where
@@ -133,7 +134,7 @@ sumOf op a b = cond (eqb op 0) (w-cmd (c-sum true a b)) (cond (eqb op 1) (w-cmd 
 
 -- 3C: "c (0 to 4) keys, unused key operands FFFF, then the body"
 unfoldable pub limitOf : ℕ → List ℕ → ℕ → Written
-limitOf c ks b = cond (leb c 4 && all-of (λ e. eqb e 0xFFFF) (drop c ks)) (w-cmd (c-lim (take c ks) b)) unwritten
+limitOf c ks b = cond (leb c 4 and all-of (λ e. eqb e 0xFFFF) (drop c ks)) (w-cmd (c-lim (take c ks) b)) unwritten
 
 -- by a command's operands, in order
 unfoldable pub written : Op → List ℕ → Written
@@ -188,17 +189,17 @@ enter unwritten J = none
 unfoldable pub misplaced : State → ℕ → Bool
 misplaced st sec =
     ltb sec (st .section)
-    || (eqb sec 3 && eqb (st .section) 3)
-    || (leb 4 sec && ltb (st .section) 3)
-    || (eqb sec 5 && eqb (length (st .job .cmds)) 0)
+    or (eqb sec 3 and eqb (st .section) 3)
+    or (leb 4 sec and ltb (st .section) 3)
+    or (eqb sec 5 and eqb (length (st .job .cmds)) 0)
 
 -- number 5: one entry more than a limit; the rights and the end have none
 unfoldable pub full : Job → ℕ → Bool
 full J sec =
-    (eqb sec 0 && leb most-names (2 + length (J .names)))
-    || (eqb sec 1 && leb most-types (length (J .types)))
-    || (eqb sec 2 && leb most-variables (length (J .values)))
-    || (eqb sec 4 && leb most-expressions (length (J .cmds)))
+    (eqb sec 0 and leb most-names (2 + length (J .names)))
+    or (eqb sec 1 and leb most-types (length (J .types)))
+    or (eqb sec 2 and leb most-variables (length (J .values)))
+    or (eqb sec 4 and leb most-expressions (length (J .cmds)))
 
 -- what one command comes to
 pub data Step : Type 0 where

@@ -1,10 +1,11 @@
 -- The expressions as a tree (numbers 8, 9 and 10): each is used once, nothing is bound twice, and what is used is in scope.
 use Prim.Native.Nat.{ℕ, zero, suc, _+_}
-use mathlib.Core.Bool.{Bool, true, false, cond, _&&_, not}
+use mathlib.Core.Bool.{Bool, true, false, cond, not}
 use mathlib.Core.List.{List, [], _∷_, _++_, map, flatMap}
 use mathlib.Core.Option.{Option, none, some}
 use lib.ListN.{length, take}
 use lib.Dec.{eqb, ltb}
+use Rattle.order.specs.Bools.{_and_}
 use Rattle.order.specs.Sets.{some-of, all-of}
 use Rattle.syntax.specs.Types.{Ty, pair, lim, grant, namesIn}
 use Rattle.syntax.specs.Commands.{Cmd, c-num, c-top, c-var, c-pair, c-part, c-fn, c-app, c-new, c-asg, c-read, c-sum, c-test, c-lim, c-grant, c-newkey, c-assoc}
@@ -98,7 +99,7 @@ unfoldable pub bindsNew : Src → ℕ → Bool
 bindsNew S e =
     let before = boundBy (take e (S .cmds)) in
     let own = binds (nth (S .cmds) e) in
-    all-of (λ v. not (memB v (varsOf before))) (varsOf own) && all-of (λ r. not (memB r (namesOf before))) (namesOf own)
+    all-of (λ v. not (memB v (varsOf before))) (varsOf own) and all-of (λ r. not (memB r (namesOf before))) (namesOf own)
 
 -- the first expression that has the operand c, when the list starts at number i
 unfoldable pub parent : List (Cmd Ty) → ℕ → ℕ → ℕ
@@ -122,7 +123,7 @@ unfoldable pub inScope : Src → ℕ → Bool
 inScope S e =
     let Γ = ctx S (length (S .cmds)) e in
     let k = nth (S .cmds) e in
-    all-of (λ v. memB v (varsOf Γ)) (usesVar k) && all-of (nameIn Γ) (usesName k)
+    all-of (λ v. memB v (varsOf Γ)) (usesVar k) and all-of (nameIn Γ) (usesName k)
 
 -- the lowest of the n expressions from i on that a test fails for
 unfoldable pub firstBad : (ℕ → Bool) → ℕ → ℕ → Option ℕ

@@ -600,10 +600,7 @@ impl<'r> Builder<'r> {
                     .and_then(|cell| self.add(Expr::Read(cell)))
             }
             6 | 7 => self.associate(node),
-            _ => {
-                let ty = self.of(node).ty;
-                self.key_around(move |_| Some(node), ty)
-            }
+            _ => self.key_around(move |_| Some(node)),
         };
         around.unwrap_or(node)
     }
@@ -666,8 +663,7 @@ impl<'r> Builder<'r> {
     }
 
     fn new_key(&mut self, fuel: usize) -> Option<Node> {
-        let ty = self.number();
-        self.key_around(|b| Some(b.keyed_body(fuel)), ty)
+        self.key_around(|b| Some(b.keyed_body(fuel)))
     }
 
     /// Something for the body of a 3E: often a cell with the new key that is put to use.
@@ -677,7 +673,8 @@ impl<'r> Builder<'r> {
         }
         let name = 63 - (self.scope.leading_zeros() as u8);
         let used = |b: &mut Self| {
-            let value = b.of_kind([Kind::Number, Kind::Cell, Kind::Function][b.rng.below(3)], fuel)?;
+            let kind = b.rng.pick(&[Kind::Number, Kind::Cell, Kind::Function]);
+            let value = b.of_kind(kind, fuel)?;
             let key = b.key(name, false)?;
             let keyed = b.add(Expr::Associate(value, key))?;
             let used = match b.shape(keyed) {
@@ -701,7 +698,7 @@ impl<'r> Builder<'r> {
     }
 
     /// A 3E around what `build` gives; its own type if that may leave the scope, else a number.
-    fn key_around(&mut self, build: impl FnOnce(&mut Self) -> Option<Node>, _: Ty) -> Option<Node> {
+    fn key_around(&mut self, build: impl FnOnce(&mut Self) -> Option<Node>) -> Option<Node> {
         if self.names.count() >= 60 {
             return None;
         }
@@ -811,7 +808,7 @@ impl<'r> Builder<'r> {
                 self.add(Expr::Apply(outer, inner))
             }
             4 | 5 => {
-                let number = self.key_around(|b| Some(b.keyed_body(1)), number)?;
+                let number = self.key_around(|b| Some(b.keyed_body(1)))?;
                 match self.shape(number) {
                     Shape::Number => Some(number),
                     _ => {

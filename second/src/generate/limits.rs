@@ -1,23 +1,339 @@
-//! Jobs near the limits.
+//! Jobs near the limits and near single conditions.
 
 use super::Rng;
 use crate::job::*;
+use crate::names::Names;
 use crate::read::write;
 
-/// A job at a limit or one past it.
+/// A job at a limit, or one past it, or near a condition of the reader or of scopes.
 pub fn job(rng: &mut Rng) -> Vec<u8> {
     let past = rng.below(2);
-    match rng.below(11) {
-        0 => counted(rng, vec![1 + rng_bit(past) * 0, 1], 62 + past, Place::Names),
-        1 => counted(rng, vec![0x10, 0], 256 + past, Place::Types),
-        2 => counted(rng, vec![0x20, 1, 0, 7, 0, 0, 0], 64 + past, Place::Hosts),
-        3 => write(&tower(511 + past)),
-        4 => write(&tower(rng.below(300) + 240)),
-        5 => depth(rng, 15 + rng_bit(past)),
-        6 => sets(rng),
-        7 => write(&ladder(8 + rng_bit(past) * 8, 1 + past * 20)),
-        8 => write(&heavy(40)),
-        9 => host_values(rng),
-        _ => scopes(rng),
+    match rng.below(14) {
+        0 => repeated(rng, &[], &[0x01, 1], &[0x01, 0], 62 + past),
+        1 => repeated(rng, &[], &[0x10, 0], &[0x10, 77], 256 + past),
+        2 => {
+            let cell = [0x10, 0, 0x12, 0, 0, 0];
+            let (good, bad) = ([0x20, 1, 0, 7, 0, 0, 0], [0x20, 2, 0, 7, 0, 0, 0]);
+            repeated(rng, &cell, &good, &bad, 64 + past)
+        }
+        3 => {
+            let mut bytes = write(&tower(511 + past));
+            if rng.chance(50) {
+                // One more expression, whole or cut short, with a reference that is not earlier.
+                let end = bytes.len() - 1;
+                bytes.splice(end.., [0x39, 0xFF, 0x7F, 0xFF]);
+                bytes.truncate(end + 1 + rng.below(4));
+            }
+            bytes
+        }
+        4 => write(&tower(240 + rng.below(40))),
+        5 => {
+            let depth = 15 + rng.below(3);
+            write(&nested(rng, depth))
+        }
+        6 | 7 => sets(rng),
+        8 => write(&ladder(8 + 8 * past, 1 + 20 * past, rng.below(3))),
+        9 => write(&heavy(40)),
+        10 => host_values(rng),
+        11 => full(rng),
+        _ => write(&scopes(rng)),
+    }
+}
+
+const END: [u8; 15] = [0x21, 0, 0, 0, 0, 0, 0, 0, 0, 0x30, 5, 0, 0, 0, 0xFF];
+
+/// One command many times, the last of them as it is, with a bad operand, or cut short.
+fn repeated(rng: &mut Rng, before: &[u8], good: &[u8], bad: &[u8], count: usize) -> Vec<u8> {
+    let mut bytes = before.to_vec();
+    bytes.extend(good.repeat(count - 1));
+    match rng.below(4) {
+        0 => bytes.extend(bad),
+        1 => bytes.extend(&good[..1 + rng.below(good.len() - 1)]),
+        2 => {
+            bytes.extend(good);
+            bytes.extend(END);
+        }
+        _ => {
+            bytes.extend(bad);
+            bytes.extend(END);
+        }
+    }
+    bytes
+}
+
+/// Expressions of a job being written down.
+struct Exprs(Vec<Expr>);
+
+impl Exprs {
+    fn add(&mut self, expr: Expr) -> u16 {
+        self.0.push(expr);
+        self.0.len() as u16 - 1
+    }
+
+    fn number(&mut self, number: u32) -> u16 {
+        self.add(Expr::Number(number))
+    }
+
+    fn variable(&mut self, v: u8) -> u16 {
+        self.add(Expr::Variable(v))
+    }
+}
+
+fn number(key: u8) -> Type {
+    Type {
+        key,
+        shape: Shape::Number,
+    }
+}
+
+/// A job of that many expressions, each but the first the operand of the next.
+pub fn tower(count: usize) -> Job {
+    let mut exprs = Exprs(Vec::new());
+    let mut top = exprs.number(9);
+    for place in 1..count {
+        top = exprs.add(match place % 2 {
+            1 => Expr::NewCell(0, top),
+            _ => Expr::Read(top),
+        });
+    }
+    Job {
+        types: vec![number(0)],
+        exprs: exprs.0,
+        ..Job::default()
+    }
+}
+
+/// A job with a declared type of some depth.
+fn nested(rng: &mut Rng, depth: usize) -> Job {
+    let mut types = vec![number(0)];
+    while types.len() < depth {
+        let last = types.len() as u16 - 1;
+        let other = rng.below(types.len()) as u16;
+        types.push(Type::unkeyed(match rng.below(4) {
+            0 => Shape::Pair(last, other),
+            1 => Shape::Cell(last),
+            2 => Shape::Function(last, other, 0),
+            _ => Shape::Function(other, last, 2),
+        }));
+    }
+    let mut exprs = Exprs(Vec::new());
+    let body = exprs.number(1);
+    exprs.add(Expr::Function(5, depth as u16 - 1, body));
+    Job {
+        types,
+        exprs: exprs.0,
+        ..Job::default()
+    }
+}
+
+/// Two chains of types of some depth, compared by many applies.
+///
+/// `shape` 0 is pairs, 1 functions, 2 cells.
+pub fn ladder(depth: usize, applies: usize, shape: usize) -> Job {
+    let mut types = vec![number(0), number((shape < 2) as u8)];
+    while types.len() < 2 * depth.min(DEPTH as usize - 1) {
+        let below = types.len() as u16 - 2;
+        types.push(Type::unkeyed(match shape {
+            0 => Shape::Pair(below, below),
+            // Both ways round at every step.
+            1 => Shape::Function(below ^ 1, below, 0),
+            _ if below < 2 => Shape::Cell(below),
+            _ => Shape::Pair(below, below),
+        }));
+    }
+    let high = types.len() as u16 - 1;
+    let taker = types.len() as u16;
+    types.push(Type::unkeyed(Shape::Function(high, 0, 0)));
+    let mut exprs = Exprs(Vec::new());
+    let mut sum = exprs.number(0);
+    for _ in 0..applies.min(120) {
+        let (function, argument) = (exprs.variable(0), exprs.variable(1));
+        let one = exprs.add(Expr::Apply(function, argument));
+        sum = exprs.add(Expr::Sum(sum, one));
+    }
+    let inner = exprs.add(Expr::Function(1, high - 1, sum));
+    exprs.add(Expr::Function(0, taker, inner));
+    Job {
+        types,
+        exprs: exprs.0,
+        ..Job::default()
+    }
+}
+
+/// A loop that works out a number of differences in each turn.
+pub fn heavy(differences: usize) -> Job {
+    let types = vec![
+        number(0),
+        Type::unkeyed(Shape::Function(0, 0, 0)),
+        Type::unkeyed(Shape::Cell(1)),
+    ];
+    let (n, c, x) = (0, 1, 2);
+    let mut e = Exprs(Vec::new());
+    let mut load = e.number(7);
+    for _ in 0..differences {
+        let other = e.variable(n);
+        load = e.add(Expr::Difference(load, other));
+    }
+    let (one, also_one) = (e.number(1), e.number(1));
+    let step = e.add(Expr::Test(load, one, also_one, 0));
+    let counter = e.variable(n);
+    let less = e.add(Expr::Difference(counter, step));
+    let held = e.variable(c);
+    let itself = e.add(Expr::Read(held));
+    let again = e.add(Expr::Apply(itself, less));
+    let (tested, base) = (e.variable(n), e.number(3));
+    let body = e.add(Expr::Test(tested, again, base, 0));
+    let looped = e.add(Expr::Function(n, 0, body));
+    let held = e.variable(c);
+    let assigned = e.add(Expr::Assign(held, looped));
+    let count = e.number(5000);
+    let run = e.add(Expr::Apply(assigned, count));
+    let outer = e.add(Expr::Function(c, 2, run));
+    let nothing = e.number(0);
+    let first = e.add(Expr::Function(x, 0, nothing));
+    let cell = e.add(Expr::NewCell(1, first));
+    e.add(Expr::Apply(outer, cell));
+    Job {
+        types,
+        exprs: e.0,
+        ..Job::default()
+    }
+}
+
+/// A function type's effect and rights, drawn from few names.
+fn sets(rng: &mut Rng) -> Vec<u8> {
+    let mut bytes = vec![0x01, 1, 0x01, 2, 0x01, 2, 0x02, 2, 0x10, 0, 0x13, 0, 0, 0, 0, 0];
+    let mut set = |bits: u32| (0..bits).fold(0u8, |set, bit| set | (rng.chance(20) as u8) << bit);
+    bytes.extend([set(7), 0, 0, 0, 0, 0, 0, 0]);
+    bytes.extend([0x21, set(7), 0, 0, 0, 0, 0, 0, 0]);
+    bytes.extend(&END[9..]);
+    bytes
+}
+
+/// Host values of good and bad types.
+fn host_values(rng: &mut Rng) -> Vec<u8> {
+    // Names 2 and 3: host and local.
+    let mut bytes = vec![0x01, 1, 0x02, 1];
+    let mut name = |least: usize| (least + rng.below(4 - least)) as u8;
+    bytes.extend([0x10, name(0) & 2, 0x12, name(0), 0, 0]);
+    bytes.extend([0x14, name(0), name(1), 0x15, name(0), name(1)]);
+    bytes.extend([0x11, 0, 0, 0, 0, 0]);
+    for _ in 0..1 + rng.below(2) {
+        let ty = if rng.chance(90) { 1 + rng.below(3) } else { rng.below(6) } as u8;
+        let number = if rng.chance(70) { 0 } else { 4 };
+        bytes.extend([0x20, ty, 0, number, 0, 0, 0]);
+    }
+    bytes.extend(END);
+    bytes
+}
+
+/// Each section as full as may be, or nearly.
+fn full(rng: &mut Rng) -> Vec<u8> {
+    let mut names = Names::default();
+    for _ in 0..62 {
+        let upper = names.count() as u8 - 1;
+        let upper = if rng.chance(50) { upper } else { 1 };
+        names.declare(upper, true);
+    }
+    let mut types = vec![number(0)];
+    while types.len() < TYPES {
+        let key = rng.below(64) as u8;
+        types.push(Type {
+            key,
+            shape: match rng.below(3) {
+                0 => Shape::Cell(0),
+                1 => Shape::Limit(key.max(1)),
+                _ => Shape::Grant(key.max(1)),
+            },
+        });
+    }
+    let hosts: Vec<HostValue> = (0..VARIABLES)
+        .map(|_| HostValue {
+            ty: 1 + rng.below(TYPES - 1) as u16,
+            number: 0,
+        })
+        .collect();
+    let mut e = Exprs(Vec::new());
+    let mut body = e.number(1);
+    while e.0.len() < EXPRESSIONS - 6 {
+        let v = rng.below(VARIABLES);
+        let one = e.variable(v as u8);
+        body = match types[hosts[v].ty as usize].shape {
+            Shape::Cell(_) => {
+                let read = e.add(Expr::Read(one));
+                e.add(Expr::Sum(read, body))
+            }
+            Shape::Limit(_) => {
+                let top = e.add(Expr::Top);
+                e.add(Expr::Limit(2, [one, top, UNUSED, UNUSED], body))
+            }
+            _ => e.add(Expr::Grant(one, body)),
+        };
+    }
+    let job = Job {
+        names,
+        types,
+        hosts,
+        rights: if rng.chance(60) { 2 } else { 4 },
+        exprs: e.0,
+        ..Job::default()
+    };
+    write(&job)
+}
+
+/// Local names and variables in and out of their scopes.
+fn scopes(rng: &mut Rng) -> Job {
+    let mut names = Names::default();
+    names.declare(1, false);
+    let upper = 1 + rng.below(2) as u8;
+    names.declare(upper, false);
+    let types = vec![
+        number(0),
+        number(2),
+        Type::unkeyed(Shape::Limit(2)),
+        Type::unkeyed(Shape::Cell(1)),
+        Type::unkeyed(Shape::Function(0, 0, 4)),
+        Type::unkeyed(Shape::Function(0, 0, 2)),
+        number(3),
+    ];
+    let mut e = Exprs(Vec::new());
+    let mut next = 2u8;
+    let mut beside = |rng: &mut Rng, e: &mut Exprs, inner: u16, plain: usize| {
+        let ty = if rng.chance(plain) { 0 } else { rng.below(7) as u16 };
+        let body = match rng.below(4) {
+            0 => e.variable(rng.below(3) as u8),
+            _ => e.number(1),
+        };
+        if rng.chance(85) {
+            next += 1;
+        }
+        let function = e.add(Expr::Function(next, ty, body));
+        let pair = e.add(Expr::Pair(function, inner));
+        e.add(Expr::Part(pair, 2))
+    };
+    let twice = rng.chance(40);
+    let mut sum = None;
+    for turn in 0..1 + twice as u8 {
+        let top = e.add(Expr::Top);
+        let key = beside(rng, &mut e, top, 60);
+        let one = e.number(1);
+        let body = beside(rng, &mut e, one, 30);
+        let own = if rng.chance(60) { 0 } else { rng.below(7) as u16 };
+        let name = if rng.chance(80) { 2 + turn } else { 2 };
+        let mut made = e.add(Expr::NewKey(turn, name, key, body, own));
+        if rng.chance(40) {
+            made = beside(rng, &mut e, made, 50);
+        }
+        sum = Some(match sum {
+            Some(sum) => e.add(Expr::Sum(sum, made)),
+            None => made,
+        });
+    }
+    Job {
+        names,
+        types,
+        rights: 2,
+        exprs: e.0,
+        ..Job::default()
     }
 }

@@ -1,0 +1,122 @@
+//! Generates jobs and says what they reach.
+//!
+//! `generate [COUNT] [SEED]` prints how often each refusal, outcome and kind of room is reached;
+//! it fails if one is not. `generate COUNT SEED desk` prints each job and the desk's lines instead,
+//! and `generate COUNT SEED machine STEPS` each job that starts and its run.
+
+use std::collections::BTreeMap;
+use std::process::ExitCode;
+
+use second::fault::NONE;
+use second::generate::{Source, job};
+use second::machine::{BINDINGS, CELLS, FRAMES, FUNCTIONS, KEYS, PAIRS};
+use second::observe::observe;
+use second::{Expr, Outcome, Rooms, desk, read, to_hex};
+
+fn full_rooms(rooms: Rooms) -> Vec<&'static str> {
+    [
+        (rooms.cells == CELLS, "cells"),
+        (rooms.keys == KEYS, "keys"),
+        (rooms.pairs == PAIRS, "pairs"),
+        (rooms.functions == FUNCTIONS, "functions"),
+        (rooms.frames == FRAMES, "frames"),
+        (rooms.bindings >= BINDINGS - 1, "bindings"),
+    ]
+    .into_iter()
+    .filter_map(|(full, room)| full.then_some(room))
+    .collect()
+}
+
+fn command(expr: &Expr) -> String {
+    let name = format!("{expr:?}");
+    let name = name.split('(').next().unwrap_or_default();
+    match expr {
+        Expr::Limit(count, ..) => format!("{name} of {count}"),
+        _ => name.to_string(),
+    }
+}
+
+fn coverage(count: u64, seed: u64) -> ExitCode {
+    let mut reached: BTreeMap<String, u64> = BTreeMap::new();
+    for seed in seed..seed + count {
+        let (source, job) = job(seed);
+        let seen = observe::<NONE>(&job, &[100_000]);
+        let mut reach = |what: String| *reached.entry(what).or_default() += 1;
+        let verdict = match &seen.verdict {
+            Ok(accepted) => {
+                reach(format!("accepted as {}", accepted.kind.word()));
+                "accepted".to_string()
+            }
+            Err(refusal) => format!("refused {:2}", refusal.number),
+        };
+        reach(format!("verdict {verdict}"));
+        reach(format!("source {source:?} {}", if seen.verdict.is_ok() { "accepted" } else { "refused" }));
+        if seen.verdict.is_ok()
+            && let Ok(job) = read(&job)
+        {
+            let mut commands: Vec<String> = job.exprs.iter().map(command).collect();
+            commands.sort();
+            commands.dedup();
+            commands.into_iter().for_each(|c| reach(format!("accepted with {c}")));
+            let mut kinds: Vec<_> = job.types.iter().map(|ty| ty.kind().word()).collect();
+            kinds.sort();
+            kinds.dedup();
+            kinds.into_iter().for_each(|kind| reach(format!("accepted with type {kind}")));
+        }
+        for run in seen.runs.iter().flatten() {
+            let accepted = if seen.verdict.is_ok() { "accepted" } else { "refused" };
+            reach(format!("outcome of {accepted} {}", run.outcome.words()));
+            if run.outcome == Outcome::NoRoom
+                && let [room] = full_rooms(run.rooms)[..]
+            {
+                reach(format!("no room in {room} alone"));
+            }
+        }
+    }
+    for (what, times) in &reached {
+        println!("{times:8} {what}");
+    }
+    let mut wanted: Vec<String> = (2..=14).map(|n| format!("verdict refused {n:2}")).collect();
+    wanted.extend(["done", "spent", "no room"].map(|w| format!("outcome of accepted {w}")));
+    wanted.extend(["stuck", "denied"].map(|w| format!("outcome of refused {w}")));
+    wanted.extend(
+        ["cells", "keys", "pairs", "functions", "frames", "bindings"]
+            .map(|room| format!("no room in {room} alone")),
+    );
+    let missing: Vec<_> = wanted.iter().filter(|what| !reached.contains_key(*what)).collect();
+    missing.iter().for_each(|what| println!("not reached: {what}"));
+    for never in ["stuck", "denied"].map(|w| format!("outcome of accepted {w}")) {
+        if reached.contains_key(&never) {
+            println!("must not be reached: {never}");
+            return ExitCode::FAILURE;
+        }
+    }
+    ExitCode::from(!missing.is_empty() as u8)
+}
+
+fn main() -> ExitCode {
+    let arguments: Vec<String> = std::env::args().skip(1).collect();
+    let number = |place: usize, other: u64| {
+        arguments.get(place).and_then(|text| text.parse().ok()).unwrap_or(other)
+    };
+    let (count, seed) = (number(0, 10_000), number(1, 1));
+    match arguments.get(2).map(String::as_str) {
+        Some("desk") => {
+            for seed in seed..seed + count {
+                let (_, job) = job(seed);
+                println!("{}\t{}", to_hex(&job), desk(&job).trim_end().replace('\n', " | "));
+            }
+        }
+        Some("machine") => {
+            let steps = number(3, 1000);
+            for seed in seed..seed + count {
+                let (_, job) = job(seed);
+                if let Ok(runs) = observe::<NONE>(&job, &[steps]).runs {
+                    println!("{}\t{steps}\t{}", to_hex(&job), runs[0]);
+                }
+            }
+        }
+        _ => return coverage(count, seed),
+    }
+    ExitCode::SUCCESS
+}
