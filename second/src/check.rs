@@ -285,7 +285,7 @@ impl<'a, const FAULT: u32> Checker<'a, FAULT> {
                 let effect = match FAULT {
                     fault::NOT_RAISED => touched | body,
                     fault::DROPPED_NOT_RAISED => touched | body & !(1 << name),
-                    fault::RAISE_OF_ALL => names.raise(names.reduce(touched | body), name),
+                    fault::NEW_KEY_NOT_TOUCHED => self.of(key).effect | names.raise(body, name),
                     _ => touched | names.raise(body, name),
                 };
                 self.point(ty, effect)

@@ -82,7 +82,7 @@ faults! {
     LIMIT_OF_ALL = 54, "13 asks of the keys' effects as well";
     BRANCHES_BEFORE_TEST = 55, "3B tests 12 before 11";
     GRANT_OF_ALL = 56, "3D drops from its key's effect as well";
-    RAISE_OF_ALL = 57, "3E raises its key's effect as well";
+    NEW_KEY_NOT_TOUCHED = 57, "3E's check does not touch its limit key";
     FIRST_ONLY = 58, "only the first expression is looked at for 11 to 13";
     ALL_NUMBERS = 59, "every job is accepted as an unkeyed number";
     KEYS_WHERE_MADE = 60, "a function runs with the keys enabled where it was made";

@@ -4,3 +4,4 @@ pub mod Operands
 pub mod Job
 pub mod Reading
 pub mod Tree
+pub mod WellRead

@@ -1,2 +1,5 @@
 pub mod Subtype
 pub mod Rules
+pub mod Least
+pub mod Verdict
+pub mod Layout

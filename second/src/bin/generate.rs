@@ -8,7 +8,7 @@ use std::collections::BTreeMap;
 use std::process::ExitCode;
 
 use second::fault::NONE;
-use second::generate::{Source, job};
+use second::generate::job;
 use second::machine::{BINDINGS, CELLS, FRAMES, FUNCTIONS, KEYS, PAIRS};
 use second::observe::observe;
 use second::{Expr, Outcome, Rooms, desk, read, to_hex};
@@ -50,7 +50,7 @@ fn coverage(count: u64, seed: u64) -> ExitCode {
             Err(refusal) => format!("refused {:2}", refusal.number),
         };
         reach(format!("verdict {verdict}"));
-        reach(format!("source {source:?} {}", if seen.verdict.is_ok() { "accepted" } else { "refused" }));
+        reach(format!("source {source:?} {verdict}"));
         if seen.verdict.is_ok()
             && let Ok(job) = read(&job)
         {

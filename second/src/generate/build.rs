@@ -351,7 +351,7 @@ impl<'r> Builder<'r> {
 
     fn host_key(&mut self) -> u8 {
         let names: Vec<u8> = bits(self.names.host() | 2).collect();
-        if self.rng.chance(60) { 0 } else { self.rng.pick(&names) }
+        if self.rng.chance(40) { 0 } else { self.rng.pick(&names) }
     }
 
     fn random_host(&mut self) -> Option<Node> {
@@ -476,11 +476,11 @@ impl<'r> Builder<'r> {
                 self.test(node, fuel)
             }
             12 => {
-                let node = self.any(fuel);
+                let node = self.keyed(fuel);
                 self.limit(node)
             }
             13 => {
-                let node = self.any(fuel);
+                let node = self.keyed(fuel);
                 self.grant(node)
             }
             14..17 => self.new_key(fuel),
@@ -489,6 +489,16 @@ impl<'r> Builder<'r> {
                 self.associate(node)
             }
         }
+    }
+
+    /// An expression that mostly has an effect.
+    fn keyed(&mut self, fuel: usize) -> Node {
+        let node = self.any(fuel);
+        if self.of(node).effect != 0 {
+            return node;
+        }
+        let name = self.some_name();
+        self.put_to_use(name, fuel).unwrap_or(node)
     }
 
     fn function(&mut self, fuel: usize) -> Option<Node> {
@@ -607,8 +617,10 @@ impl<'r> Builder<'r> {
 
     fn limit(&mut self, body: Node) -> Option<Node> {
         let mut names = Vec::new();
+        // Now and then a limit whose keys need not reach.
+        let careless = self.of(body).effect != 0 && self.rng.chance(15);
         for name in bits(self.of(body).effect) {
-            let mut above = name;
+            let mut above = if careless { self.some_name() } else { name };
             while above != 1 && self.rng.chance(30) {
                 above = self.names.upper(above);
             }
@@ -624,7 +636,17 @@ impl<'r> Builder<'r> {
         for (place, &name) in names.iter().enumerate() {
             keys[place] = self.key(name, false)?;
         }
-        self.add(Expr::Limit(names.len() as u8, keys, body))
+        if careless {
+            names.truncate(self.rng.below(5));
+            keys[names.len()..].fill(UNUSED);
+        }
+        let expr = Expr::Limit(names.len() as u8, keys, body);
+        if careless {
+            let Made { ty, effect, .. } = *self.of(body);
+            self.nodes.push(Made { expr, ty, effect });
+            return Some(self.nodes.len() as Node - 1);
+        }
+        self.add(expr)
     }
 
     fn grant(&mut self, body: Node) -> Option<Node> {
@@ -672,32 +694,40 @@ impl<'r> Builder<'r> {
             return self.any(fuel);
         }
         let name = 63 - (self.scope.leading_zeros() as u8);
-        let used = |b: &mut Self| {
-            let kind = b.rng.pick(&[Kind::Number, Kind::Cell, Kind::Function]);
-            let value = b.of_kind(kind, fuel)?;
-            let key = b.key(name, false)?;
-            let keyed = b.add(Expr::Associate(value, key))?;
-            let used = match b.shape(keyed) {
-                Shape::Number => {
-                    let one = b.some_number();
-                    b.add(Expr::Sum(keyed, one))?
-                }
-                Shape::Cell(_) => b.add(Expr::Read(keyed))?,
-                Shape::Function(from, ..) => {
-                    let argument = b.of_type(from, 0)?;
-                    b.add(Expr::Apply(keyed, argument))?
-                }
-                _ => keyed,
-            };
-            if b.rng.chance(50) { b.grant(used) } else { Some(used) }
+        let used = self.put_to_use(name, fuel);
+        let granted = match used {
+            Some(used) if self.rng.chance(50) => self.grant(used),
+            used => used,
         };
-        match used(self) {
+        match granted {
             Some(node) => node,
             None => self.any(fuel),
         }
     }
 
-    /// A 3E around what `build` gives; its own type if that may leave the scope, else a number.
+    /// Something associated with a name and put to use.
+    fn put_to_use(&mut self, name: u8, fuel: usize) -> Option<Node> {
+        let kind = self.rng.pick(&[Kind::Number, Kind::Pair, Kind::Cell, Kind::Function]);
+        let value = self.of_kind(kind, fuel)?;
+        let key = self.key(name, false)?;
+        let keyed = self.add(Expr::Associate(value, key))?;
+        match self.shape(keyed) {
+            Shape::Number => {
+                let one = self.some_number();
+                self.add(Expr::Sum(keyed, one))
+            }
+            Shape::Pair(..) => self.add(Expr::Part(keyed, 1)),
+            Shape::Cell(_) => self.add(Expr::Read(keyed)),
+            Shape::Function(from, ..) => {
+                let argument = self.of_type(from, 0)?;
+                self.add(Expr::Apply(keyed, argument))
+            }
+            _ => Some(keyed),
+        }
+    }
+
+    /// A 3E around what `build` gives: with a type above its own if that may leave the scope, else
+    /// with a number beside it.
     fn key_around(&mut self, build: impl FnOnce(&mut Self) -> Option<Node>) -> Option<Node> {
         if self.names.count() >= 60 {
             return None;

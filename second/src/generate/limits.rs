@@ -8,7 +8,7 @@ use crate::read::write;
 /// A job at a limit, or one past it, or near a condition of the reader or of scopes.
 pub fn job(rng: &mut Rng) -> Vec<u8> {
     let past = rng.below(2);
-    match rng.below(14) {
+    match rng.below(18) {
         0 => repeated(rng, &[], &[0x01, 1], &[0x01, 0], 62 + past),
         1 => repeated(rng, &[], &[0x10, 0], &[0x10, 77], 256 + past),
         2 => {
@@ -36,6 +36,7 @@ pub fn job(rng: &mut Rng) -> Vec<u8> {
         9 => write(&heavy(40)),
         10 => host_values(rng),
         11 => full(rng),
+        12..16 => write(&brink(rng)),
         _ => write(&scopes(rng)),
     }
 }
@@ -160,41 +161,128 @@ pub fn ladder(depth: usize, applies: usize, shape: usize) -> Job {
     }
 }
 
-/// A loop that works out a number of differences in each turn.
-pub fn heavy(differences: usize) -> Job {
-    let types = vec![
+/// The variables of a loop: its counter, the cell that holds it, and one more.
+const COUNTER: u8 = 1;
+const HOLDER: u8 = 2;
+const OTHER: u8 = 3;
+
+/// The first types of a loop's job.
+fn loop_types() -> Vec<Type> {
+    vec![
         number(0),
         Type::unkeyed(Shape::Function(0, 0, 0)),
         Type::unkeyed(Shape::Cell(1)),
-    ];
-    let (n, c, x) = (0, 1, 2);
+    ]
+}
+
+/// A cell holds a function that reads the cell and calls what it finds there, some turns long. The
+/// expression `load`, a number, is worked out in each turn.
+fn looped(e: &mut Exprs, load: u16, turns: u32) -> u16 {
+    let (one, also_one) = (e.number(1), e.number(1));
+    let step = e.add(Expr::Test(load, one, also_one, 0));
+    let counter = e.variable(COUNTER);
+    let less = e.add(Expr::Difference(counter, step));
+    let held = e.variable(HOLDER);
+    let itself = e.add(Expr::Read(held));
+    let again = e.add(Expr::Apply(itself, less));
+    let (tested, base) = (e.variable(COUNTER), e.number(3));
+    let body = e.add(Expr::Test(tested, again, base, 0));
+    let function = e.add(Expr::Function(COUNTER, 0, body));
+    let held = e.variable(HOLDER);
+    let assigned = e.add(Expr::Assign(held, function));
+    let turns = e.number(turns);
+    let run = e.add(Expr::Apply(assigned, turns));
+    let outer = e.add(Expr::Function(HOLDER, 2, run));
+    let nothing = e.number(0);
+    let first = e.add(Expr::Function(OTHER, 0, nothing));
+    let cell = e.add(Expr::NewCell(1, first));
+    e.add(Expr::Apply(outer, cell))
+}
+
+/// A loop that works out a number of differences in each turn.
+pub fn heavy(differences: usize) -> Job {
     let mut e = Exprs(Vec::new());
     let mut load = e.number(7);
     for _ in 0..differences {
-        let other = e.variable(n);
+        let other = e.variable(COUNTER);
         load = e.add(Expr::Difference(load, other));
     }
-    let (one, also_one) = (e.number(1), e.number(1));
-    let step = e.add(Expr::Test(load, one, also_one, 0));
-    let counter = e.variable(n);
-    let less = e.add(Expr::Difference(counter, step));
-    let held = e.variable(c);
-    let itself = e.add(Expr::Read(held));
-    let again = e.add(Expr::Apply(itself, less));
-    let (tested, base) = (e.variable(n), e.number(3));
-    let body = e.add(Expr::Test(tested, again, base, 0));
-    let looped = e.add(Expr::Function(n, 0, body));
-    let held = e.variable(c);
-    let assigned = e.add(Expr::Assign(held, looped));
-    let count = e.number(5000);
-    let run = e.add(Expr::Apply(assigned, count));
-    let outer = e.add(Expr::Function(c, 2, run));
-    let nothing = e.number(0);
-    let first = e.add(Expr::Function(x, 0, nothing));
-    let cell = e.add(Expr::NewCell(1, first));
-    e.add(Expr::Apply(outer, cell));
+    looped(&mut e, load, 5000);
     Job {
+        types: loop_types(),
+        exprs: e.0,
+        ..Job::default()
+    }
+}
+
+/// A loop that leaves one kind of room nearly or just full, and then an act that needs room or a
+/// key.
+fn brink(rng: &mut Rng) -> Job {
+    let mut names = Names::default();
+    names.declare(1, true);
+    names.declare(1, false);
+    names.declare(2, false);
+    let mut types = loop_types();
+    types.push(Type {
+        key: 2,
+        shape: Shape::Limit(2),
+    });
+    let mut e = Exprs(Vec::new());
+    let (load, turns) = match rng.below(5) {
+        0 => (e.number(0), 1020),
+        1 => {
+            let content = e.number(1);
+            let cell = e.add(Expr::NewCell(0, content));
+            (e.add(Expr::Read(cell)), 255)
+        }
+        2 => {
+            let (a, b) = (e.number(1), e.number(0));
+            let pair = e.add(Expr::Pair(a, b));
+            (e.add(Expr::Part(pair, 2)), 512)
+        }
+        3 => {
+            let body = e.number(1);
+            let function = e.add(Expr::Function(4, 0, body));
+            let argument = e.number(2);
+            (e.add(Expr::Apply(function, argument)), 509)
+        }
+        _ => {
+            let (top, body) = (e.add(Expr::Top), e.number(1));
+            (e.add(Expr::NewKey(5, 3, top, body, 0)), 125)
+        }
+    };
+    let short = rng.pick(&[0, 0, 0, 1, 2]);
+    let run = looped(&mut e, load, turns - short);
+    let act = match rng.below(6) {
+        0 => {
+            let content = e.number(1);
+            let cell = e.add(Expr::NewCell(0, content));
+            e.add(Expr::Read(cell))
+        }
+        1 => {
+            let (a, b) = (e.number(1), e.number(0));
+            let pair = e.add(Expr::Pair(a, b));
+            e.add(Expr::Part(pair, 1))
+        }
+        2 | 3 => {
+            let body = e.number(1);
+            let function = e.add(Expr::Function(6, 0, body));
+            let top = e.add(Expr::Top);
+            let keyed = e.add(Expr::Associate(function, top));
+            let argument = e.number(2);
+            e.add(Expr::Apply(keyed, argument))
+        }
+        _ => {
+            let (key, body) = (e.variable(0), e.number(1));
+            e.add(Expr::NewKey(7, 4, key, body, 0))
+        }
+    };
+    e.add(Expr::Sum(run, act));
+    Job {
+        names,
         types,
+        hosts: vec![HostValue { ty: 3, number: 0 }],
+        rights: rng.pick(&[0, 2, 2, 4]),
         exprs: e.0,
         ..Job::default()
     }
@@ -216,7 +304,8 @@ fn host_values(rng: &mut Rng) -> Vec<u8> {
     let mut bytes = vec![0x01, 1, 0x02, 1];
     let mut name = |least: usize| (least + rng.below(4 - least)) as u8;
     bytes.extend([0x10, name(0) & 2, 0x12, name(0), 0, 0]);
-    bytes.extend([0x14, name(0), name(1), 0x15, name(0), name(1)]);
+    let least = name(0).min(1) as usize;
+    bytes.extend([0x14, name(0), name(least), 0x15, name(0), name(1)]);
     bytes.extend([0x11, 0, 0, 0, 0, 0]);
     for _ in 0..1 + rng.below(2) {
         let ty = if rng.chance(90) { 1 + rng.below(3) } else { rng.below(6) } as u8;

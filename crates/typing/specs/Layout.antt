@@ -1,0 +1,148 @@
+-- The type table of an accepted job: "the declared types, then for each 3E in order its limit key, grant key and pair, then for each expression in order one
+-- entry where it makes a type (30, 31, 33, 35, 37, 3A, 3F). The rest point at an entry already there."
+use Prim.Native.Nat.{ℕ, zero, suc, _+_}
+use mathlib.Core.Bool.{Bool, true, false, cond}
+use mathlib.Core.List.{List, [], _∷_, _++_}
+use mathlib.Core.Option.{Option, none, some}
+use lib.ListN.{length, getD, getElem?}
+use lib.Dec.{eqb}
+use Rattle.order.specs.Effects.{Effect}
+use Rattle.syntax.specs.Types.{TypeEntry, e-num, e-pair, e-cell, e-fn, e-lim, e-grant}
+use Rattle.syntax.specs.Commands.{Cmd, c-num, c-top, c-var, c-pair, c-part, c-fn, c-app, c-new, c-asg, c-read, c-sum, c-test, c-lim, c-grant, c-newkey, c-assoc}
+use Rattle.syntax.specs.Job.{HostValue, Job}
+
+-- the local names of the 3E's, in order
+unfoldable pub newKeys : List (Cmd ℕ) → List ℕ
+newKeys [] = []
+newKeys (c-num n ∷ l) = newKeys l
+newKeys (c-top ∷ l) = newKeys l
+newKeys (c-var v ∷ l) = newKeys l
+newKeys (c-pair a b ∷ l) = newKeys l
+newKeys (c-part a i ∷ l) = newKeys l
+newKeys (c-fn v t b ∷ l) = newKeys l
+newKeys (c-app a b ∷ l) = newKeys l
+newKeys (c-new t a ∷ l) = newKeys l
+newKeys (c-asg a b ∷ l) = newKeys l
+newKeys (c-read a ∷ l) = newKeys l
+newKeys (c-sum i a b ∷ l) = newKeys l
+newKeys (c-test a b c t ∷ l) = newKeys l
+newKeys (c-lim ks b ∷ l) = newKeys l
+newKeys (c-grant a b ∷ l) = newKeys l
+newKeys (c-newkey v r a b t ∷ l) = r ∷ newKeys l
+newKeys (c-assoc a b ∷ l) = newKeys l
+
+-- three entries for each, when n entries stand before
+unfoldable pub keyEntries : ℕ → List ℕ → List TypeEntry
+keyEntries n [] = []
+keyEntries n (r ∷ l) = e-lim 0 r ∷ e-grant 0 r ∷ e-pair 0 n (suc n) ∷ keyEntries (3 + n) l
+
+-- a variable and the entry of its type
+pub record Typing : Type 0 where
+  pub var : ℕ
+  pub entry : ℕ
+
+abbrev pub typing : ℕ → ℕ → Typing
+typing v i = record { var = v; entry = i }
+
+-- host values, from variable v on
+unfoldable pub hostVars : ℕ → List (HostValue ℕ) → List Typing
+hostVars v [] = []
+hostVars v (h ∷ hs) = typing v (h .ty) ∷ hostVars (suc v) hs
+
+-- bound variables; the next 3E's entries start at n
+unfoldable pub boundVars : ℕ → List (Cmd ℕ) → List Typing
+boundVars n [] = []
+boundVars n (c-num x ∷ l) = boundVars n l
+boundVars n (c-top ∷ l) = boundVars n l
+boundVars n (c-var v ∷ l) = boundVars n l
+boundVars n (c-pair a b ∷ l) = boundVars n l
+boundVars n (c-part a i ∷ l) = boundVars n l
+boundVars n (c-fn v t b ∷ l) = typing v t ∷ boundVars n l
+boundVars n (c-app a b ∷ l) = boundVars n l
+boundVars n (c-new t a ∷ l) = boundVars n l
+boundVars n (c-asg a b ∷ l) = boundVars n l
+boundVars n (c-read a ∷ l) = boundVars n l
+boundVars n (c-sum i a b ∷ l) = boundVars n l
+boundVars n (c-test a b c t ∷ l) = boundVars n l
+boundVars n (c-lim ks b ∷ l) = boundVars n l
+boundVars n (c-grant a b ∷ l) = boundVars n l
+boundVars n (c-newkey v r a b t ∷ l) = typing v (2 + n) ∷ boundVars (3 + n) l
+boundVars n (c-assoc a b ∷ l) = boundVars n l
+
+unfoldable pub entryOf : List Typing → ℕ → ℕ
+entryOf [] v = 0
+entryOf (x ∷ l) v = cond (eqb v (x .var)) (x .entry) (entryOf l v)
+
+unfoldable pub varEntry : Job → ℕ → ℕ
+varEntry J v = entryOf (boundVars (length (J .types)) (J .cmds) ++ hostVars 0 (J .values)) v
+
+-- the first part of an entry: of a pair, of a cell, the argument of a function, a key's own name
+unfoldable pub firstPart : Option TypeEntry → ℕ
+firstPart none = 0
+firstPart (some (e-num q)) = 0
+firstPart (some (e-pair q a b)) = a
+firstPart (some (e-cell q a)) = a
+firstPart (some (e-fn q a b s)) = a
+firstPart (some (e-lim q r)) = r
+firstPart (some (e-grant q r)) = r
+
+-- the second: of a pair, the result of a function
+unfoldable pub secondPart : Option TypeEntry → ℕ
+secondPart none = 0
+secondPart (some (e-num q)) = 0
+secondPart (some (e-pair q a b)) = b
+secondPart (some (e-cell q a)) = 0
+secondPart (some (e-fn q a b s)) = b
+secondPart (some (e-lim q r)) = 0
+secondPart (some (e-grant q r)) = 0
+
+-- an entry with another key
+unfoldable pub rekeyed : ℕ → Option TypeEntry → TypeEntry
+rekeyed k none = e-num k
+rekeyed k (some (e-num q)) = e-num k
+rekeyed k (some (e-pair q a b)) = e-pair k a b
+rekeyed k (some (e-cell q a)) = e-cell k a
+rekeyed k (some (e-fn q a b s)) = e-fn k a b s
+rekeyed k (some (e-lim q r)) = e-lim k r
+rekeyed k (some (e-grant q r)) = e-grant k r
+
+-- an expression's type: a new entry, or one already there
+pub data Points : Type 0 where
+  new : TypeEntry → Points
+  old : ℕ → Points
+
+-- var: the entry of each variable; eff: the effect of each expression; T: the entries so far; of: the entry of each expression so far
+unfoldable pub pointsTo : (ℕ → ℕ) → (ℕ → Effect) → List TypeEntry → (ℕ → ℕ) → Cmd ℕ → Points
+pointsTo var eff T of (c-num n) = new (e-num 0)
+pointsTo var eff T of c-top = new (e-lim 0 1)
+pointsTo var eff T of (c-var v) = old (var v)
+pointsTo var eff T of (c-pair a b) = new (e-pair 0 (of a) (of b))
+pointsTo var eff T of (c-part a true) = old (firstPart (getElem? T (of a)))
+pointsTo var eff T of (c-part a false) = old (secondPart (getElem? T (of a)))
+pointsTo var eff T of (c-fn v t b) = new (e-fn 0 t (of b) (eff b))
+pointsTo var eff T of (c-app f a) = old (secondPart (getElem? T (of f)))
+pointsTo var eff T of (c-new t a) = new (e-cell 0 t)
+pointsTo var eff T of (c-asg a b) = old (firstPart (getElem? T (of a)))
+pointsTo var eff T of (c-read a) = old (firstPart (getElem? T (of a)))
+pointsTo var eff T of (c-sum i a b) = new (e-num 0)
+pointsTo var eff T of (c-test a b c t) = old t
+pointsTo var eff T of (c-lim ks b) = old (of b)
+pointsTo var eff T of (c-grant a b) = old (of b)
+pointsTo var eff T of (c-newkey v r a b t) = old t
+pointsTo var eff T of (c-assoc a b) = new (rekeyed (firstPart (getElem? T (of b))) (getElem? T (of a)))
+
+-- the entries, and the entry of each expression
+pub record Layout : Type 0 where
+  pub entries : List TypeEntry
+  pub of : List ℕ
+
+unfoldable pub point : Points → Layout → Layout
+point (new e) L = record { entries = L .entries ++ (e ∷ []); of = L .of ++ (length (L .entries) ∷ []) }
+point (old i) L = record { entries = L .entries; of = L .of ++ (i ∷ []) }
+
+unfoldable pub lay : (ℕ → ℕ) → (ℕ → Effect) → List (Cmd ℕ) → Layout → Layout
+lay var eff [] L = L
+lay var eff (k ∷ l) L = lay var eff l (point (pointsTo var eff (L .entries) (λ e. getD (L .of) e 0) k) L)
+
+unfoldable pub layoutOf : Job → (ℕ → Effect) → Layout
+layoutOf J eff = lay (varEntry J) eff (J .cmds) (record { entries = J .types ++ keyEntries (length (J .types)) (newKeys (J .cmds)); of = [] })
