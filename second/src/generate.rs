@@ -69,7 +69,7 @@ pub fn job(seed: u64) -> (Source, Vec<u8>) {
             }
             (Source::Changed, write(&job))
         }
-        72..92 => {
+        72..90 => {
             let mut bytes = write(&typed(rng));
             for _ in 0..1 + rng.below(2) {
                 damage::bytes(rng, &mut bytes);

@@ -505,7 +505,10 @@ impl<const FAULT: u32> MachineWith<FAULT> {
                 Ok(Control::Enter(body))
             }
             Code::NewKey(_, body) => {
-                self.test(enabled, Kind::Limit, value)?;
+                match FAULT {
+                    fault::ROOM_BEFORE_KEYS if self.rooms.keys == KEYS => kind(Kind::Limit, value)?,
+                    _ => self.test(enabled, Kind::Limit, value)?,
+                }
                 self.scope = self.open(scope, body, value)?;
                 self.enabled = enabled;
                 Ok(Control::Enter(body))

@@ -4,4 +4,5 @@ pub mod Operands
 pub mod Job
 pub mod Reading
 pub mod Tree
+pub mod Words
 pub mod WellRead

@@ -3,3 +3,4 @@ pub mod Rules
 pub mod Least
 pub mod Verdict
 pub mod Layout
+pub mod Tables

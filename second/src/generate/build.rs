@@ -31,6 +31,8 @@ struct Builder<'r> {
     /// Variables and names in scope.
     variables: Vec<(u8, Ty)>,
     scope: u64,
+    /// Whether subtypes are not taken strictly.
+    lax: bool,
 }
 
 /// Builds a job; the rights are mostly those it needs.
@@ -63,6 +65,7 @@ impl<'r> Builder<'r> {
             }
         }
         let scope = names.host() | 2;
+        let lax = rng.chance(12);
         let mut builder = Builder {
             rng,
             names,
@@ -73,6 +76,7 @@ impl<'r> Builder<'r> {
             locals: 0,
             variables: Vec::new(),
             scope,
+            lax,
         };
         for _ in 0..builder.rng.below(5) {
             builder.random_host();
@@ -102,20 +106,24 @@ impl<'r> Builder<'r> {
     /// Every name in a type.
     fn mentions(&self, ty: Ty) -> u64 {
         let Type { key, shape } = self.at(ty);
-        1 << key
-            | match shape {
-                Shape::Number => 0,
-                Shape::Pair(a, b) => self.mentions(a) | self.mentions(b),
-                Shape::Cell(a) => self.mentions(a),
-                Shape::Function(a, b, effect) => self.mentions(a) | self.mentions(b) | effect,
-                Shape::Limit(name) | Shape::Grant(name) => 1 << name,
-            }
+        1 << key | self.shape_mentions(shape)
     }
 
+    fn shape_mentions(&self, shape: Shape) -> u64 {
+        match shape {
+            Shape::Number => 0,
+            Shape::Pair(a, b) => self.mentions(a) | self.mentions(b),
+            Shape::Cell(a) => self.mentions(a),
+            Shape::Function(a, b, effect) => self.mentions(a) | self.mentions(b) | effect,
+            Shape::Limit(name) | Shape::Grant(name) => 1 << name,
+        }
+    }
+
+    /// Whether one type is below another; a lax builder takes much that only comes near.
     fn subtype(&self, a: Ty, b: Ty) -> bool {
         let (x, y) = (self.at(a), self.at(b));
         a == b
-            || self.names.below(x.key, y.key)
+            || (self.lax || self.names.below(x.key, y.key))
                 && match (x.shape, y.shape) {
                     (Shape::Pair(a1, a2), Shape::Pair(b1, b2)) => {
                         self.subtype(a1, b1) && self.subtype(a2, b2)
@@ -123,7 +131,13 @@ impl<'r> Builder<'r> {
                     (Shape::Function(a1, a2, ae), Shape::Function(b1, b2, be)) => {
                         self.subtype(b1, a1)
                             && self.subtype(a2, b2)
-                            && self.names.set_below(ae, be)
+                            && (self.lax || self.names.set_below(ae, be))
+                    }
+                    (Shape::Cell(a), Shape::Cell(b)) if self.lax => self.subtype(a, b),
+                    (Shape::Limit(_), Shape::Limit(_)) | (Shape::Grant(_), Shape::Grant(_))
+                        if self.lax =>
+                    {
+                        true
                     }
                     (a, b) => a == b,
                 }
@@ -154,7 +168,7 @@ impl<'r> Builder<'r> {
                 let effect = self.names.reduce(wide);
                 Shape::Function(self.widen(from, avoid, !up)?, self.widen(to, avoid, up)?, effect)
             }
-            _ if self.mentions(ty) & avoid & !(1 << self.at(ty).key) == 0 => shape,
+            _ if self.shape_mentions(shape) & avoid == 0 => shape,
             _ => return None,
         };
         Some(self.ty(key, shape))
@@ -555,12 +569,17 @@ impl<'r> Builder<'r> {
                 let (a, b) = (self.of_type(a, less)?, self.of_type(b, less)?);
                 self.add(Expr::Pair(a, b))?
             }
-            Shape::Cell(content) => {
+            Shape::Cell(mut content) => {
+                if self.lax {
+                    let up = self.rng.chance(50);
+                    content = self.widen(content, 0, up)?;
+                }
                 let value = self.of_type(content, less)?;
                 self.add(Expr::NewCell(content, value))?
             }
             Shape::Function(from, to, effect) => {
-                let from = self.widen(from, 0, true)?;
+                let up = !self.lax || self.rng.chance(50);
+                let from = self.widen(from, 0, up)?;
                 let v = self.new_variable()?;
                 let mut body = self.under(v, from, |b| b.of_type(to, less))?;
                 if !self.names.set_below(self.of(body).effect, effect) {
@@ -568,8 +587,10 @@ impl<'r> Builder<'r> {
                 }
                 self.add(Expr::Function(v, from, body))?
             }
-            Shape::Limit(name) => self.key(name, false)?,
-            Shape::Grant(name) => self.key(name, true)?,
+            Shape::Limit(name) | Shape::Grant(name) => {
+                let name = if self.lax { self.some_name() } else { name };
+                self.key(name, matches!(shape, Shape::Grant(_)))?
+            }
         };
         let node = if fuel > 0 { self.wrapped(node, less) } else { node };
         if self.subtype(self.of(node).ty, ty) {

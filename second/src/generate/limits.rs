@@ -228,7 +228,8 @@ fn brink(rng: &mut Rng) -> Job {
         shape: Shape::Limit(2),
     });
     let mut e = Exprs(Vec::new());
-    let (load, turns) = match rng.below(5) {
+    let room = rng.below(5);
+    let (load, turns) = match room {
         0 => (e.number(0), 1020),
         1 => {
             let content = e.number(1);
@@ -253,18 +254,18 @@ fn brink(rng: &mut Rng) -> Job {
     };
     let short = rng.pick(&[0, 0, 0, 1, 2]);
     let run = looped(&mut e, load, turns - short);
-    let act = match rng.below(6) {
-        0 => {
+    let act = match if rng.chance(60) { room } else { rng.below(5) } {
+        1 => {
             let content = e.number(1);
             let cell = e.add(Expr::NewCell(0, content));
             e.add(Expr::Read(cell))
         }
-        1 => {
+        2 => {
             let (a, b) = (e.number(1), e.number(0));
             let pair = e.add(Expr::Pair(a, b));
             e.add(Expr::Part(pair, 1))
         }
-        2 | 3 => {
+        0 | 3 => {
             let body = e.number(1);
             let function = e.add(Expr::Function(6, 0, body));
             let top = e.add(Expr::Top);

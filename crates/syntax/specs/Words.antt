@@ -1,0 +1,128 @@
+-- A job's tables as numbers: what the lent tables hold of names, types, host values and expressions.
+use Prim.Native.Nat.{ℕ, _+_, _-_, _*_, _/_, _%_}
+use mathlib.Core.Bool.{Bool, true, false, cond}
+use mathlib.Core.List.{List, [], _∷_, _++_, map, flatMap}
+use lib.ListN.{length, replicate, getD, take}
+use lib.Dec.{eqb}
+use Rattle.syntax.specs.Types.{TypeEntry, e-num, e-pair, e-cell, e-fn, e-lim, e-grant}
+use Rattle.syntax.specs.Commands.{Cmd, c-num, c-top, c-var, c-pair, c-part, c-fn, c-app, c-new, c-asg, c-read, c-sum, c-test, c-lim, c-grant, c-newkey, c-assoc}
+use Rattle.syntax.specs.Job.{Name, HostValue, Job}
+
+-- the upper name, and 1 for a host name or 2 for a local one
+unfoldable pub nameWord : Name → ℕ
+nameWord d = d .upper + 256 * cond (d .host) 1 2
+
+-- command byte, key, first and second part
+abbrev pub typeBits : ℕ → ℕ → ℕ → ℕ → ℕ
+typeBits byte q a b = byte + 256 * q + 65536 * a + 4294967296 * b
+
+unfoldable pub typeWord : TypeEntry → ℕ
+typeWord (e-num q) = typeBits 0x10 q 0 0
+typeWord (e-pair q a b) = typeBits 0x11 q a b
+typeWord (e-cell q a) = typeBits 0x12 q a 0
+typeWord (e-fn q a b s) = typeBits 0x13 q a b
+typeWord (e-lim q r) = typeBits 0x14 q r 0
+typeWord (e-grant q r) = typeBits 0x15 q r 0
+
+-- the set of a function's effect stands in a table of its own
+unfoldable pub setWord : TypeEntry → ℕ
+setWord (e-num q) = 0
+setWord (e-pair q a b) = 0
+setWord (e-cell q a) = 0
+setWord (e-fn q a b s) = s
+setWord (e-lim q r) = 0
+setWord (e-grant q r) = 0
+
+-- command byte, type, starting number
+unfoldable pub valueWord : HostValue ℕ → ℕ
+valueWord h = 0x20 + 256 * (h .ty) + 16777216 * (h .init)
+
+-- an expression's command byte, and its operands of one byte or four
+abbrev pub headBits : ℕ → ℕ → ℕ
+headBits byte x = byte + 256 * x
+
+unfoldable pub headWord : Cmd ℕ → ℕ
+headWord (c-num n) = headBits 0x30 n
+headWord c-top = headBits 0x31 0
+headWord (c-var v) = headBits 0x32 v
+headWord (c-pair a b) = headBits 0x33 0
+headWord (c-part a i) = headBits 0x34 (cond i 1 2)
+headWord (c-fn v t b) = headBits 0x35 v
+headWord (c-app a b) = headBits 0x36 0
+headWord (c-new t a) = headBits 0x37 0
+headWord (c-asg a b) = headBits 0x38 0
+headWord (c-read a) = headBits 0x39 0
+headWord (c-sum i a b) = headBits 0x3A (cond i 0 1)
+headWord (c-test a b c t) = headBits 0x3B 0
+headWord (c-lim ks b) = headBits 0x3C (length ks)
+headWord (c-grant a b) = headBits 0x3D 0
+headWord (c-newkey v r a b t) = headBits 0x3E (v + 256 * r)
+headWord (c-assoc a b) = headBits 0x3F 0
+
+-- a list filled up to n entries
+unfoldable pub filled : ℕ → ℕ → List ℕ → List ℕ
+filled n x l = l ++ replicate (n - length l) x
+
+-- its operands of two bytes, five places: expressions in the order written, then the type; of 3C four keys, then the body
+unfoldable pub slots : Cmd ℕ → List ℕ
+slots (c-num n) = filled 5 0 []
+slots c-top = filled 5 0 []
+slots (c-var v) = filled 5 0 []
+slots (c-pair a b) = filled 5 0 (a ∷ b ∷ [])
+slots (c-part a i) = filled 5 0 (a ∷ [])
+slots (c-fn v t b) = filled 5 0 (b ∷ t ∷ [])
+slots (c-app a b) = filled 5 0 (a ∷ b ∷ [])
+slots (c-new t a) = filled 5 0 (a ∷ t ∷ [])
+slots (c-asg a b) = filled 5 0 (a ∷ b ∷ [])
+slots (c-read a) = filled 5 0 (a ∷ [])
+slots (c-sum i a b) = filled 5 0 (a ∷ b ∷ [])
+slots (c-test a b c t) = filled 5 0 (a ∷ b ∷ c ∷ t ∷ [])
+slots (c-lim ks b) = filled 4 0xFFFF ks ++ (b ∷ [])
+slots (c-grant a b) = filled 5 0 (a ∷ b ∷ [])
+slots (c-newkey v r a b t) = filled 5 0 (a ∷ b ∷ t ∷ [])
+slots (c-assoc a b) = filled 5 0 (a ∷ b ∷ [])
+
+-- the tables' used entries; names 0 and 1 are not declared by the job
+abbrev pub nameWords : Job → List ℕ
+nameWords J = 0 ∷ 0 ∷ map nameWord (J .names)
+
+abbrev pub typeWords : List TypeEntry → List ℕ
+typeWords T = map typeWord T
+
+abbrev pub setWords : List TypeEntry → List ℕ
+setWords T = map setWord T
+
+abbrev pub valueWords : Job → List ℕ
+valueWords J = map valueWord (J .values)
+
+abbrev pub headWords : Job → List ℕ
+headWords J = map headWord (J .cmds)
+
+abbrev pub slotWords : Job → List ℕ
+slotWords J = flatMap slots (J .cmds)
+
+-- the expression that a head and five places stand for; a head with no expression's command byte stands for a number
+unfoldable pub decode : ℕ → ℕ → ℕ → ℕ → ℕ → ℕ → ℕ → Cmd ℕ
+decode byte x a b c d e =
+    cond (eqb byte 0x31) c-top
+    (cond (eqb byte 0x32) (c-var (x % 256))
+    (cond (eqb byte 0x33) (c-pair a b)
+    (cond (eqb byte 0x34) (c-part a (eqb x 1))
+    (cond (eqb byte 0x35) (c-fn (x % 256) b a)
+    (cond (eqb byte 0x36) (c-app a b)
+    (cond (eqb byte 0x37) (c-new b a)
+    (cond (eqb byte 0x38) (c-asg a b)
+    (cond (eqb byte 0x39) (c-read a)
+    (cond (eqb byte 0x3A) (c-sum (eqb x 0) a b)
+    (cond (eqb byte 0x3B) (c-test a b c d)
+    (cond (eqb byte 0x3C) (c-lim (take x (a ∷ b ∷ c ∷ d ∷ [])) e)
+    (cond (eqb byte 0x3D) (c-grant a b)
+    (cond (eqb byte 0x3E) (c-newkey (x % 256) (x / 256 % 256) a b c)
+    (cond (eqb byte 0x3F) (c-assoc a b)
+    (c-num x)))))))))))))))
+
+-- expression i of the tables
+unfoldable pub codeIn : List ℕ → List ℕ → ℕ → Cmd ℕ
+codeIn heads slots i =
+    decode (getD heads i 0 % 256) (getD heads i 0 / 256 % 4294967296)
+    (getD slots (i * 5) 0) (getD slots (i * 5 + 1) 0) (getD slots (i * 5 + 2) 0) (getD slots (i * 5 + 3) 0) (getD slots (i * 5 + 4) 0)
