@@ -6,7 +6,6 @@ use mathlib.Core.Option.{Option, none, some}
 use lib.ListN.{length, getElem?, set}
 use lib.Dec.{eqb, ltb}
 use Rattle.order.specs.Bools.{_and_}
-use Rattle.order.specs.Sets.{setOf}
 use Rattle.syntax.specs.Commands.{Cmd, c-num, c-top, c-var, c-pair, c-part, c-fn, c-app, c-new, c-asg, c-read, c-sum, c-test, c-lim, c-grant, c-newkey, c-assoc}
 use Rattle.semantics.specs.Machine.{Kind, k-num, k-pair, k-fn, k-cell, k-lim, k-grant, Value, unkeyed, Two, Bind, b-var, b-name, Link, Closure, Frame, Control, enter, hand, Thread, Store, Machine}
 use Rattle.semantics.specs.Machine.{most-cells, most-keys, most-pairs, most-functions, most-frames, most-bindings}
@@ -179,11 +178,11 @@ touchAll [] m o = o
 touchAll (v ∷ vs) m o = touch (v .key) m (touchAll vs m o)
 
 unfoldable pub actLim : ℕ → List Value → Machine → Out
-actLim b vs m = limitKeys vs (λ js. touchAll vs m (go b (m .thread .env) (narrow (m .store .keys) (m .thread .on) (setOf js)) m))
+actLim b vs m = limitKeys vs (λ js. touchAll vs m (go b (m .thread .env) (narrow (m .store .keys) (m .thread .on) js) m))
 
 -- 3D
 unfoldable pub actGrant : ℕ → Value → Machine → Out
-actGrant b v m = onGrant (v .kind) (λ j. touch (v .key) m (go b (m .thread .env) (add j (m .thread .on)) m))
+actGrant b v m = onGrant (v .kind) (λ j. touch (v .key) m (go b (m .thread .env) (add (m .store .keys) j (m .thread .on)) m))
 
 -- 3E: "3E's new key lies below the one its operand stands for"; it "also makes a pair and a key"; its name and its variable are bound
 unfoldable pub newKey : ℕ → ℕ → ℕ → ℕ → Machine → Out

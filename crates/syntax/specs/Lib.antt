@@ -6,3 +6,4 @@ pub mod Reading
 pub mod Tree
 pub mod Words
 pub mod WellRead
+pub mod Formed

@@ -4,3 +4,4 @@ pub mod Least
 pub mod Verdict
 pub mod Layout
 pub mod Tables
+pub mod SubtypeLaws

@@ -11,7 +11,7 @@ pub fn tables(rng: &mut Rng, job: &mut Job) {
     let names = job.names.count();
     let name = rng.below(names) as u8;
     let expr = rng.below(job.exprs.len());
-    match rng.below(14) {
+    match rng.below(15) {
         0 | 1 => swap_operands(rng, job),
         2 => {
             if let Some(ty) = some(rng, &mut job.types) {
@@ -89,9 +89,15 @@ pub fn tables(rng: &mut Rng, job: &mut Job) {
                 *part = 3 - *part;
             }
         }
+        13 => {
+            // An operand that another expression may use too.
+            if let Some(operand) = some(rng, &mut references(&mut job.exprs[expr])) {
+                **operand = rng.below(expr) as u16;
+            }
+        }
         _ => {
             let count = job.types.len();
-            if let Some(ty) = some(rng, &mut job.types[..]) {
+            if let Some(ty) = some(rng, &mut job.types) {
                 let other = rng.below(count) as u16;
                 match &mut ty.shape {
                     Shape::Pair(a, b) | Shape::Function(a, b, _) => std::mem::swap(a, b),

@@ -8,7 +8,7 @@ use crate::read::write;
 /// A job at a limit, or one past it, or near a condition of the reader or of scopes.
 pub fn job(rng: &mut Rng) -> Vec<u8> {
     let past = rng.below(2);
-    match rng.below(18) {
+    match rng.below(20) {
         0 => repeated(rng, &[], &[0x01, 1], &[0x01, 0], 62 + past),
         1 => repeated(rng, &[], &[0x10, 0], &[0x10, 77], 256 + past),
         2 => {
@@ -37,6 +37,7 @@ pub fn job(rng: &mut Rng) -> Vec<u8> {
         10 => host_values(rng),
         11 => full(rng),
         12..16 => write(&brink(rng)),
+        16 | 17 => misplaced(rng),
         _ => write(&scopes(rng)),
     }
 }
@@ -369,6 +370,28 @@ fn full(rng: &mut Rng) -> Vec<u8> {
         ..Job::default()
     };
     write(&job)
+}
+
+/// A job cut off within or after a command that may stand out of its section.
+fn misplaced(rng: &mut Rng) -> Vec<u8> {
+    let commands: [&[u8]; 6] = [
+        &[0x01, 1],
+        &[0x10, 0],
+        &[0x20, 1, 0, 7, 0, 0, 0],
+        &END[..9],
+        &END[9..14],
+        &END[14..],
+    ];
+    let mut bytes = vec![0x01, 1, 0x10, 0, 0x12, 2, 0, 0];
+    for command in &commands[2..2 + rng.below(4)] {
+        bytes.extend(*command);
+    }
+    let command = rng.pick(&commands);
+    bytes.extend(&command[..1 + rng.below(command.len())]);
+    if rng.chance(30) {
+        bytes.extend(END);
+    }
+    bytes
 }
 
 /// Local names and variables in and out of their scopes.
