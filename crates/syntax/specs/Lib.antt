@@ -7,3 +7,5 @@ pub mod Tree
 pub mod Words
 pub mod WellRead
 pub mod Formed
+pub mod ReadLaws
+pub mod ReadFormed

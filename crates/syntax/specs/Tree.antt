@@ -134,12 +134,12 @@ unfoldable pub orElse : Option Refusal → Option Refusal → Option Refusal
 orElse none r = r
 orElse (some r) q = some r
 
+unfoldable pub refusedAt : ℕ → Option ℕ → Option Refusal
+refusedAt number none = none
+refusedAt number (some e) = some (record { number = number; place = e })
+
 unfoldable pub lowest : ℕ → (ℕ → Bool) → ℕ → Option Refusal
-lowest number p n = at (firstBad p 0 n)
-  where
-    at : Option ℕ → Option Refusal
-    at none = none
-    at (some e) = some (record { number = number; place = e })
+lowest number p n = refusedAt number (firstBad p 0 n)
 
 -- "each for all expressions", 8 before 9 before 10
 unfoldable pub treeRefusal : Src → Option Refusal

@@ -1,0 +1,123 @@
+-- Document 01's marked cases, "proved together of the rules as one table", and its example, whole.
+use mathlib.Core.Path.{_≡_, refl}
+use Prim.Native.Nat.{ℕ}
+use mathlib.Core.Bool.{Bool, true, false}
+use mathlib.Core.List.{List, [], _∷_, flatMap}
+use mathlib.Core.Option.{Option, none, some}
+use Rattle.order.specs.Bools as Bools
+use Rattle.order.specs.Order as Order
+use Rattle.order.specs.Sets as Sets
+use Rattle.order.specs.Effects as Effects
+use Rattle.syntax.specs.Types as Types
+use Rattle.syntax.specs.Commands as Commands
+use Rattle.syntax.specs.Operands as Operands
+use Rattle.syntax.specs.Job as Job
+use Rattle.syntax.specs.Reading as Reading
+use Rattle.syntax.specs.Tree as Tree
+use Rattle.typing.specs.Subtype as Subtype
+use Rattle.typing.specs.Least as Least
+use Rattle.typing.specs.Verdict as Verdict
+use Rattle.semantics.specs.Keys as Keys
+use Rattle.semantics.specs.Step as Step
+use Rattle.semantics.specs.Room as Room
+use Rattle.semantics.specs.Start as Start
+use Rattle.semantics.specs.Calls as Calls
+use Rattle.report.specs.Lines as Lines
+use Rattle.marked.specs.Jobs as Jobs
+
+-- "With names 2 under 1, and 3 and 4 under 2"
+abbrev up : List ℕ
+up = 0 ∷ 1 ∷ 1 ∷ 2 ∷ 2 ∷ []
+
+-- the lines as the paper prints them, in bytes:
+--   accepted 0000000000000004 number
+--   done 3 number 7
+abbrev exampleLines : List ℕ
+exampleLines =
+    0x61 ∷ 0x63 ∷ 0x63 ∷ 0x65 ∷ 0x70 ∷ 0x74 ∷ 0x65 ∷ 0x64 ∷ 0x20 ∷ 0x30 ∷ 0x30 ∷ 0x30 ∷ 0x30 ∷ 0x30 ∷ 0x30 ∷ 0x30 ∷ 0x30 ∷ 0x30 ∷ 0x30 ∷ 0x30 ∷ 0x30
+    ∷ 0x30 ∷ 0x30 ∷ 0x30 ∷ 0x34 ∷ 0x20 ∷ 0x6E ∷ 0x75 ∷ 0x6D ∷ 0x62 ∷ 0x65 ∷ 0x72 ∷ 0x0A ∷ 0x64 ∷ 0x6F ∷ 0x6E ∷ 0x65 ∷ 0x20 ∷ 0x33 ∷ 0x20 ∷ 0x6E
+    ∷ 0x75 ∷ 0x6D ∷ 0x62 ∷ 0x65 ∷ 0x72 ∷ 0x20 ∷ 0x37 ∷ 0x0A ∷ []
+
+--   refused 14 at 1
+abbrev refusedLine : List ℕ
+refusedLine =
+    0x72 ∷ 0x65 ∷ 0x66 ∷ 0x75 ∷ 0x73 ∷ 0x65 ∷ 0x64 ∷ 0x20 ∷ 0x31 ∷ 0x34 ∷ 0x20 ∷ 0x61 ∷ 0x74 ∷ 0x20 ∷ 0x31 ∷ 0x0A ∷ []
+
+--   accepted 0000000000000000 number
+--   done 3 number 5
+abbrev unkeyedLines : List ℕ
+unkeyedLines =
+    0x61 ∷ 0x63 ∷ 0x63 ∷ 0x65 ∷ 0x70 ∷ 0x74 ∷ 0x65 ∷ 0x64 ∷ 0x20 ∷ 0x30 ∷ 0x30 ∷ 0x30 ∷ 0x30 ∷ 0x30 ∷ 0x30 ∷ 0x30 ∷ 0x30 ∷ 0x30 ∷ 0x30 ∷ 0x30 ∷ 0x30
+    ∷ 0x30 ∷ 0x30 ∷ 0x30 ∷ 0x30 ∷ 0x20 ∷ 0x6E ∷ 0x75 ∷ 0x6D ∷ 0x62 ∷ 0x65 ∷ 0x72 ∷ 0x0A ∷ 0x64 ∷ 0x6F ∷ 0x6E ∷ 0x65 ∷ 0x20 ∷ 0x33 ∷ 0x20 ∷ 0x6E
+    ∷ 0x75 ∷ 0x6D ∷ 0x62 ∷ 0x65 ∷ 0x72 ∷ 0x20 ∷ 0x35 ∷ 0x0A ∷ []
+
+unfoldable pub isRead : Reading.Read → Bool
+isRead (Reading.refused r) = false
+isRead (Reading.read J) = true
+
+-- how a run of the job ends, "started anyway", and after how many steps
+pub record Told : Type 0 where
+  pub answer : Calls.Answer
+  pub count : ℕ
+
+unfoldable pub told : Calls.Ran → Told
+told r = record { answer = r .answer; count = r .count }
+
+unfoldable pub started : ℕ → Reading.Read → Option Told
+started n (Reading.refused r) = none
+started n (Reading.read J) = some (told (Calls.run (Operands.nth (J .cmds)) n 0 (Start.startOf (Job.sourceOf J))))
+
+pub record Marked : Type 0 where
+  -- {3} below {2}
+  pub below : Effects.effBelow up 8 4 ≡ true
+  -- {2} not below {3}
+  pub not-below : Effects.effBelow up 4 8 ≡ false
+  -- {2,3} reduces to {2}
+  pub reduces : Effects.reduce up 12 ≡ 4
+  -- 2 enabled and limit 3 leaves 3
+  pub limit-leaves : Keys.narrow up 4 (3 ∷ []) ≡ 8
+  -- 3 enabled and limit 4 leaves nothing
+  pub limit-nothing : Keys.narrow up 8 (4 ∷ []) ≡ 0
+  -- a grant of 2 drops {3,4}
+  pub grant-drops : Effects.drop up 2 24 ≡ 0
+  -- 3 raised is 2
+  pub raised : Effects.raise 3 2 8 ≡ 4
+  -- depth 16 read, 17 refused with 6
+  pub depth-16 : isRead (Reading.reading (Jobs.nested 15)) ≡ true
+  pub depth-17 : Reading.reading (Jobs.nested 16) ≡ Reading.refusedAt 6 62
+  -- 4294967295 + 1 = 0
+  pub sum-wraps : Step.sumN true 4294967295 1 ≡ 0
+  -- 3 − 5 = 4294967294
+  pub difference-wraps : Step.sumN false 3 5 ≡ 4294967294
+  -- an unkeyed cell read with no rights done
+  pub unkeyed-done : Lines.deskOf Jobs.unkeyedRead ≡ unkeyedLines
+  -- a keyed read inside a limit without keys refused with 13
+  pub limited-refused : Verdict.verdictOf Jobs.limitedRead ≡ Verdict.refuse (record { number = 13; place = 2 })
+  -- the example "prints, whole"
+  pub example-lines : Lines.deskOf (Jobs.example 0x04) ≡ exampleLines
+  -- "With rights 00 in place of 04: `refused 14 at 1`"
+  pub example-refused : Lines.deskOf (Jobs.example 0x00) ≡ refusedLine
+  -- "the machine, started anyway, is denied after 2 steps"
+  pub example-denied : started 100000 (Reading.reading (Jobs.example 0x00)) ≡ some (record { answer = Calls.denied; count = 2 })
+
+pub marked : Marked
+unfolding Bools._and_ Bools._or_ Order.onUpper Order.belowIn Order.below Sets.bit Sets.consIf Sets.membersFrom Sets.members Sets.setOf Sets.keep Sets.some-of Sets.all-of Effects.names Effects.touch Effects.join Effects.effBelow Effects.maximal Effects.reduced Effects.reduce Effects.drop Effects.raise Types.keyOf Types.rekey Types.depth Types.namesIn Types.grow Types.treeIn Types.tree Commands.mapCmd Commands.commands Commands.findOp Commands.opOf Commands.operands Commands.total Commands.width Commands.sectionOf Commands.little Commands.fields Operands.nth Operands.plain Operands.inner Operands.kids Operands.typesOf Operands.usesVar Operands.bindsVar Operands.bindsName Job.uppers Job.valueOf Job.sourceOf Reading.declared Reading.isHost Reading.hostName Reading.openName Reading.localName Reading.setOk Reading.nameOk Reading.partsOk Reading.typeOk Reading.unkeyedNumber Reading.hostTypeOk Reading.hostValueOk Reading.rightsOk Reading.cmdOk Reading.partOf Reading.sumOf Reading.limitOf Reading.written Reading.given Reading.enter Reading.misplaced Reading.full Reading.settle Reading.command Reading.ended Reading.onward Reading.onOp Reading.readFrom Reading.reading Tree.binds Tree.varsOf Tree.namesOf Tree.memB Tree.usesName Tree.addHost Tree.nameCtx Tree.valueCtx Tree.hostCtx Tree.past Tree.root Tree.count Tree.uses Tree.usedRight Tree.boundBy Tree.bindsNew Tree.parent Tree.scopeIn Tree.ctx Tree.nameIn Tree.inScope Tree.firstBad Tree.orElse Tree.refusedAt Tree.lowest Tree.treeRefusal Subtype.onNum Subtype.onPair Subtype.onCell Subtype.onFn Subtype.onLim Subtype.onGrant Subtype.sameTy Subtype.subTy Subtype.superTy Least.with Least.wantNum Least.wantPair Least.wantCell Least.wantFn Least.wantLim Least.wantGrant Least.require Least.isUpper Least.pick Least.typeIn Least.varType Least.ofVar Least.keysAt Least.typeAt Least.get Least.extend Least.typesTo Least.types Least.typeOf Least.firstUntyped Verdict.unless Verdict.within Verdict.judged Verdict.judge Verdict.judgeRead Verdict.verdictOf Keys.enabled Keys.upto Keys.narrow Keys.add Step.room Step.touch Step.onNum Step.onPair Step.onFn Step.onCell Step.onLim Step.onGrant Step.found Step.one Step.two Step.actPair Step.partOf Step.actPart Step.call Step.actApp Step.actNew Step.actAsg Step.actRead Step.sumN Step.actSum Step.branch Step.actTest Step.limitKeys Step.touchAll Step.actLim Step.actGrant Step.newKey Step.actNewkey Step.actAssoc Step.worked Step.act Step.seekIn Step.seekAt Step.seek Step.variable Step.newFn Step.push Step.enterLim Step.enterCmd Step.receive Step.handTo Step.stepOn Step.step Room.doneAt Room.isDone Room.full Room.lacksEnter Room.lacksAct Room.lacksReceive Room.lacksHand Room.lacksOn Room.lacks Start.bindTo Start.addName Start.addNames Start.named Start.hostValue Start.hostCell Start.addValues Start.keyNamed Start.valued Start.startOf Calls.turn Calls.run Calls.call Calls.calls Lines.decimalIn Lines.decimal Lines.hexDigit Lines.hex Lines.w-refused Lines.w-at Lines.w-accepted Lines.w-done Lines.w-spent Lines.w-no-room Lines.w-number Lines.w-pair Lines.w-cell Lines.w-function Lines.w-limit Lines.w-grant Lines.space Lines.line Lines.typeKind Lines.valueKind Lines.handed Lines.refusedLine Lines.acceptedLine Lines.ranLine Lines.ranOf Lines.runLine Lines.runRead Lines.reported Lines.deskOf Lines.printed flatMap Jobs.example Jobs.cellsFrom Jobs.nested Jobs.unkeyedRead Jobs.limitedRead isRead told started
+marked =
+    record {
+      below = refl;
+      not-below = refl;
+      reduces = refl;
+      limit-leaves = refl;
+      limit-nothing = refl;
+      grant-drops = refl;
+      raised = refl;
+      depth-16 = refl;
+      depth-17 = refl;
+      sum-wraps = refl;
+      difference-wraps = refl;
+      unkeyed-done = refl;
+      limited-refused = refl;
+      example-lines = refl;
+      example-refused = refl;
+      example-denied = refl;
+    }

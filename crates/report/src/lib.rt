@@ -1,0 +1,1 @@
+// What the desk program prints for a job: definitions. No code yet.

@@ -1,0 +1,346 @@
+-- A job that is read is as its typing and its run rely on.
+use mathlib.Core.Path.{_≡_, refl, sym, ap, _∙_, subst, subst⁻¹}
+use Prim.Native.Nat.{ℕ, zero, suc, _+_, _-_, _≤_, _<_}
+use native.Mathlib.Omega.{arith}
+use mathlib.Core.Bool.{Bool, true, false, not, true≢false, false≢true}
+use mathlib.Core.List.{List, [], _∷_, _++_, map, List·Memᴰ, List·Memᴰ·head, List·Memᴰ·tail, List·Memᴰ·not-nil, List·Memᴰ·cases-cons, List·Memᴰ·eq-of-singleton, Memᴰ·of-map}
+use mathlib.Core.Option.{Option, none, some, Option·none-ne-some, Option·some-injective}
+use mathlib.Core.Logic.{_⊎_, inl, inr}
+use lib.ListN.{length, length-map, length-take, getElem?, take}
+use lib.Dec.{eqb, ltb, leb}
+use borrow.Author.Tests.{ltb-true, leb-true, eqb-true, eqb-false, not-true}
+use Rattle.order.specs.Bools.{_and_, _or_, and-l, and-r, or-cases, or-l, or-r, and2}
+use Rattle.order.specs.SetLaws.{all-of→}
+use Rattle.order.specs.OrderLaws.{Proper, proper-snoc, getElem?-append}
+use Rattle.syntax.specs.Types.{Ty, num, pair, cell, fn, lim, grant, TypeEntry, e-num, e-pair, e-cell, e-fn, e-lim, e-grant, grow, treeIn, tree, namesIn}
+use Rattle.syntax.specs.Commands.{Cmd, c-num, c-top, c-var, c-pair, c-part, c-fn, c-app, c-new, c-asg, c-read, c-sum, c-test, c-lim, c-grant, c-newkey, c-assoc, mapCmd}
+use Rattle.syntax.specs.Operands.{nth, plain, inner, kids, typesOf, usesVar, bindsVar, bindsName}
+use Rattle.syntax.specs.Job.{Name, HostValue, Job, uppers, valueOf, sourceOf}
+use Rattle.syntax.specs.Reading.{declared, isHost, hostName, openName, localName, nameOk, partsOk, typeOk, unkeyedNumber, hostTypeOk, hostValueOk, cmdOk, most-variables, read, reading}
+use Rattle.syntax.specs.ReadLaws.{nothing, more, built-at, NamesOk, TypesOk, JobOk, withCmds, read-ok}
+use Rattle.syntax.specs.WellRead.{HostTyped, ht-cell, ht-lim, ht-grant, WellRead}
+use Rattle.syntax.specs.Formed.{Formed}
+
+-- Lists
+
+pub map-snoc {ℓ ℓ′} : {A : Type ℓ} {B : Type ℓ′} (f : A → B) (l : List A) (a : A) → map f (l ++ (a ∷ [])) ≡ map f l ++ (f a ∷ [])
+map-snoc f [] a = refl
+map-snoc f (x ∷ l) a = ap (λ m. f x ∷ m) (map-snoc f l a)
+
+-- the place of a member
+pub mem-at : {A : Type 0} {a : A} {l : List A} → List·Memᴰ a l → (i : ℕ) × (getElem? l i ≡ some a)
+mem-at (List·Memᴰ·head h) = (0, ap some (sym h))
+mem-at (List·Memᴰ·tail m) = let z = mem-at m in (suc (z .0), z .1)
+
+-- Names
+
+-- a host name stays one when names are added
+pub host-grow : (ds es : List Name) (q : ℕ) → hostName ds q ≡ true → hostName (ds ++ es) q ≡ true
+unfolding hostName isHost
+host-grow ds es q e = at (or-cases (eqb q 1) (leb 2 q and isHost (getElem? ds (q - 2))) e)
+  where
+    longer : (o : Option Name) → getElem? ds (q - 2) ≡ o → isHost o ≡ true → isHost (getElem? (ds ++ es) (q - 2)) ≡ true
+    longer none z h = absurd (false≢true h)
+    longer (some d) z h = rw (getElem?-append ds es (q - 2) d z) h
+
+    at : (eqb q 1 ≡ true) ⊎ ((leb 2 q and isHost (getElem? ds (q - 2))) ≡ true) → (eqb q 1 or (leb 2 q and isHost (getElem? (ds ++ es) (q - 2)))) ≡ true
+    at (inl z) = or-l _ _ z
+    at (inr z) = or-r _ _ (and2 _ _ (and-l _ _ z) (longer (getElem? ds (q - 2)) refl (and-r _ _ z)))
+
+-- the upper name of a declared name: not 0, declared before it, and the host's where the name is
+pub record UpperOk (ds : List Name) (d : Name) : Type 0 where
+  pub some-upper : 0 < d .upper
+  pub earlier : d .upper < 2 + length ds
+  pub host-upper : d .host ≡ true → hostName ds (d .upper) ≡ true
+
+pub upper-ok : (ds : List Name) (d : Name) → nameOk ds d ≡ true → UpperOk ds d
+unfolding nameOk declared _or_
+upper-ok ds d e =
+    let a = and-l (not (eqb (d .upper) 0) and ltb (d .upper) (2 + length ds)) (not (d .host) or hostName ds (d .upper)) e in
+    let b = and-r (not (eqb (d .upper) 0) and ltb (d .upper) (2 + length ds)) (not (d .host) or hostName ds (d .upper)) e in
+    record {
+      some-upper = pos (d .upper) (eqb-false (d .upper) 0 (not-true (eqb (d .upper) 0) (and-l (not (eqb (d .upper) 0)) (ltb (d .upper) (2 + length ds)) a)));
+      earlier = ltb-true (d .upper) (2 + length ds) (and-r (not (eqb (d .upper) 0)) (ltb (d .upper) (2 + length ds)) a);
+      host-upper = λ h. host (d .host) h (hostName ds (d .upper)) b;
+    }
+  where
+    pos : (n : ℕ) → (n ≡ 0 → ⊥) → 0 < n
+    pos n h = omega arith
+
+    host : (b : Bool) → b ≡ true → (c : Bool) → (not b or c) ≡ true → c ≡ true
+    host true h c x = x
+    host false h c x = absurd (false≢true h)
+
+uppers-snoc : (ds : List Name) (d : Name) → uppers (ds ++ (d ∷ [])) ≡ uppers ds ++ (d .upper ∷ [])
+unfolding uppers
+uppers-snoc ds d = ap (λ m. 0 ∷ 1 ∷ m) (map-snoc (λ x. x .upper) ds d)
+
+uppers-length : (ds : List Name) → length (uppers ds) ≡ 2 + length ds
+unfolding uppers
+uppers-length ds = omega (arith, length-map ds (λ (x : Name). x .upper))
+
+pub names-proper : {ds : List Name} → NamesOk ds → Proper (uppers ds)
+unfolding uppers
+names-proper nothing = record { down = first }
+  where
+    first : (a u : ℕ) → getElem? (0 ∷ 1 ∷ []) a ≡ some u → ((u < a) × (0 < u)) ⊎ ((u ≡ a) × (a < 2))
+    first zero u e = inr (sym (Option·some-injective 0 u e), omega arith)
+    first (suc zero) u e = inr (sym (Option·some-injective 1 u e), omega arith)
+    first (suc (suc a)) u e = absurd (Option·none-ne-some u e)
+names-proper (more {l} b d e) =
+    let u = upper-ok l d e in subst⁻¹ (λ z. Proper z) (uppers-snoc l d) (proper-snoc (names-proper b) (u .some-upper) (omega (arith, uppers-length l, u .earlier)))
+
+take-split : {A : Type 0} (i : ℕ) (l : List A) → (m : List A) × (l ≡ take i l ++ m)
+take-split i l = (lib.ListN.drop i l, sym (lib.ListN.take-append-drop i l))
+
+pub host-upper : {ds : List Name} → NamesOk ds → (i : ℕ) (d : Name) → getElem? ds i ≡ some d → d .host ≡ true → hostName ds (d .upper) ≡ true
+host-upper {ds} b i d e h =
+    let z = take-split i ds in
+    subst⁻¹ (λ l. hostName l (d .upper) ≡ true) (z .1) (host-grow (take i ds) (z .0) (d .upper) (upper-ok (take i ds) d (built-at nameOk b i d e) .host-upper h))
+
+-- Types of host values
+
+unkeyed : (ds : List Name) (q : ℕ) (A : Ty) → openName ds q ≡ true → unkeyedNumber A ≡ true → HostTyped ds (cell q A)
+unfolding unkeyedNumber
+unkeyed ds q (num p) e h = subst⁻¹ (λ z. HostTyped ds (cell q (num z))) (eqb-true p 0 h) (ht-cell e)
+unkeyed ds q (pair p A B) e h = absurd (false≢true h)
+unkeyed ds q (cell p A) e h = absurd (false≢true h)
+unkeyed ds q (fn p A B s) e h = absurd (false≢true h)
+unkeyed ds q (lim p r) e h = absurd (false≢true h)
+unkeyed ds q (grant p r) e h = absurd (false≢true h)
+
+-- an open name that is not 0 is 1 or a host name
+open-host : (ds : List Name) (r : ℕ) → openName ds r ≡ true → not (eqb r 0) ≡ true → hostName ds r ≡ true
+unfolding openName
+open-host ds r e h = at (or-cases (eqb r 0) (hostName ds r) e)
+  where
+    at : (eqb r 0 ≡ true) ⊎ (hostName ds r ≡ true) → hostName ds r ≡ true
+    at (inl z) = absurd (true≢false (sym z ∙ not-true (eqb r 0) h))
+    at (inr z) = z
+
+pub host-open : (ds : List Name) (r : ℕ) → hostName ds r ≡ true → openName ds r ≡ true
+unfolding openName
+host-open ds r e = or-r (eqb r 0) (hostName ds r) e
+
+pub zero-open : (ds : List Name) → openName ds 0 ≡ true
+unfolding openName
+zero-open ds = or-l (eqb 0 0) (hostName ds 0) refl
+
+pub host-typed : {ds : List Name} {ts : List TypeEntry} → TypesOk ds ts → (t n : ℕ) → hostTypeOk ds (tree ts t) n ≡ true → HostTyped ds (tree ts t)
+unfolding tree treeIn grow typeOk partsOk hostTypeOk
+host-typed {ds} {ts} b t n e = at (getElem? ts t) (λ x z. and-l _ _ (built-at _ b t x z)) e
+  where
+    key : (q r : ℕ) → (declared ds q and declared ds r and not (eqb r 0)) ≡ true → (openName ds q and openName ds r and eqb n 0) ≡ true → (openName ds q ≡ true) × (hostName ds r ≡ true)
+    key q r x y = (and-l _ _ (and-l _ _ y), open-host ds r (and-r _ _ (and-l _ _ y)) (and-r _ _ x))
+
+    at : (o : Option TypeEntry) → ((x : TypeEntry) → o ≡ some x → partsOk ds (length (take t ts)) x ≡ true) → hostTypeOk ds (grow o (treeIn t ts)) n ≡ true → HostTyped ds (grow o (treeIn t ts))
+    at none f h = absurd (false≢true h)
+    at (some (e-num q)) f h = absurd (false≢true h)
+    at (some (e-pair q x y)) f h = absurd (false≢true h)
+    at (some (e-cell q x)) f h = unkeyed ds q (treeIn t ts x) (and-l _ _ h) (and-r _ _ h)
+    at (some (e-fn q x y s)) f h = absurd (false≢true h)
+    at (some (e-lim q r)) f h = let z = key q r (f (e-lim q r) refl) h in ht-lim (z .0) (z .1)
+    at (some (e-grant q r)) f h = let z = key q r (f (e-grant q r) refl) h in ht-grant (z .0) (z .1)
+
+two : (ds : List Name) (q r : ℕ) → openName ds q ≡ true → openName ds r ≡ true → {n : ℕ} → List·Memᴰ n (q ∷ r ∷ []) → openName ds n ≡ true
+two ds q r x y {n} m = at (List·Memᴰ·cases-cons m)
+  where
+    at : (n ≡ q) ⊎ List·Memᴰ n (r ∷ []) → openName ds n ≡ true
+    at (inl z) = rw z x
+    at (inr z) = rw (List·Memᴰ·eq-of-singleton z) y
+
+pub host-names : (ds : List Name) {T : Ty} → HostTyped ds T → {n : ℕ} → List·Memᴰ n (namesIn T) → openName ds n ≡ true
+unfolding namesIn
+host-names ds (ht-cell {q} x) m = two ds q 0 x (zero-open ds) m
+host-names ds (ht-lim {q} {r} x y) m = two ds q r x (host-open ds r y) m
+host-names ds (ht-grant {q} {r} x y) m = two ds q r x (host-open ds r y) m
+
+-- Expressions
+
+module _ {T U : Type 0} (f : T → U) where
+  pub kids-map : (k : Cmd T) → kids (mapCmd f k) ≡ kids k
+  unfolding kids plain inner mapCmd
+  kids-map (c-num n) = refl
+  kids-map c-top = refl
+  kids-map (c-var v) = refl
+  kids-map (c-pair a b) = refl
+  kids-map (c-part a i) = refl
+  kids-map (c-fn v t b) = refl
+  kids-map (c-app a b) = refl
+  kids-map (c-new t a) = refl
+  kids-map (c-asg a b) = refl
+  kids-map (c-read a) = refl
+  kids-map (c-sum i a b) = refl
+  kids-map (c-test a b c t) = refl
+  kids-map (c-lim ks b) = refl
+  kids-map (c-grant a b) = refl
+  kids-map (c-newkey v r a b t) = refl
+  kids-map (c-assoc a b) = refl
+
+  pub bindsVar-map : (k : Cmd T) → bindsVar (mapCmd f k) ≡ bindsVar k
+  unfolding bindsVar mapCmd
+  bindsVar-map (c-num n) = refl
+  bindsVar-map c-top = refl
+  bindsVar-map (c-var v) = refl
+  bindsVar-map (c-pair a b) = refl
+  bindsVar-map (c-part a i) = refl
+  bindsVar-map (c-fn v t b) = refl
+  bindsVar-map (c-app a b) = refl
+  bindsVar-map (c-new t a) = refl
+  bindsVar-map (c-asg a b) = refl
+  bindsVar-map (c-read a) = refl
+  bindsVar-map (c-sum i a b) = refl
+  bindsVar-map (c-test a b c t) = refl
+  bindsVar-map (c-lim ks b) = refl
+  bindsVar-map (c-grant a b) = refl
+  bindsVar-map (c-newkey v r a b t) = refl
+  bindsVar-map (c-assoc a b) = refl
+
+  pub bindsName-map : (k : Cmd T) → bindsName (mapCmd f k) ≡ bindsName k
+  unfolding bindsName mapCmd
+  bindsName-map (c-num n) = refl
+  bindsName-map c-top = refl
+  bindsName-map (c-var v) = refl
+  bindsName-map (c-pair a b) = refl
+  bindsName-map (c-part a i) = refl
+  bindsName-map (c-fn v t b) = refl
+  bindsName-map (c-app a b) = refl
+  bindsName-map (c-new t a) = refl
+  bindsName-map (c-asg a b) = refl
+  bindsName-map (c-read a) = refl
+  bindsName-map (c-sum i a b) = refl
+  bindsName-map (c-test a b c t) = refl
+  bindsName-map (c-lim ks b) = refl
+  bindsName-map (c-grant a b) = refl
+  bindsName-map (c-newkey v r a b t) = refl
+  bindsName-map (c-assoc a b) = refl
+
+  pub usesVar-map : (k : Cmd T) → usesVar (mapCmd f k) ≡ usesVar k
+  unfolding usesVar mapCmd
+  usesVar-map (c-num n) = refl
+  usesVar-map c-top = refl
+  usesVar-map (c-var v) = refl
+  usesVar-map (c-pair a b) = refl
+  usesVar-map (c-part a i) = refl
+  usesVar-map (c-fn v t b) = refl
+  usesVar-map (c-app a b) = refl
+  usesVar-map (c-new t a) = refl
+  usesVar-map (c-asg a b) = refl
+  usesVar-map (c-read a) = refl
+  usesVar-map (c-sum i a b) = refl
+  usesVar-map (c-test a b c t) = refl
+  usesVar-map (c-lim ks b) = refl
+  usesVar-map (c-grant a b) = refl
+  usesVar-map (c-newkey v r a b t) = refl
+  usesVar-map (c-assoc a b) = refl
+
+  pub nth-map : (l : List (Cmd T)) (e : ℕ) → nth (map (mapCmd f) l) e ≡ mapCmd f (nth l e)
+  unfolding nth mapCmd
+  nth-map [] e = refl
+  nth-map (k ∷ l) zero = refl
+  nth-map (k ∷ l) (suc e) = nth-map l e
+
+-- an expression's command is an entry of the list, or the number past its end
+pub nth-at : {T : Type 0} (l : List (Cmd T)) (e : ℕ) → (getElem? l e ≡ some (nth l e)) ⊎ (nth l e ≡ c-num 0)
+unfolding nth
+nth-at [] e = inr refl
+nth-at (k ∷ l) zero = inl refl
+nth-at (k ∷ l) (suc e) = nth-at l e
+
+-- what holds of expression e, where there are so many types and values
+pub record CmdFormed (ds : List Name) (types values e : ℕ) (k : Cmd ℕ) : Type 0 where
+  pub operand : (c : ℕ) → List·Memᴰ c (kids k) → c < e
+  pub type-operand : (t : ℕ) → List·Memᴰ t (typesOf k) → t < types
+  pub used-variable : (v : ℕ) → List·Memᴰ v (usesVar k) → v < most-variables
+  pub bound-variable : (v : ℕ) → List·Memᴰ v (bindsVar k) → (values ≤ v) × (v < most-variables)
+  pub bound-name : (r : ℕ) → List·Memᴰ r (bindsName k) → localName ds r ≡ true
+
+cmd-formed : (J : Job) (e : ℕ) (k : Cmd ℕ) → length (J .cmds) ≤ e → cmdOk J k ≡ true → CmdFormed (J .names) (length (J .types)) (length (J .values)) e k
+unfolding cmdOk
+cmd-formed J e k le h =
+    let d = and-l _ _ h in
+    let c = and-l _ _ d in
+    let b = and-l _ _ c in
+    record {
+      operand = λ x m. earlier x (ltb-true _ _ (all-of→ _ (and-l _ _ b) m));
+      type-operand = λ t m. ltb-true _ _ (all-of→ _ (and-r _ _ b) m);
+      used-variable = λ v m. ltb-true _ _ (all-of→ _ (and-r _ _ c) m);
+      bound-variable = λ v m. let z = all-of→ _ (and-r _ _ d) m in (leb-true _ _ (and-l _ _ z), ltb-true _ _ (and-r _ _ z));
+      bound-name = λ r m. all-of→ _ (and-r _ _ h) m;
+    }
+  where
+    earlier : (x : ℕ) → x < length (J .cmds) → x < e
+    earlier x z = omega arith
+
+-- the number that stands past the end has no operands
+past-formed : (ds : List Name) (types values e : ℕ) → CmdFormed ds types values e (c-num 0)
+unfolding kids plain inner typesOf usesVar bindsVar bindsName
+past-formed ds types values e =
+    record {
+      operand = λ c m. absurd (List·Memᴰ·not-nil m);
+      type-operand = λ t m. absurd (List·Memᴰ·not-nil m);
+      used-variable = λ v m. absurd (List·Memᴰ·not-nil m);
+      bound-variable = λ v m. absurd (List·Memᴰ·not-nil m);
+      bound-name = λ r m. absurd (List·Memᴰ·not-nil m);
+    }
+
+pub cmds-formed : {J : Job} → JobOk J → (e : ℕ) → CmdFormed (J .names) (length (J .types)) (length (J .values)) e (nth (J .cmds) e)
+cmds-formed {J} j e = at (nth (J .cmds) e) (nth-at (J .cmds) e)
+  where
+    at : (k : Cmd ℕ) → (getElem? (J .cmds) e ≡ some k) ⊎ (k ≡ c-num 0) → CmdFormed (J .names) (length (J .types)) (length (J .values)) e k
+    at k (inl z) = cmd-formed (withCmds J (take e (J .cmds))) e k (omega (arith, length-take e (J .cmds))) (built-at _ (j .cmds) e k z)
+    at k (inr z) = subst⁻¹ (λ x. CmdFormed (J .names) (length (J .types)) (length (J .values)) e x) z (past-formed (J .names) (length (J .types)) (length (J .values)) e)
+
+-- Host values
+
+pub value-typed : {J : Job} → JobOk J → (h : HostValue Ty) → List·Memᴰ h (map (valueOf (J .types)) (J .values)) → HostTyped (J .names) (h .ty)
+unfolding valueOf hostValueOk
+value-typed {J} j h m = at (Memᴰ·of-map (valueOf (J .types)) (J .values) m)
+  where
+    at : (x : HostValue ℕ) × List·Memᴰ x (J .values) × (valueOf (J .types) x ≡ h) → HostTyped (J .names) (h .ty)
+    at z =
+        let y = mem-at (z .1) in
+        subst (λ v. HostTyped (J .names) (v .ty)) (z .2) (host-typed (j .types) (z .0 .ty) (z .0 .init) (and-r _ _ (built-at _ (j .values) (y .0) (z .0) (y .1))))
+
+-- The job as the rules see it
+
+pub job-formed : (J : Job) → JobOk J → Formed (sourceOf J)
+unfolding sourceOf
+job-formed J j =
+    record {
+      some-expression = omega (arith, j .some-cmds, length-map (J .cmds) (mapCmd (tree (J .types))));
+      operand = λ e c m. cmds-formed j e .operand c (rw (kids-at e) at m);
+      bound-variable = λ e v m. omega (arith, cmds-formed j e .bound-variable v (rw (bindsVar-at e) at m), length-map (J .values) (valueOf (J .types)));
+      bound-name = λ e r m. cmds-formed j e .bound-name r (rw (bindsName-at e) at m);
+      host-type = λ h m n w. host-names (J .names) (value-typed j h m) w;
+      proper = names-proper (j .names);
+    }
+  where
+    f : ℕ → Ty
+    f = tree (J .types)
+
+    kids-at : (e : ℕ) → kids (nth (map (mapCmd f) (J .cmds)) e) ≡ kids (nth (J .cmds) e)
+    kids-at e = ap kids (nth-map f (J .cmds) e) ∙ kids-map f (nth (J .cmds) e)
+
+    bindsVar-at : (e : ℕ) → bindsVar (nth (map (mapCmd f) (J .cmds)) e) ≡ bindsVar (nth (J .cmds) e)
+    bindsVar-at e = ap bindsVar (nth-map f (J .cmds) e) ∙ bindsVar-map f (nth (J .cmds) e)
+
+    bindsName-at : (e : ℕ) → bindsName (nth (map (mapCmd f) (J .cmds)) e) ≡ bindsName (nth (J .cmds) e)
+    bindsName-at e = ap bindsName (nth-map f (J .cmds) e) ∙ bindsName-map f (nth (J .cmds) e)
+
+pub job-well : (J : Job) → JobOk J → WellRead (sourceOf J)
+unfolding sourceOf
+job-well J j =
+    record {
+      proper = names-proper (j .names);
+      upper = host-upper (j .names);
+      value = value-typed j;
+      few-names = omega (arith, j .few-names);
+      few-values = omega (arith, j .few-values, length-map (J .values) (valueOf (J .types)));
+    }
+
+pub read-formed : (s : List ℕ) (J : Job) → reading s ≡ read J → Formed (sourceOf J)
+read-formed s J e = job-formed J (read-ok s J e)
+
+pub read-well : (s : List ℕ) (J : Job) → reading s ≡ read J → WellRead (sourceOf J)
+read-well s J e = job-well J (read-ok s J e)
