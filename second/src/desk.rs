@@ -28,11 +28,11 @@ fn run_line(machine: &mut Machine) -> String {
     let line = format!("{} {steps}", outcome.words());
     match machine.result() {
         Some(value) if outcome == Outcome::Done => {
-            let number = match value.kind {
-                Kind::Number => format!(" {}", value.data),
+            let number = match value.kind() {
+                Kind::Number => format!(" {}", value.data()),
                 _ => String::new(),
             };
-            format!("{line} {}{number}", value.kind.word())
+            format!("{line} {}{number}", value.kind().word())
         }
         _ => line,
     }

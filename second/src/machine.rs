@@ -1,5 +1,7 @@
 //! The machine: starting, steps and runs of any job free of refusals 2 to 10.
 
+use std::fmt;
+
 use crate::fault;
 use crate::job::*;
 use crate::names::bits;
@@ -14,28 +16,64 @@ pub const FUNCTIONS: usize = 512;
 pub const FRAMES: usize = 256;
 pub const BINDINGS: usize = 1024;
 
-/// A value and the key it carries.
-///
-/// `data` is a number's value; a pair's, cell's or function's number; or the key that a limit or
-/// grant key stands for.
-#[derive(Clone, Copy, Debug, Default, PartialEq, Eq)]
-pub struct Value {
-    pub kind: Kind,
-    pub key: u8,
-    pub data: u32,
-}
+/// A value and the key it carries, in one word: kind, key, data.
+#[derive(Clone, Copy, Default, PartialEq, Eq)]
+pub struct Value(u64);
 
 impl Value {
-    fn unkeyed(kind: Kind, data: usize) -> Self {
-        Value {
-            kind,
-            key: 0,
-            data: data as u32,
-        }
+    #[inline]
+    fn new(kind: Kind, key: u8, data: u32) -> Self {
+        Value(kind as u64 | (key as u64) << 8 | (data as u64) << 32)
     }
 
+    #[inline]
+    fn unkeyed(kind: Kind, data: u32) -> Self {
+        Value::new(kind, 0, data)
+    }
+
+    #[inline]
+    fn with_key(self, key: u8) -> Self {
+        Value(self.0 & !0xFF00 | (key as u64) << 8)
+    }
+
+    #[inline]
+    fn is(self, kind: Kind) -> bool {
+        self.0 as u8 == kind as u8
+    }
+
+    #[inline]
     fn index(self) -> usize {
-        self.data as usize
+        self.data() as usize
+    }
+
+    pub fn kind(self) -> Kind {
+        [
+            Kind::Number,
+            Kind::Pair,
+            Kind::Cell,
+            Kind::Function,
+            Kind::Limit,
+            Kind::Grant,
+        ][self.0 as u8 as usize]
+    }
+
+    /// The key it carries; 0 is none.
+    #[inline]
+    pub fn key(self) -> u8 {
+        (self.0 >> 8) as u8
+    }
+
+    /// A number's value; a pair's, cell's or function's number; or the key that a limit or grant
+    /// key stands for.
+    #[inline]
+    pub fn data(self) -> u32 {
+        (self.0 >> 32) as u32
+    }
+}
+
+impl fmt::Debug for Value {
+    fn fmt(&self, f: &mut fmt::Formatter) -> fmt::Result {
+        write!(f, "{} {} of key {}", self.kind().word(), self.data(), self.key())
     }
 }
 
@@ -43,6 +81,15 @@ impl Value {
 #[derive(Clone, Copy, Debug, PartialEq, Eq)]
 pub enum Answer {
     Taken,
+    Done,
+    NoRoom,
+    Stuck,
+    Denied,
+}
+
+/// Why a step is not taken.
+#[derive(Clone, Copy, Debug, PartialEq, Eq)]
+enum Stop {
     Done,
     NoRoom,
     Stuck,
@@ -226,13 +273,10 @@ impl<const FAULT: u32> MachineWith<FAULT> {
         for host in &job.hosts {
             let ty = job.types[host.ty as usize];
             let data = match ty.shape {
-                Shape::Limit(name) | Shape::Grant(name) => keys[name as usize] as usize,
-                _ => machine.new_cell(Value::unkeyed(Kind::Number, host.number as usize)),
+                Shape::Limit(name) | Shape::Grant(name) => keys[name as usize] as u32,
+                _ => machine.new_cell(Value::unkeyed(Kind::Number, host.number)),
             };
-            let value = Value {
-                key: keys[ty.key as usize],
-                ..Value::unkeyed(ty.kind(), data)
-            };
+            let value = Value::new(ty.kind(), keys[ty.key as usize], data);
             machine.scope = machine.bind(value, machine.scope);
         }
         machine
@@ -259,70 +303,77 @@ impl<const FAULT: u32> MachineWith<FAULT> {
     /// Takes up to `steps` steps; says how it ended and how many were taken.
     pub fn run(&mut self, steps: u64) -> (Outcome, u64) {
         for taken in 0..steps {
-            let outcome = match self.step() {
-                Answer::Taken => continue,
-                Answer::Done => Outcome::Done,
-                Answer::NoRoom => Outcome::NoRoom,
-                Answer::Stuck => Outcome::Stuck,
-                Answer::Denied => Outcome::Denied,
-            };
-            let counted = match FAULT {
-                fault::COUNT_ONE_MORE if outcome != Outcome::Done => taken + 1,
-                fault::DONE_COUNTS if outcome == Outcome::Done => steps,
-                _ => taken,
-            };
-            return (outcome, counted);
+            match self.advance(self.control) {
+                Ok(control) => self.control = control,
+                Err(answer) => return self.ended(answer, taken, steps),
+            }
         }
         let done = self.is_done() && FAULT != fault::SPENT_WHEN_DONE;
         (if done { Outcome::Done } else { Outcome::Spent }, steps)
     }
 
+    fn ended(&self, stop: Stop, taken: u64, steps: u64) -> (Outcome, u64) {
+        let outcome = match stop {
+            Stop::Done => Outcome::Done,
+            Stop::NoRoom => Outcome::NoRoom,
+            Stop::Stuck => Outcome::Stuck,
+            Stop::Denied => Outcome::Denied,
+        };
+        let counted = match FAULT {
+            fault::COUNT_ONE_MORE if outcome != Outcome::Done => taken + 1,
+            fault::DONE_COUNTS if outcome == Outcome::Done => steps,
+            _ => taken,
+        };
+        (outcome, counted)
+    }
+
     /// Takes one step.
-    #[inline]
     pub fn step(&mut self) -> Answer {
-        if FAULT == fault::STAYS {
-            return Answer::Taken;
+        match self.advance(self.control) {
+            Ok(control) => {
+                self.control = control;
+                Answer::Taken
+            }
+            Err(Stop::Done) => Answer::Done,
+            Err(Stop::NoRoom) => Answer::NoRoom,
+            Err(Stop::Stuck) => Answer::Stuck,
+            Err(Stop::Denied) => Answer::Denied,
         }
-        match self.control {
+    }
+
+    /// The control after a step. Where there is none, nothing has been changed.
+    #[inline(always)]
+    fn advance(&mut self, control: Control) -> Result<Control, Stop> {
+        match control {
+            _ if FAULT == fault::STAYS => Ok(control),
             Control::Enter(expr) => self.enter(expr),
             Control::Hand(value) => self.hand(value),
         }
     }
 
     #[inline(always)]
-    fn enter(&mut self, expr: u16) -> Answer {
-        let value = match self.code[expr as usize] {
-            Code::Number(number) => Value::unkeyed(Kind::Number, number as usize),
-            Code::Top => Value::unkeyed(Kind::Limit, 1),
-            Code::Host(binding) => self.bindings[binding as usize % BINDINGS].value,
+    fn enter(&mut self, expr: u16) -> Result<Control, Stop> {
+        let first = match self.code[expr as usize] {
+            Code::Number(number) => {
+                return Ok(Control::Hand(Value::unkeyed(Kind::Number, number)));
+            }
+            Code::Top => return Ok(Control::Hand(Value::unkeyed(Kind::Limit, 1))),
+            Code::Host(binding) => {
+                return Ok(Control::Hand(self.bindings[binding as usize % BINDINGS].value));
+            }
             Code::Local(distance) => {
-                let mut scope = self.scope;
+                let mut binding = &self.bindings[self.scope as usize % BINDINGS];
                 for _ in 0..distance {
-                    scope = self.bindings[scope as usize % BINDINGS].outer;
+                    binding = &self.bindings[binding.outer as usize % BINDINGS];
                 }
-                self.bindings[scope as usize % BINDINGS].value
+                return Ok(Control::Hand(binding.value));
             }
-            Code::Function(body) => {
-                let number = self.rooms.functions;
-                if number >= FUNCTIONS - (FAULT == fault::FUNCTIONS_511) as usize {
-                    return Answer::NoRoom;
-                }
-                self.functions[number] = Closure {
-                    body,
-                    scope: self.scope,
-                };
-                self.rooms.functions += 1;
-                if FAULT == fault::KEYS_WHERE_MADE {
-                    self.aside.made_with.push(self.enabled);
-                }
-                Value::unkeyed(Kind::Function, number)
-            }
+            Code::Function(body) => return self.new_function(body),
             Code::Shut(body) => {
                 if FAULT != fault::EMPTY_LIMIT_KEEPS {
                     self.enabled = 0;
                 }
-                self.control = Control::Enter(body);
-                return Answer::Taken;
+                return Ok(Control::Enter(body));
             }
             Code::Part(first, _)
             | Code::NewCell(first)
@@ -336,31 +387,28 @@ impl<const FAULT: u32> MachineWith<FAULT> {
             | Code::Limit(_, [first, ..], _)
             | Code::Grant(first, _)
             | Code::NewKey(first, _)
-            | Code::Associate(first, _) => {
-                if self.rooms.frames >= FRAMES - (FAULT == fault::ONE_FRAME_LESS) as usize {
-                    return Answer::NoRoom;
-                }
-                let frame = &mut self.frames[self.rooms.frames];
-                frame.expr = expr;
-                frame.held = 0;
-                frame.scope = self.scope;
-                frame.enabled = self.enabled;
-                self.rooms.frames += 1;
-                self.control = Control::Enter(first);
-                return Answer::Taken;
-            }
+            | Code::Associate(first, _) => first,
         };
-        self.control = Control::Hand(value);
-        Answer::Taken
+        let top = self.rooms.frames;
+        if top >= FRAMES - (FAULT == fault::ONE_FRAME_LESS) as usize {
+            return Err(Stop::NoRoom);
+        }
+        let frame = &mut self.frames[top];
+        frame.expr = expr;
+        frame.held = 0;
+        frame.scope = self.scope;
+        frame.enabled = self.enabled;
+        self.rooms.frames = top + 1;
+        Ok(Control::Enter(first))
     }
 
+    /// A value goes to the newest frame, which enters its next operand or acts.
     #[inline(always)]
-    fn hand(&mut self, value: Value) -> Answer {
+    fn hand(&mut self, value: Value) -> Result<Control, Stop> {
         let Some(top) = self.rooms.frames.checked_sub(1) else {
-            return Answer::Done;
+            return Err(Stop::Done);
         };
-        let top = top % FRAMES;
-        let frame = &mut self.frames[top];
+        let frame = &mut self.frames[top % FRAMES];
         let code = self.code[frame.expr as usize];
         let next = match code {
             Code::Pair(_, second)
@@ -387,52 +435,37 @@ impl<const FAULT: u32> MachineWith<FAULT> {
             if FAULT != fault::KEYS_NOT_BROUGHT_BACK {
                 self.enabled = frame.enabled;
             }
-            self.control = Control::Enter(next);
-            return Answer::Taken;
+            return Ok(Control::Enter(next));
         }
-        match self.act(top, code, value) {
-            Ok(control) => {
-                self.rooms.frames -= 1;
-                self.control = control;
-                Answer::Taken
-            }
-            Err(answer) => {
-                if FAULT == fault::POPPED_ON_FAILURE && answer == Answer::NoRoom {
-                    self.rooms.frames -= 1;
-                }
-                answer
-            }
+        let frame = *frame;
+        let acted = self.act(&frame, code, value);
+        if acted.is_ok() || FAULT == fault::POPPED_ON_FAILURE && acted == Err(Stop::NoRoom) {
+            self.rooms.frames = top;
         }
+        acted
     }
 
-    /// What a frame does with all its operands in hand: its kinds are tested, then keys, then room,
-    /// and nothing is changed before.
+    /// What a frame does with all its operands in hand: kinds are tested, then keys, then room, and
+    /// nothing is changed before.
     #[inline(always)]
-    fn act(&mut self, top: usize, code: Code, value: Value) -> Result<Control, Answer> {
-        let Frame {
-            enabled,
-            scope,
-            hand: [first, ..],
-            ..
-        } = self.frames[top];
-        let hand = |value| Ok(Control::Hand(value));
-        match code {
-            Code::Pair(..) => hand(self.new_pair(first, value)?),
+    fn act(&mut self, frame: &Frame, code: Code, value: Value) -> Result<Control, Stop> {
+        let Frame { enabled, scope, .. } = *frame;
+        let first = frame.hand[0];
+        let result = match code {
+            Code::Pair(..) => self.new_pair(first, value)?,
             Code::Part(_, part) => {
                 self.test(enabled, Kind::Pair, value)?;
-                hand(self.pairs[value.index() % PAIRS][part as usize - 1])
+                self.pairs[value.index() % PAIRS][(part as usize - 1) % 2]
             }
             Code::Apply(..) => {
                 let room = self.rooms.bindings < BINDINGS - (FAULT == fault::BINDINGS_1023) as usize;
-                if FAULT == fault::APPLY_NOT_TESTED {
-                    kind(Kind::Function, first)?;
-                } else if FAULT == fault::ROOM_BEFORE_KEYS && !room {
-                    kind(Kind::Function, first)?;
-                } else {
-                    self.test(enabled, Kind::Function, first)?;
+                match FAULT {
+                    fault::APPLY_NOT_TESTED => kind(Kind::Function, first)?,
+                    fault::ROOM_BEFORE_KEYS if !room => kind(Kind::Function, first)?,
+                    _ => self.test(enabled, Kind::Function, first)?,
                 }
                 if !room {
-                    return Err(Answer::NoRoom);
+                    return Err(Stop::NoRoom);
                 }
                 let Closure { body, scope: outer } = self.functions[first.index() % FUNCTIONS];
                 let outer = if FAULT == fault::DYNAMIC_SCOPE { scope } else { outer };
@@ -441,26 +474,25 @@ impl<const FAULT: u32> MachineWith<FAULT> {
                     fault::KEYS_WHERE_MADE => self.aside.made_with[first.index()],
                     _ => enabled,
                 };
-                Ok(Control::Enter(body))
+                return Ok(Control::Enter(body));
             }
             Code::NewCell(_) => {
                 if self.rooms.cells >= CELLS - (FAULT == fault::CELLS_255) as usize {
-                    return Err(Answer::NoRoom);
+                    return Err(Stop::NoRoom);
                 }
-                let number = self.new_cell(value);
-                hand(Value::unkeyed(Kind::Cell, number))
+                Value::unkeyed(Kind::Cell, self.new_cell(value))
             }
             Code::Assign(..) => {
                 self.test(enabled, Kind::Cell, first)?;
                 let old = std::mem::replace(&mut self.cells[first.index() % CELLS], value);
-                hand(if FAULT == fault::ASSIGN_HANDS_OLD { old } else { value })
+                if FAULT == fault::ASSIGN_HANDS_OLD { old } else { value }
             }
             Code::Read(_) => {
                 match FAULT {
                     fault::READ_NOT_TESTED => kind(Kind::Cell, value)?,
                     _ => self.test(enabled, Kind::Cell, value)?,
                 }
-                hand(self.cells[value.index() % CELLS])
+                self.cells[value.index() % CELLS]
             }
             Code::Sum(..) | Code::Difference(..) => {
                 if FAULT == fault::KEYS_BEFORE_KINDS {
@@ -471,38 +503,34 @@ impl<const FAULT: u32> MachineWith<FAULT> {
                 kind(Kind::Number, value)?;
                 self.key(enabled, first)?;
                 self.key(enabled, value)?;
+                let (a, b) = (first.data(), value.data());
                 let number = match code {
-                    Code::Sum(..) if FAULT == fault::SUM_SATURATES => {
-                        first.data.saturating_add(value.data)
-                    }
-                    Code::Sum(..) => first.data.wrapping_add(value.data),
-                    _ if FAULT == fault::DIFFERENCE_TURNED => value.data.wrapping_sub(first.data),
-                    _ => first.data.wrapping_sub(value.data),
+                    Code::Sum(..) if FAULT == fault::SUM_SATURATES => a.saturating_add(b),
+                    Code::Sum(..) => a.wrapping_add(b),
+                    _ if FAULT == fault::DIFFERENCE_TURNED => b.wrapping_sub(a),
+                    _ => a.wrapping_sub(b),
                 };
-                let mut result = Value::unkeyed(Kind::Number, number as usize);
-                if FAULT == fault::SUM_KEEPS_KEY {
-                    result.key = first.key;
-                }
-                hand(result)
+                let key = if FAULT == fault::SUM_KEEPS_KEY { first.key() } else { 0 };
+                Value::new(Kind::Number, key, number)
             }
             Code::Test(_, nonzero, zero) => {
                 self.test(enabled, Kind::Number, value)?;
                 self.scope = scope;
                 self.enabled = enabled;
-                let taken = (value.data != 0) != (FAULT == fault::BRANCHES_SWAPPED);
-                Ok(Control::Enter(if taken { nonzero } else { zero }))
+                let taken = (value.data() != 0) != (FAULT == fault::BRANCHES_SWAPPED);
+                return Ok(Control::Enter(if taken { nonzero } else { zero }));
             }
             Code::Limit(count, _, body) => {
-                self.enabled = self.limited(top, count as usize, value)?;
+                self.enabled = self.limited(frame, count as usize, value)?;
                 self.scope = scope;
-                Ok(Control::Enter(body))
+                return Ok(Control::Enter(body));
             }
             Code::Grant(_, body) => {
                 self.test(enabled, Kind::Grant, value)?;
                 let old = if FAULT == fault::GRANT_REPLACES { 0 } else { enabled };
                 self.enabled = old | 1 << (value.index() % KEYS);
                 self.scope = scope;
-                Ok(Control::Enter(body))
+                return Ok(Control::Enter(body));
             }
             Code::NewKey(_, body) => {
                 match FAULT {
@@ -511,7 +539,7 @@ impl<const FAULT: u32> MachineWith<FAULT> {
                 }
                 self.scope = self.open(scope, body, value)?;
                 self.enabled = enabled;
-                Ok(Control::Enter(body))
+                return Ok(Control::Enter(body));
             }
             Code::Associate(..) => {
                 kind(Kind::Limit, value)?;
@@ -519,11 +547,10 @@ impl<const FAULT: u32> MachineWith<FAULT> {
                     self.key(enabled, first)?;
                 }
                 self.key(enabled, value)?;
-                let key = match FAULT {
-                    fault::OWN_KEY_ASSOCIATED => value.key,
-                    _ => value.data as u8,
-                };
-                hand(Value { key, ..first })
+                first.with_key(match FAULT {
+                    fault::OWN_KEY_ASSOCIATED => value.key(),
+                    _ => value.data() as u8,
+                })
             }
             Code::Number(_)
             | Code::Top
@@ -531,13 +558,30 @@ impl<const FAULT: u32> MachineWith<FAULT> {
             | Code::Local(_)
             | Code::Function(_)
             | Code::Shut(_) => unreachable!("no frame is pushed for it"),
+        };
+        Ok(Control::Hand(result))
+    }
+
+    fn new_function(&mut self, body: u16) -> Result<Control, Stop> {
+        let number = self.rooms.functions;
+        if number >= FUNCTIONS - (FAULT == fault::FUNCTIONS_511) as usize {
+            return Err(Stop::NoRoom);
         }
+        self.functions[number] = Closure {
+            body,
+            scope: self.scope,
+        };
+        self.rooms.functions += 1;
+        if FAULT == fault::KEYS_WHERE_MADE {
+            self.aside.made_with.push(self.enabled);
+        }
+        Ok(Control::Hand(Value::unkeyed(Kind::Function, number as u32)))
     }
 
     /// The keys that a limit leaves enabled: in a tree, what is below both of two keys is what is
     /// below the lower one.
-    fn limited(&self, top: usize, count: usize, last: Value) -> Result<u128, Answer> {
-        let Frame { enabled, hand, .. } = self.frames[top];
+    fn limited(&self, frame: &Frame, count: usize, last: Value) -> Result<u128, Stop> {
+        let Frame { enabled, hand, .. } = *frame;
         let mut keys = [hand[0], hand[1], hand[2], last];
         keys[count - 1] = last;
         let keys = &keys[..count];
@@ -565,14 +609,14 @@ impl<const FAULT: u32> MachineWith<FAULT> {
     }
 
     /// Makes 3E's key, pair and bindings.
-    fn open(&mut self, scope: u16, body: u16, limit: Value) -> Result<u16, Answer> {
+    fn open(&mut self, scope: u16, body: u16, limit: Value) -> Result<u16, Stop> {
         let two = if FAULT == fault::NEW_KEY_ONE_BINDING { 1 } else { 2 };
         if self.rooms.keys >= KEYS - (FAULT == fault::KEYS_127) as usize
             || self.rooms.bindings + two > BINDINGS
         {
-            return Err(Answer::NoRoom);
+            return Err(Stop::NoRoom);
         }
-        let parent = if FAULT == fault::KEY_UNDER_TOP { 1 } else { limit.data as u8 };
+        let parent = if FAULT == fault::KEY_UNDER_TOP { 1 } else { limit.data() as u8 };
         let earlier = self.aside.made_by.iter().find(|&&(made, _)| made == body);
         let key = match earlier {
             Some(&(_, key)) if FAULT == fault::ONE_KEY => key,
@@ -582,14 +626,14 @@ impl<const FAULT: u32> MachineWith<FAULT> {
         if FAULT == fault::PAIR_SWAPPED {
             (first, second) = (second, first);
         }
-        let key = key as usize;
-        let mut pair = self.new_pair(Value::unkeyed(first, key), Value::unkeyed(second, key))?;
-        if key == self.rooms.keys {
+        let data = key as u32;
+        let mut pair = self.new_pair(Value::unkeyed(first, data), Value::unkeyed(second, data))?;
+        if key as usize == self.rooms.keys {
             self.new_key(parent);
         }
         match FAULT {
-            fault::ONE_KEY => self.aside.made_by.push((body, key as u8)),
-            fault::PAIR_KEYED => pair.key = key as u8,
+            fault::ONE_KEY => self.aside.made_by.push((body, key)),
+            fault::PAIR_KEYED => pair = pair.with_key(key),
             _ => {}
         }
         // The name's binding is never looked up.
@@ -598,7 +642,7 @@ impl<const FAULT: u32> MachineWith<FAULT> {
     }
 
     #[inline]
-    fn test(&self, enabled: u128, wanted: Kind, value: Value) -> Result<(), Answer> {
+    fn test(&self, enabled: u128, wanted: Kind, value: Value) -> Result<(), Stop> {
         if FAULT == fault::KEYS_BEFORE_KINDS {
             self.key(enabled, value)?;
         }
@@ -607,13 +651,13 @@ impl<const FAULT: u32> MachineWith<FAULT> {
     }
 
     #[inline]
-    fn key(&self, enabled: u128, value: Value) -> Result<(), Answer> {
-        let key = value.key as usize;
+    fn key(&self, enabled: u128, value: Value) -> Result<(), Stop> {
+        let key = value.key() as usize;
         let open = match FAULT {
             fault::ENABLED_ALONE => enabled >> key & 1 == 1,
             _ => self.above[key % KEYS] & enabled != 0,
         };
-        if key == 0 || open { Ok(()) } else { Err(Answer::Denied) }
+        if key == 0 || open { Ok(()) } else { Err(Stop::Denied) }
     }
 
     /// Makes a key below another; there is room.
@@ -631,21 +675,21 @@ impl<const FAULT: u32> MachineWith<FAULT> {
     }
 
     /// Makes a cell; there is room.
-    fn new_cell(&mut self, content: Value) -> usize {
+    fn new_cell(&mut self, content: Value) -> u32 {
         let number = self.rooms.cells;
         self.cells[number] = content;
         self.rooms.cells += 1;
-        number
+        number as u32
     }
 
-    fn new_pair(&mut self, first: Value, second: Value) -> Result<Value, Answer> {
+    fn new_pair(&mut self, first: Value, second: Value) -> Result<Value, Stop> {
         let number = self.rooms.pairs;
         if number >= PAIRS - (FAULT == fault::PAIRS_511) as usize {
-            return Err(Answer::NoRoom);
+            return Err(Stop::NoRoom);
         }
         self.pairs[number] = [first, second];
         self.rooms.pairs += 1;
-        Ok(Value::unkeyed(Kind::Pair, number))
+        Ok(Value::unkeyed(Kind::Pair, number as u32))
     }
 
     /// Makes a binding and gives its number; there is room.
@@ -658,8 +702,8 @@ impl<const FAULT: u32> MachineWith<FAULT> {
 }
 
 #[inline]
-fn kind(wanted: Kind, value: Value) -> Result<(), Answer> {
-    if value.kind == wanted { Ok(()) } else { Err(Answer::Stuck) }
+fn kind(wanted: Kind, value: Value) -> Result<(), Stop> {
+    if value.is(wanted) { Ok(()) } else { Err(Stop::Stuck) }
 }
 
 /// The machine's code: each variable becomes the binding of a host value or the number of bindings

@@ -1,9 +1,9 @@
 -- The bindings that a number leads to, as a list, newest first; what such a list says of variables and names.
-use mathlib.Core.Path.{_≡_, refl}
+use mathlib.Core.Path.{_≡_, refl, ap}
 use Prim.Native.Nat.{ℕ, zero, suc, _≤_}
 use native.Mathlib.Omega.{arith}
 use mathlib.Core.Bool.{cond}
-use mathlib.Core.List.{List, [], _∷_}
+use mathlib.Core.List.{List, [], _∷_, _++_}
 use mathlib.Core.Option.{Option, none, some}
 use lib.ListN.{length, getElem?}
 use lib.Dec.{eqb}
@@ -38,6 +38,19 @@ chain-wider f (ch-cons g h c) = ch-cons (f _ _ g) h (chain-wider f c)
 pub chain-le : {B : List Link} {e : ℕ} {E : List Bind} → Chain B e E → e ≤ length B
 chain-le ch-nil = omega arith
 chain-le {B} (ch-cons {i = i} {l = l} g h c) = omega (arith, getElem?-lt B i l g)
+
+-- links added at the end
+pub seam {ℓ} : {A : Type ℓ} (l : List A) (a : A) (m : List A) → getElem? (l ++ (a ∷ m)) (length l) ≡ some a
+seam [] a m = refl
+seam (x ∷ l) a m = seam l a m
+
+pub seam-next {ℓ} : {A : Type ℓ} (l : List A) (a b : A) (m : List A) → getElem? (l ++ (a ∷ b ∷ m)) (suc (length l)) ≡ some b
+seam-next [] a b m = refl
+seam-next (x ∷ l) a b m = seam-next l a b m
+
+pub length-two {ℓ} : {A : Type ℓ} (l : List A) (a b : A) → length (l ++ (a ∷ b ∷ [])) ≡ suc (suc (length l))
+length-two [] a b = refl
+length-two (x ∷ l) a b = ap suc (length-two l a b)
 
 -- the machine's search finds what the list has
 seek-one : (b : Bind) (E : List Bind) (x : ℕ) → seekIn b x (lookVar E x) ≡ lookVar (b ∷ E) x

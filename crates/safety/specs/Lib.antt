@@ -5,3 +5,4 @@ pub mod Growth
 pub mod Enabled
 pub mod Bindings
 pub mod Stores
+pub mod Sound

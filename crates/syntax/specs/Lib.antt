@@ -9,3 +9,6 @@ pub mod WellRead
 pub mod Formed
 pub mod ReadLaws
 pub mod ReadFormed
+pub mod ReadPlaces
+pub mod Scope
+pub mod Context

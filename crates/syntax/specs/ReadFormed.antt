@@ -3,20 +3,22 @@ use mathlib.Core.Path.{_≡_, refl, sym, ap, _∙_, subst, subst⁻¹}
 use Prim.Native.Nat.{ℕ, zero, suc, _+_, _-_, _≤_, _<_}
 use native.Mathlib.Omega.{arith}
 use mathlib.Core.Bool.{Bool, true, false, not, true≢false, false≢true}
-use mathlib.Core.List.{List, [], _∷_, _++_, map, List·Memᴰ, List·Memᴰ·head, List·Memᴰ·tail, List·Memᴰ·not-nil, List·Memᴰ·cases-cons, List·Memᴰ·eq-of-singleton, Memᴰ·of-map}
+use mathlib.Core.List.{List, [], _∷_, _++_, map, List·Memᴰ, List·Memᴰ·head, List·Memᴰ·tail, List·Memᴰ·not-nil, List·Memᴰ·cases-cons, List·Memᴰ·append-cases, List·Memᴰ·eq-of-singleton, Memᴰ·of-map}
 use mathlib.Core.Option.{Option, none, some, Option·none-ne-some, Option·some-injective}
 use mathlib.Core.Logic.{_⊎_, inl, inr}
 use lib.ListN.{length, length-map, length-take, getElem?, take}
 use lib.Dec.{eqb, ltb, leb}
-use borrow.Author.Tests.{ltb-true, leb-true, eqb-true, eqb-false, not-true}
+use borrow.Author.Tests.{lt-ltb, ltb-true, ltb-false, leb-true, eqb-true, eqb-false, not-true}
 use Rattle.order.specs.Bools.{_and_, _or_, and-l, and-r, or-cases, or-l, or-r, and2}
 use Rattle.order.specs.SetLaws.{all-of→}
-use Rattle.order.specs.OrderLaws.{Proper, proper-snoc, getElem?-append}
-use Rattle.syntax.specs.Types.{Ty, num, pair, cell, fn, lim, grant, TypeEntry, e-num, e-pair, e-cell, e-fn, e-lim, e-grant, grow, treeIn, tree, namesIn}
+use Rattle.order.specs.OrderLaws.{Proper, proper-snoc, getElem?-append, getElem?-lt, length-snoc}
+use Rattle.order.specs.Effects.{Effect, names}
+use Rattle.order.specs.EffectLaws.{name-mem}
+use Rattle.syntax.specs.Types.{Ty, num, pair, cell, fn, lim, grant, TypeEntry, e-num, e-pair, e-cell, e-fn, e-lim, e-grant, grow, treeIn, tree, depth, namesIn}
 use Rattle.syntax.specs.Commands.{Cmd, c-num, c-top, c-var, c-pair, c-part, c-fn, c-app, c-new, c-asg, c-read, c-sum, c-test, c-lim, c-grant, c-newkey, c-assoc, mapCmd}
 use Rattle.syntax.specs.Operands.{nth, plain, inner, kids, typesOf, usesVar, bindsVar, bindsName}
 use Rattle.syntax.specs.Job.{Name, HostValue, Job, uppers, valueOf, sourceOf}
-use Rattle.syntax.specs.Reading.{declared, isHost, hostName, openName, localName, nameOk, partsOk, typeOk, unkeyedNumber, hostTypeOk, hostValueOk, cmdOk, most-variables, read, reading}
+use Rattle.syntax.specs.Reading.{most-depth, declared, setOk, isHost, hostName, openName, localName, nameOk, partsOk, typeOk, unkeyedNumber, hostTypeOk, hostValueOk, cmdOk, most-variables, read, reading}
 use Rattle.syntax.specs.ReadLaws.{nothing, more, built-at, NamesOk, TypesOk, JobOk, withCmds, read-ok}
 use Rattle.syntax.specs.WellRead.{HostTyped, ht-cell, ht-lim, ht-grant, WellRead}
 use Rattle.syntax.specs.Formed.{Formed}
@@ -97,6 +99,137 @@ pub host-upper : {ds : List Name} → NamesOk ds → (i : ℕ) (d : Name) → ge
 host-upper {ds} b i d e h =
     let z = take-split i ds in
     subst⁻¹ (λ l. hostName l (d .upper) ≡ true) (z .1) (host-grow (take i ds) (z .0) (d .upper) (upper-ok (take i ds) d (built-at nameOk b i d e) .host-upper h))
+
+-- Declared types
+
+getElem?-some : {A : Type 0} (l : List A) (i : ℕ) → i < length l → (a : A) × (getElem? l i ≡ some a)
+getElem?-some [] i h = absurd (omega arith)
+getElem?-some (x ∷ l) zero h = (x, refl)
+getElem?-some (x ∷ l) (suc i) h = getElem?-some l i (omega arith)
+
+-- the parts of entry i are earlier entries, and its names are declared
+pub entry-parts : (ds : List Name) {ts : List TypeEntry} → TypesOk ds ts → (i : ℕ) (e : TypeEntry) → getElem? ts i ≡ some e → partsOk ds i e ≡ true
+unfolding typeOk
+entry-parts ds {ts} b i e h =
+    let z : length (take i ts) ≡ i = omega (arith, length-take i ts, getElem?-lt ts i e h) in subst (λ n. partsOk ds n e ≡ true) z (and-l _ _ (built-at _ b i e h))
+
+-- an entry's tree is decided by the trees of earlier entries
+pub grow-same : (ds : List Name) (n : ℕ) (e : TypeEntry) → partsOk ds n e ≡ true → (f g : ℕ → Ty) → ((a : ℕ) → a < n → f a ≡ g a) → grow (some e) f ≡ grow (some e) g
+unfolding grow partsOk
+grow-same ds n (e-num q) h f g s = refl
+grow-same ds n (e-pair q a b) h f g s =
+    let x = s a (ltb-true a n (and-r _ _ (and-l _ _ h))) in let y = s b (ltb-true b n (and-r _ _ h)) in rw (x, y)
+grow-same ds n (e-cell q a) h f g s = let x = s a (ltb-true a n (and-r _ _ h)) in rw x
+grow-same ds n (e-fn q a b p) h f g s =
+    let x = s a (ltb-true a n (and-r _ _ (and-l _ _ (and-l _ _ h)))) in let y = s b (ltb-true b n (and-r _ _ (and-l _ _ h))) in rw (x, y)
+grow-same ds n (e-lim q r) h f g s = refl
+grow-same ds n (e-grant q r) h f g s = refl
+
+-- more levels than i give the same tree
+tree-levels : (ds : List Name) {ts : List TypeEntry} → TypesOk ds ts → (f g i : ℕ) → i < f → i < g → treeIn f ts i ≡ treeIn g ts i
+unfolding treeIn grow
+tree-levels ds b zero g i h k = absurd (omega arith)
+tree-levels ds b (suc f) zero i h k = absurd (omega arith)
+tree-levels ds {ts} b (suc f) (suc g) i h k = at (getElem? ts i) refl (λ a u v. tree-levels ds b f g a u v)
+  where
+    at : (o : Option TypeEntry) → getElem? ts i ≡ o → ((a : ℕ) → a < f → a < g → treeIn f ts a ≡ treeIn g ts a) → grow o (treeIn f ts) ≡ grow o (treeIn g ts)
+    at none z s = refl
+    at (some e) z s = grow-same ds i e (entry-parts ds b i e z) (treeIn f ts) (treeIn g ts) (λ a u. s a (omega arith) (omega arith))
+
+-- the tree of an entry is made of the trees of its parts
+pub tree-at : (ds : List Name) {ts : List TypeEntry} → TypesOk ds ts → (i : ℕ) (e : TypeEntry) → getElem? ts i ≡ some e → tree ts i ≡ grow (some e) (tree ts)
+unfolding tree treeIn
+tree-at ds {ts} b i e h =
+    ap (λ o. grow o (treeIn i ts)) h ∙ grow-same ds i e (entry-parts ds b i e h) (treeIn i ts) (tree ts) (λ a u. tree-levels ds b i (suc a) a u (omega arith))
+
+-- the trees of declared types stay the same when entries are added at the end
+tree-longer : (ds : List Name) {ts : List TypeEntry} → TypesOk ds ts → (us : List TypeEntry) (f i : ℕ) → i < length ts → treeIn f (ts ++ us) i ≡ treeIn f ts i
+unfolding treeIn
+tree-longer ds b us zero i h = refl
+tree-longer ds {ts} b us (suc f) i h = at (getElem?-some ts i h) (λ a u. tree-longer ds b us f a u)
+  where
+    at : (e : TypeEntry) × (getElem? ts i ≡ some e) → ((a : ℕ) → a < length ts → treeIn f (ts ++ us) a ≡ treeIn f ts a)
+        → grow (getElem? (ts ++ us) i) (treeIn f (ts ++ us)) ≡ grow (getElem? ts i) (treeIn f ts)
+    at (e, z) s = rw (getElem?-append ts us i e z, z) (grow-same ds i e (entry-parts ds b i e z) (treeIn f (ts ++ us)) (treeIn f ts) (λ a u. s a (omega arith)))
+
+pub tree-append : (ds : List Name) {ts : List TypeEntry} → TypesOk ds ts → (us : List TypeEntry) (i : ℕ) → i < length ts → tree (ts ++ us) i ≡ tree ts i
+unfolding tree
+tree-append ds b us i h = tree-longer ds b us (suc i) i h
+
+-- no declared type is deeper than 16
+pub tree-depth : (ds : List Name) {ts : List TypeEntry} → TypesOk ds ts → (i : ℕ) → i < length ts → depth (tree ts i) ≤ most-depth
+unfolding typeOk
+tree-depth ds nothing i h = absurd (omega arith)
+tree-depth ds (more {l} b e z) i h = at (ltb i (length l)) refl (λ k. tree-depth ds b i k)
+  where
+    at : (c : Bool) → ltb i (length l) ≡ c → (i < length l → depth (tree l i) ≤ most-depth) → depth (tree (l ++ (e ∷ [])) i) ≤ most-depth
+    at true x s = let k = ltb-true i (length l) x in rw (tree-append ds b (e ∷ []) i k) (s k)
+    at false x s = let k : i ≡ length l = omega (arith, ltb-false i (length l) x, length-snoc l e) in rw k (leb-true _ _ (and-r _ _ z))
+
+-- a written set has declared names alone
+set-declared : (ds : List Name) (s : Effect) → setOk ds s ≡ true → {n : ℕ} → List·Memᴰ n (names s) → declared ds n ≡ true
+unfolding setOk
+set-declared ds s h m = all-of→ (declared ds) (and-l _ _ h) (name-mem s m .0)
+
+zero-declared : (ds : List Name) → declared ds 0 ≡ true
+unfolding declared
+zero-declared ds = lt-ltb 0 (2 + length ds) (omega arith)
+
+two-declared : (ds : List Name) (q r : ℕ) → declared ds q ≡ true → declared ds r ≡ true → {n : ℕ} → List·Memᴰ n (q ∷ r ∷ []) → declared ds n ≡ true
+two-declared ds q r x y {n} m = at (List·Memᴰ·cases-cons m)
+  where
+    at : (n ≡ q) ⊎ List·Memᴰ n (r ∷ []) → declared ds n ≡ true
+    at (inl z) = rw z x
+    at (inr z) = rw (List·Memᴰ·eq-of-singleton z) y
+
+-- an entry's tree has the entry's own names, which are declared, and those of its parts
+grow-declared : (ds : List Name) (n : ℕ) (e : TypeEntry) → partsOk ds n e ≡ true → (f : ℕ → Ty) → ((a : ℕ) → a < n → (x : ℕ) → List·Memᴰ x (namesIn (f a)) → declared ds x ≡ true)
+    → (x : ℕ) → List·Memᴰ x (namesIn (grow (some e) f)) → declared ds x ≡ true
+unfolding grow partsOk namesIn
+grow-declared ds n (e-num q) h f s x m = rw (List·Memᴰ·eq-of-singleton m) h
+grow-declared ds n (e-pair q a b) h f s x m = at (List·Memᴰ·cases-cons m)
+  where
+    part : List·Memᴰ x (namesIn (f a)) ⊎ List·Memᴰ x (namesIn (f b)) → declared ds x ≡ true
+    part (inl z) = s a (ltb-true a n (and-r _ _ (and-l _ _ h))) x z
+    part (inr z) = s b (ltb-true b n (and-r _ _ h)) x z
+
+    at : (x ≡ q) ⊎ List·Memᴰ x (namesIn (f a) ++ namesIn (f b)) → declared ds x ≡ true
+    at (inl z) = rw z (and-l _ _ (and-l _ _ h))
+    at (inr z) = part (List·Memᴰ·append-cases (namesIn (f a)) z)
+grow-declared ds n (e-cell q a) h f s x m = at (List·Memᴰ·cases-cons m)
+  where
+    at : (x ≡ q) ⊎ List·Memᴰ x (namesIn (f a)) → declared ds x ≡ true
+    at (inl z) = rw z (and-l _ _ h)
+    at (inr z) = s a (ltb-true a n (and-r _ _ h)) x z
+grow-declared ds n (e-fn q a b p) h f s x m = at (List·Memᴰ·cases-cons m)
+  where
+    last : List·Memᴰ x (namesIn (f b)) ⊎ List·Memᴰ x (names p) → declared ds x ≡ true
+    last (inl z) = s b (ltb-true b n (and-r _ _ (and-l _ _ h))) x z
+    last (inr z) = set-declared ds p (and-r _ _ h) z
+
+    part : List·Memᴰ x (namesIn (f a)) ⊎ List·Memᴰ x (namesIn (f b) ++ names p) → declared ds x ≡ true
+    part (inl z) = s a (ltb-true a n (and-r _ _ (and-l _ _ (and-l _ _ h)))) x z
+    part (inr z) = last (List·Memᴰ·append-cases (namesIn (f b)) z)
+
+    at : (x ≡ q) ⊎ List·Memᴰ x (namesIn (f a) ++ (namesIn (f b) ++ names p)) → declared ds x ≡ true
+    at (inl z) = rw z (and-l _ _ (and-l _ _ (and-l _ _ h)))
+    at (inr z) = part (List·Memᴰ·append-cases (namesIn (f a)) z)
+grow-declared ds n (e-lim q r) h f s x m = two-declared ds q r (and-l _ _ (and-l _ _ h)) (and-r _ _ (and-l _ _ h)) m
+grow-declared ds n (e-grant q r) h f s x m = two-declared ds q r (and-l _ _ (and-l _ _ h)) (and-r _ _ (and-l _ _ h)) m
+
+levels-declared : (ds : List Name) {ts : List TypeEntry} → TypesOk ds ts → (f i : ℕ) (x : ℕ) → List·Memᴰ x (namesIn (treeIn f ts i)) → declared ds x ≡ true
+unfolding treeIn grow namesIn
+levels-declared ds b zero i x m = rw (List·Memᴰ·eq-of-singleton m) (zero-declared ds)
+levels-declared ds {ts} b (suc f) i x m = at (getElem? ts i) refl (λ a y w. levels-declared ds b f a y w) m
+  where
+    at : (o : Option TypeEntry) → getElem? ts i ≡ o → ((a y : ℕ) → List·Memᴰ y (namesIn (treeIn f ts a)) → declared ds y ≡ true) → List·Memᴰ x (namesIn (grow o (treeIn f ts))) → declared ds x ≡ true
+    at none z s w = rw (List·Memᴰ·eq-of-singleton w) (zero-declared ds)
+    at (some e) z s w = grow-declared ds i e (entry-parts ds b i e z) (treeIn f ts) (λ a u y v. s a y v) x w
+
+-- every name in a declared type is declared
+pub tree-declared : (ds : List Name) {ts : List TypeEntry} → TypesOk ds ts → (i x : ℕ) → List·Memᴰ x (namesIn (tree ts i)) → declared ds x ≡ true
+unfolding tree
+tree-declared ds b i x m = levels-declared ds b (suc i) i x m
 
 -- Types of host values
 
@@ -233,6 +366,25 @@ module _ {T U : Type 0} (f : T → U) where
   usesVar-map (c-grant a b) = refl
   usesVar-map (c-newkey v r a b t) = refl
   usesVar-map (c-assoc a b) = refl
+
+  pub typesOf-map : (k : Cmd T) → typesOf (mapCmd f k) ≡ map f (typesOf k)
+  unfolding typesOf mapCmd
+  typesOf-map (c-num n) = refl
+  typesOf-map c-top = refl
+  typesOf-map (c-var v) = refl
+  typesOf-map (c-pair a b) = refl
+  typesOf-map (c-part a i) = refl
+  typesOf-map (c-fn v t b) = refl
+  typesOf-map (c-app a b) = refl
+  typesOf-map (c-new t a) = refl
+  typesOf-map (c-asg a b) = refl
+  typesOf-map (c-read a) = refl
+  typesOf-map (c-sum i a b) = refl
+  typesOf-map (c-test a b c t) = refl
+  typesOf-map (c-lim ks b) = refl
+  typesOf-map (c-grant a b) = refl
+  typesOf-map (c-newkey v r a b t) = refl
+  typesOf-map (c-assoc a b) = refl
 
   pub nth-map : (l : List (Cmd T)) (e : ℕ) → nth (map (mapCmd f) l) e ≡ mapCmd f (nth l e)
   unfolding nth mapCmd

@@ -2,6 +2,7 @@
 use Prim.Native.Nat.{ℕ, _+_, _-_, _*_, _/_, _%_}
 use mathlib.Core.Bool.{Bool, true, false, cond}
 use mathlib.Core.List.{List, [], _∷_, _++_, map, flatMap}
+use mathlib.Core.Option.{Option, none, some}
 use lib.ListN.{length, replicate, getD, take}
 use lib.Dec.{eqb}
 use Rattle.syntax.specs.Types.{TypeEntry, e-num, e-pair, e-cell, e-fn, e-lim, e-grant}
@@ -126,3 +127,19 @@ unfoldable pub codeIn : List ℕ → List ℕ → ℕ → Cmd ℕ
 codeIn heads slots i =
     decode (getD heads i 0 % 256) (getD heads i 0 / 256 % 4294967296)
     (getD slots (i * 5) 0) (getD slots (i * 5 + 1) 0) (getD slots (i * 5 + 2) 0) (getD slots (i * 5 + 3) 0) (getD slots (i * 5 + 4) 0)
+
+-- the type entry that a word and a set stand for; a word with no type's command byte is no entry
+unfoldable pub entryBits : ℕ → ℕ → ℕ → ℕ → ℕ → Option TypeEntry
+entryBits byte q a b s =
+    cond (eqb byte 0x10) (some (e-num q))
+    (cond (eqb byte 0x11) (some (e-pair q a b))
+    (cond (eqb byte 0x12) (some (e-cell q a))
+    (cond (eqb byte 0x13) (some (e-fn q a b s))
+    (cond (eqb byte 0x14) (some (e-lim q (a % 256)))
+    (cond (eqb byte 0x15) (some (e-grant q (a % 256)))
+    none)))))
+
+-- entry i of the tables
+unfoldable pub entryIn : List ℕ → List ℕ → ℕ → Option TypeEntry
+entryIn types sets i =
+    entryBits (getD types i 0 % 256) (getD types i 0 / 256 % 256) (getD types i 0 / 65536 % 65536) (getD types i 0 / 4294967296 % 65536) (getD sets i 0)

@@ -5,3 +5,11 @@ pub mod Verdict
 pub mod Layout
 pub mod Tables
 pub mod SubtypeLaws
+pub mod Scoped
+pub mod Filled
+pub mod Adequate
+pub mod Minimal
+pub mod Parts
+pub mod Exactly
+pub mod Demand2
+pub mod Entries

@@ -45,7 +45,7 @@ fn main() {
             black_box(Machine::start(black_box(&heavy)).is_ok());
         }
     }));
-    let mut checks = |what: &str, jobs: &[Vec<u8>]| {
+    let checks = |what: &str, jobs: &[Vec<u8>]| {
         let bytes: usize = jobs.iter().map(Vec::len).sum();
         let each = time(jobs.len() as u64, || {
             for job in jobs {
@@ -56,8 +56,8 @@ fn main() {
     };
     let mut rng = Rng::new(8);
     let large: Vec<Vec<u8>> = std::iter::repeat_with(|| write(&typed(&mut rng)))
-        .filter(|job| job.len() > 1000)
-        .take(100)
+        .filter(|job| job.len() > 800)
+        .take(20)
         .collect();
     checks("all kinds of jobs", &(1..2000).map(|seed| job(seed).1).collect::<Vec<_>>());
     checks("large typed jobs", &large);

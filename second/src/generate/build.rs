@@ -42,6 +42,10 @@ pub fn job(rng: &mut Rng, looped: bool) -> Job {
         let fuel = 1 + builder.rng.below(7);
         let root = match looped {
             true => builder.loop_job(),
+            false if builder.rng.chance(40) => {
+                let turns = builder.rng.below(25);
+                Some(builder.spine(fuel.min(4), turns))
+            }
             false => Some(builder.any(fuel)),
         };
         if let Some(job) = root.and_then(|root| builder.finish(root)) {
@@ -424,11 +428,45 @@ impl<'r> Builder<'r> {
 
     /// Any expression at all.
     fn any(&mut self, fuel: usize) -> Node {
-        let node = if fuel == 0 { None } else { self.grown(fuel - 1) };
+        let node = match fuel {
+            0 => None,
+            _ => self.grown(fuel - 1).or_else(|| self.grown(fuel - 1)),
+        };
         match node.or_else(|| self.leaf()) {
             Some(node) => node,
             None => self.some_number(),
         }
+    }
+
+    /// Something with many others around it, whose values it can use.
+    fn spine(&mut self, fuel: usize, turns: usize) -> Node {
+        if turns == 0 {
+            return self.any(fuel);
+        }
+        let inside = |b: &mut Self| Some(b.spine(fuel, turns - 1));
+        let around = match self.rng.below(6) {
+            0 => self.key_around(inside),
+            1 => {
+                let (first, rest) = (self.any(fuel), self.spine(fuel, turns - 1));
+                self.add(Expr::Pair(first, rest))
+                    .and_then(|pair| self.add(Expr::Part(pair, 2)))
+            }
+            _ => self.let_in(fuel, inside),
+        };
+        match around {
+            Some(node) => node,
+            None => self.any(fuel),
+        }
+    }
+
+    /// A function applied to something, its body having it as a variable.
+    fn let_in(&mut self, fuel: usize, body: impl FnOnce(&mut Self) -> Option<Node>) -> Option<Node> {
+        let argument = self.any(fuel);
+        let v = self.new_variable()?;
+        let ty = self.widen(self.of(argument).ty, 0, true)?;
+        let body = self.under(v, ty, body)?;
+        let function = self.add(Expr::Function(v, ty, body))?;
+        self.add(Expr::Apply(function, argument))
     }
 
     fn leaf(&mut self) -> Option<Node> {

@@ -1,0 +1,174 @@
+-- Where reading stops: the number and place of a refusal, and how long a job can be.
+use mathlib.Core.Path.{_≡_, refl, subst}
+use Prim.Native.Nat.{ℕ, zero, suc, _+_, _*_, _≤_, _<_}
+use native.Mathlib.Omega.{arith}
+use mathlib.Core.Bool.{Bool, true, false, cond}
+use mathlib.Core.List.{List, [], _∷_}
+use mathlib.Core.Option.{Option, none, some}
+use lib.ListN.{length, length-drop, drop}
+use lib.Dec.{eqb, ltb}
+use borrow.Author.Tests.{ltb-false, eqb-true}
+use Rattle.order.specs.OrderLaws.{length-snoc}
+use Rattle.syntax.specs.Commands.{Op, o-host, o-local, o-number, o-pair, o-cell, o-function, o-limit, o-grant, o-value, o-rights, o-end, opOf, operands, total, width, sectionOf, fields}
+use Rattle.syntax.specs.Commands.{x-number, x-top, x-variable, x-pair, x-part, x-function, x-apply, x-cell, x-assign, x-read, x-sum, x-test, x-limit, x-grant, x-newkey, x-associate}
+use Rattle.syntax.specs.Job.{Job}
+use Rattle.syntax.specs.Reading.{Refusal, State, nameOk, typeOk, hostValueOk, rightsOk, cmdOk, Written, written, given, enter, misplaced, full}
+use Rattle.syntax.specs.Reading.{Step, refuse, proceed, finish, settle, command, Read, refused, refusedAt, read, ended, onward, onOp, readFrom, noJob, reading}
+use Rattle.syntax.specs.ReadLaws.{Placed, placed, Wrote, wrote-name, wrote-type, wrote-value, wrote-rights, wrote-cmd, wrote-end, wrote-none, wrote, read-ok}
+
+-- the most bytes that follow a command byte, by section
+unfoldable pub widest : ℕ → ℕ
+widest zero = 1
+widest (suc zero) = 13
+widest (suc (suc zero)) = 6
+widest (suc (suc (suc zero))) = 8
+widest (suc (suc (suc (suc zero)))) = 11
+widest (suc (suc (suc (suc (suc n))))) = 0
+
+pub width-most : (op : Op) → width op ≤ widest (sectionOf op)
+unfolding width total operands sectionOf widest
+width-most o-host = omega arith
+width-most o-local = omega arith
+width-most o-number = omega arith
+width-most o-pair = omega arith
+width-most o-cell = omega arith
+width-most o-function = omega arith
+width-most o-limit = omega arith
+width-most o-grant = omega arith
+width-most o-value = omega arith
+width-most o-rights = omega arith
+width-most x-number = omega arith
+width-most x-top = omega arith
+width-most x-variable = omega arith
+width-most x-pair = omega arith
+width-most x-part = omega arith
+width-most x-function = omega arith
+width-most x-apply = omega arith
+width-most x-cell = omega arith
+width-most x-assign = omega arith
+width-most x-read = omega arith
+width-most x-sum = omega arith
+width-most x-test = omega arith
+width-most x-limit = omega arith
+width-most x-grant = omega arith
+width-most x-newkey = omega arith
+width-most x-associate = omega arith
+width-most o-end = omega arith
+
+-- the most bytes that write the entries of a job
+unfoldable pub weight : Job → ℕ
+weight J = 2 * length (J .names) + 14 * length (J .types) + 7 * length (J .values) + 12 * length (J .cmds)
+
+-- the command at offset `pos` is due, and reading is in section `sec`
+pub record Weighed (pos sec : ℕ) (J : Job) : Type 0 where
+  pub early : sec < 3 → pos ≤ weight J
+  pub late : 3 ≤ sec → pos ≤ weight J + 9
+
+-- what one command at `pos` comes to; `w` bytes follow the command byte, and there are `n`
+data Weighs (pos w n : ℕ) : Step → Type 0 where
+  weighs-refuse : (r : ℕ) → 2 ≤ r → r ≤ 7 → Weighs pos w n (refuse r)
+  weighs-proceed : (st : State) → w ≤ n → Weighed (pos + 1 + w) (st .section) (st .job) → Weighs pos w n (proceed st)
+  weighs-finish : (J : Job) → pos ≤ weight J + 9 → Weighs pos w n (finish J)
+
+-- what reading an input of n bytes comes to
+pub data Comes (n : ℕ) : Read → Type 0 where
+  comes-refused : (r : Refusal) → 2 ≤ r .number → r .number ≤ 7 → r .place ≤ n → Comes n (refused r)
+  comes-read : (J : Job) → n ≤ weight J + 10 → Comes n (read J)
+
+weigh-settled : (pos w n sec : ℕ) (J : Job) → sec < 5 → w ≤ n → Weighed (pos + 1 + w) sec J → (b : Bool) → Weighs pos w n (settle sec (given b J))
+unfolding settle given
+weigh-settled pos w n sec J h l g false = weighs-refuse 6 (omega arith) (omega arith)
+weigh-settled pos w n sec J h l g true = at (eqb sec 5) refl
+  where
+    at : (c : Bool) → eqb sec 5 ≡ c → Weighs pos w n (cond c (finish J) (proceed (record { section = sec; job = J })))
+    at true e = absurd (omega (arith, eqb-true sec 5 e))
+    at false e = weighs-proceed (record { section = sec; job = J }) l g
+
+weigh-entered : (pos w n sec : ℕ) (x : Written) → Wrote sec x → (cur : ℕ) (J : Job) → Weighed pos cur J → Placed cur sec (length (J .cmds)) → w ≤ widest sec → w ≤ n
+    → Weighs pos w n (settle sec (enter x J))
+unfolding enter settle widest weight
+weigh-entered pos w n sec x (wrote-name d) cur J g p h l =
+    weigh-settled pos w n 0 _ (omega arith) l (record { early = λ z. omega (arith, length-snoc (J .names) d, g .early (omega (arith, p .after))); late = λ z. absurd (omega arith) }) (nameOk (J .names) d)
+weigh-entered pos w n sec x (wrote-type t) cur J g p h l =
+    weigh-settled pos w n 1 _ (omega arith) l (record { early = λ z. omega (arith, length-snoc (J .types) t, g .early (omega (arith, p .after))); late = λ z. absurd (omega arith) }) (typeOk (J .names) (J .types) t)
+weigh-entered pos w n sec x (wrote-value v) cur J g p h l =
+    weigh-settled pos w n 2 _ (omega arith) l (record { early = λ z. omega (arith, length-snoc (J .values) v, g .early (omega (arith, p .after))); late = λ z. absurd (omega arith) }) (hostValueOk (J .names) (J .types) v)
+weigh-entered pos w n sec x (wrote-rights s) cur J g p h l =
+    weigh-settled pos w n 3 _ (omega arith) l (record { early = λ z. absurd (omega arith); late = λ z. omega (arith, g .early (p .once refl)) }) (rightsOk (J .names) s)
+weigh-entered pos w n sec x (wrote-cmd k) cur J g p h l =
+    weigh-settled pos w n 4 _ (omega arith) l (record { early = λ z. absurd (omega arith); late = λ z. omega (arith, length-snoc (J .cmds) k, g .late (p .late (omega arith))) }) (cmdOk J k)
+weigh-entered pos w n sec x wrote-end cur J g p h l = weighs-finish J (g .late (p .late (omega arith)))
+weigh-entered pos w n sec x (wrote-none m) cur J g p h l = weighs-refuse 6 (omega arith) (omega arith)
+
+weigh-command : (pos : ℕ) (op : Op) (s : List ℕ) (st : State) → Weighed pos (st .section) (st .job) → Weighs pos (width op) (length s) (command op s st)
+unfolding command
+weigh-command pos op s st g = at (misplaced st (sectionOf op)) refl (ltb (length s) (width op)) refl (full (st .job) (sectionOf op))
+  where
+    at : (a : Bool) → misplaced st (sectionOf op) ≡ a → (b : Bool) → ltb (length s) (width op) ≡ b → (c : Bool)
+        → Weighs pos (width op) (length s) (cond a (refuse 3) (cond b (refuse 4) (cond c (refuse 5) (settle (sectionOf op) (enter (written op (fields (operands op) s)) (st .job))))))
+    at true x b y c = weighs-refuse 3 (omega arith) (omega arith)
+    at false x true y c = weighs-refuse 4 (omega arith) (omega arith)
+    at false x false y true = weighs-refuse 5 (omega arith) (omega arith)
+    at false x false y false =
+        weigh-entered pos (width op) (length s) (sectionOf op) (written op (fields (operands op) s)) (wrote op (fields (operands op) s)) (st .section) (st .job) g (placed st (sectionOf op) x)
+        (width-most op) (ltb-false (length s) (width op) y)
+
+weigh-onward : (pos w : ℕ) (s : List ℕ) (t : Step) → Weighs pos w (length s) t → (next : State → Read)
+    → ((st : State) → Weighed (pos + 1 + w) (st .section) (st .job) → Comes (pos + 1 + w + length (drop w s)) (next st)) → Comes (pos + suc (length s)) (onward t pos s next)
+unfolding onward ended
+weigh-onward pos w s t (weighs-refuse r h k) next f = comes-refused (record { number = r; place = pos }) h k (omega arith)
+weigh-onward pos w s t (weighs-proceed st l g) next f = let z : pos + 1 + w + length (drop w s) ≡ pos + suc (length s) = omega (arith, length-drop w s) in subst (λ n. Comes n (next st)) z (f st g)
+weigh-onward pos w [] t (weighs-finish J h) next f = comes-read J (omega arith)
+weigh-onward pos w (b ∷ s) t (weighs-finish J h) next f = comes-refused (record { number = 7; place = suc pos }) (omega arith) (omega arith) (omega arith)
+
+pub from-comes : (f pos : ℕ) (st : State) (s : List ℕ) → Weighed pos (st .section) (st .job) → Comes (pos + length s) (readFrom f pos st s)
+unfolding readFrom onOp
+from-comes zero pos st s g = comes-refused (record { number = 4; place = pos }) (omega arith) (omega arith) (omega arith)
+from-comes (suc f) pos st [] g = comes-refused (record { number = 4; place = pos }) (omega arith) (omega arith) (omega arith)
+from-comes (suc f) pos st (b ∷ s) g = at (opOf b) (λ op next h. from-comes f (pos + 1 + width op) next (drop (width op) s) h)
+  where
+    at : (o : Option Op)
+        → ((op : Op) (next : State) → Weighed (pos + 1 + width op) (next .section) (next .job) → Comes (pos + 1 + width op + length (drop (width op) s)) (readFrom f (pos + 1 + width op) next (drop (width op) s)))
+        → Comes (pos + suc (length s)) (onOp o pos (λ op. onward (command op s st) pos s (λ next. readFrom f (pos + 1 + width op) next (drop (width op) s))))
+    at none k = comes-refused (record { number = 2; place = pos }) (omega arith) (omega arith) (omega arith)
+    at (some op) k = weigh-onward pos (width op) s (command op s st) (weigh-command pos op s st g) (λ next. readFrom f (pos + 1 + width op) next (drop (width op) s)) (λ next h. k op next h)
+
+pub reading-comes : (s : List ℕ) → Comes (length s) (reading s)
+unfolding reading weight
+reading-comes s =
+    let z : 0 + length s ≡ length s = omega arith in
+    subst (λ n. Comes n (readFrom (suc (length s)) 0 (record { section = 0; job = noJob }) s)) z
+    (from-comes (suc (length s)) 0 (record { section = 0; job = noJob }) s (record { early = λ h. omega arith; late = λ h. omega arith }))
+
+-- a refusal's number by reading is one of 2 to 7, and its place is in the input or right after it
+pub refused-number : (s : List ℕ) (r : Refusal) → reading s ≡ refused r → (2 ≤ r .number) × (r .number ≤ 7)
+refused-number s r e = at (reading-comes s) e
+  where
+    at : {x : Read} → Comes (length s) x → x ≡ refused r → (2 ≤ r .number) × (r .number ≤ 7)
+    at (comes-refused q a b c) z = let h : q ≡ r = cc in subst (λ (y : Refusal). (2 ≤ y .number) × (y .number ≤ 7)) h (a, b)
+    at (comes-read J a) z = absurd (let h : _≡_ {A = ℕ} 0 1 = cc in omega arith)
+
+pub refused-place : (s : List ℕ) (r : Refusal) → reading s ≡ refused r → r .place ≤ length s
+refused-place s r e = at (reading-comes s) e
+  where
+    at : {x : Read} → Comes (length s) x → x ≡ refused r → r .place ≤ length s
+    at (comes-refused q a b c) z = let h : q ≡ r = cc in subst (λ (y : Refusal). y .place ≤ length s) h c
+    at (comes-read J a) z = absurd (let h : _≡_ {A = ℕ} 0 1 = cc in omega arith)
+
+-- no bytes: a command is due at 0
+pub reading-nothing : reading [] ≡ refusedAt 4 0
+unfolding reading readFrom
+reading-nothing = refl
+
+-- an entry of each kind has so many bytes at most, the rights 9, the end 1
+pub read-length : (s : List ℕ) (J : Job) → reading s ≡ read J → length s ≤ weight J + 10
+read-length s J e = at (reading-comes s) e
+  where
+    at : {x : Read} → Comes (length s) x → x ≡ read J → length s ≤ weight J + 10
+    at (comes-refused q a b c) z = absurd (let h : _≡_ {A = ℕ} 0 1 = cc in omega arith)
+    at (comes-read K a) z = let h : K ≡ J = cc in subst (λ j. length s ≤ weight j + 10) h a
+
+-- "no job is longer than 10,310"
+pub read-short : (s : List ℕ) (J : Job) → reading s ≡ read J → length s ≤ 10310
+unfolding weight
+read-short s J e = let j = read-ok s J e in omega (arith, read-length s J e, j .few-names, j .few-types, j .few-values, j .few-cmds)
