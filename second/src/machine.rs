@@ -302,12 +302,18 @@ impl<const FAULT: u32> MachineWith<FAULT> {
 
     /// Takes up to `steps` steps; says how it ended and how many were taken.
     pub fn run(&mut self, steps: u64) -> (Outcome, u64) {
+        // The control is kept at hand and put back at the end.
+        let mut control = self.control;
         for taken in 0..steps {
-            match self.advance(self.control) {
-                Ok(control) => self.control = control,
-                Err(answer) => return self.ended(answer, taken, steps),
+            match self.advance(control) {
+                Ok(next) => control = next,
+                Err(stop) => {
+                    self.control = control;
+                    return self.ended(stop, taken, steps);
+                }
             }
         }
+        self.control = control;
         let done = self.is_done() && FAULT != fault::SPENT_WHEN_DONE;
         (if done { Outcome::Done } else { Outcome::Spent }, steps)
     }

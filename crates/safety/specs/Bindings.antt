@@ -23,7 +23,7 @@ use Rattle.typing.specs.Rules.{Lookup, l-here, l-var, l-name, Fresh, Free, Abse
 use Rattle.semantics.specs.Machine.{Value, Bind, b-var, b-name}
 use Rattle.safety.specs.RuntimeTypes.{RTy, RSub, inst, inst-same, inst-mono, rsub-trans}
 use Rattle.safety.specs.Chains.{look, lookVar, base}
-use Rattle.safety.specs.Invariant.{World, Fits, On, on-key, Covers, Mono, Up, EnvOk, eo-nil, eo-var, eo-name, KeysOk}
+use Rattle.safety.specs.Invariant.{World, Fits, on-key, Covers, Mono, Up, EnvOk, eo-nil, eo-var, eo-name, KeysOk}
 use Rattle.safety.specs.Enabled.{on-below}
 
 pub fits-sub : {W : World} {v : Value} {A B : RTy} → Fits W v A → RSub (W .keys) A B → Fits W v B

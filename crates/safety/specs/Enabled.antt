@@ -1,20 +1,20 @@
 -- The machine's tests of enabled keys find all that holds, and what the effects of the rules say of enabled keys.
-use mathlib.Core.Path.{_≡_, refl, sym, ap, _∙_, subst, subst⁻¹}
+use mathlib.Core.Path.{_≡_, refl, ap, _∙_, subst}
 use Prim.Native.Nat.{ℕ, zero, suc, _^_, _<_}
 use native.Mathlib.Omega.{arith}
 use mathlib.Core.Bool.{Bool, true, false}
 use mathlib.Core.List.{List, [], _∷_, _++_, map, List·Memᴰ, List·Memᴰ·head, List·Memᴰ·tail, Memᴰ·map, Memᴰ·of-map}
-use mathlib.Core.Logic.{_≢_, _⊎_, inl, inr}
+use mathlib.Core.Logic.{_≢_}
 use lib.ListN.{length}
 use lib.Dec.{eqb, ltb}
 use borrow.Author.Tests.{eq-eqb, eqb-true, eqb-false, lt-ltb}
-use Rattle.order.specs.Bools.{_and_, _or_, and3, or-l, or-r}
+use Rattle.order.specs.Bools.{_and_, and3, or-l, or-r}
 use Rattle.order.specs.Order.{Below, here, below}
 use Rattle.order.specs.OrderLaws.{below-trans, below-zero, →below, proper-snoc, length-snoc}
-use Rattle.order.specs.Sets.{bit, members, setOf, some-of}
-use Rattle.order.specs.SetLaws.{→or-l, →or-r, bit-or, bit-pow, mem-bit, bit-mem, mem-keep, →some-of, setOf-mem, mem-setOf}
-use Rattle.order.specs.Effects.{Effect, names, touch, join, EffBelow}
-use Rattle.order.specs.EffectLaws.{name-mem, touch-name, touch-old, join-left, join-right}
+use Rattle.order.specs.Sets.{bit, members, setOf, keep, some-of}
+use Rattle.order.specs.SetLaws.{→or-l, →or-r, bit-or, bit-pow, mem-bit, bit-mem, mem-keep, →some-of, setOf-mem}
+use Rattle.order.specs.Effects.{Effect, names, touch, join}
+use Rattle.order.specs.EffectLaws.{touch-name, touch-old, join-left, join-right}
 use Rattle.semantics.specs.Keys.{enabled, upto, narrow, add}
 use Rattle.safety.specs.RuntimeTypes.{Under}
 use Rattle.safety.specs.Invariant.{On, on-zero, on-key, OnAll, Covers, KeysOk}
@@ -51,7 +51,7 @@ module _ {ks : List ℕ} (ok : KeysOk ks) where
       test : ℕ → Bool
       test i = ltb 0 i and enabled ks on i and enabled ks (setOf js) i
 
-      at : (b : Bool) → eqb k 0 ≡ b → On ks (members (setOf (Rattle.order.specs.Sets.keep test (upto (length ks))))) k
+      at : (b : Bool) → eqb k 0 ≡ b → On ks (members (setOf (keep test (upto (length ks))))) k
       at true e = on-zero (eqb-true k 0 e)
       at false e =
           let z : k ≢ 0 = eqb-false k 0 e in

@@ -1,6 +1,5 @@
 -- What is well typed in a world stays so in a wider one.
-use mathlib.Core.Path.{_≡_, refl}
-use Prim.Native.Nat.{ℕ, _≤_, _<_}
+use Prim.Native.Nat.{ℕ}
 use mathlib.Core.List.{List}
 use mathlib.Core.Logic.{_⊎_, inl, inr}
 use native.Mathlib.Nat.{le-trans, le-refl}
@@ -13,8 +12,8 @@ use Rattle.syntax.specs.Job.{Src}
 use Rattle.syntax.specs.Tree.{Entry}
 use Rattle.semantics.specs.Machine.{Kind, Value, Two, Bind, Closure, Frame, Control}
 use Rattle.safety.specs.RuntimeTypes.{RTy, RSub, rsub-wider}
-use Rattle.safety.specs.Chains.{look, chain-wider}
-use Rattle.safety.specs.Invariant.{World, TwoTy, FnTy, Ext, Typ, t-num, t-pair, t-cell, t-fn, t-lim, t-grant, Fits, On, on-zero, on-key, OnAll, Covers, Mono, Up, EnvOk, eo-nil, eo-var, eo-name, Env, Held, hd-nil, hd-cons}
+use Rattle.safety.specs.Chains.{chain-wider}
+use Rattle.safety.specs.Invariant.{World, TwoTy, FnTy, Ext, Typ, t-num, t-pair, t-cell, t-fn, t-lim, t-grant, Fits, On, on-zero, on-key, OnAll, Covers, Mono, EnvOk, eo-nil, eo-var, eo-name, Env, Held, hd-nil, hd-cons}
 use Rattle.safety.specs.Invariant.{FrameOk, fo-pair1, fo-pair2, fo-part1, fo-part2, fo-app1, fo-app2, fo-new, fo-read, fo-asg1, fo-asg2, fo-sum1, fo-sum2, fo-test, fo-lim, fo-grant, fo-newkey, fo-assoc1, fo-assoc2}
 use Rattle.safety.specs.Invariant.{StackOk, so-nil, so-cons, ThreadOk, to-enter, to-hand, PairOk, CellOk, FnOk}
 

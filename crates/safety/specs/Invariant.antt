@@ -1,12 +1,11 @@
 -- The invariant: when a machine is well typed for a job.
-use mathlib.Core.Path.{_≡_, refl}
+use mathlib.Core.Path.{_≡_}
 use Prim.Native.Nat.{ℕ, zero, suc, _≤_, _<_}
 use mathlib.Core.Bool.{Bool, true, false}
 use mathlib.Core.List.{List, [], _∷_, _++_, map, List·Memᴰ}
 use mathlib.Core.Option.{some}
-use mathlib.Core.Logic.{_≢_, _⊎_, inl, inr}
+use mathlib.Core.Logic.{_≢_, _⊎_}
 use lib.ListN.{length, getElem?}
-use native.Mathlib.Nat.{le-trans}
 use Rattle.order.specs.Order.{Below}
 use Rattle.order.specs.OrderLaws.{Proper}
 use Rattle.order.specs.Sets.{members}
@@ -17,7 +16,7 @@ use Rattle.syntax.specs.Job.{Src, upOf}
 use Rattle.syntax.specs.Tree.{Entry, e-var, e-name}
 use Rattle.typing.specs.Subtype.{Sub}
 use Rattle.typing.specs.Rules.{Has, HasKeys, Free, Fresh, codeOf, keysType}
-use Rattle.semantics.specs.Machine.{Kind, k-num, k-pair, k-fn, k-cell, k-lim, k-grant, Value, Two, Bind, b-var, b-name, Link, Closure, Frame, Control, enter, hand, Thread, Store, Machine, most-bindings}
+use Rattle.semantics.specs.Machine.{Kind, k-num, k-pair, k-fn, k-cell, k-lim, k-grant, Value, Two, Bind, b-var, b-name, Link, Closure, Frame, Control, enter, hand, Store, Machine, most-bindings}
 use Rattle.safety.specs.RuntimeTypes.{RTy, rnum, rpair, rcell, rfn, rlim, rgrant, RSub, rkey, rrekey, inst}
 use Rattle.safety.specs.Chains.{look, Chain}
 

@@ -6,3 +6,11 @@ pub mod Enabled
 pub mod Bindings
 pub mod Stores
 pub mod Sound
+pub mod RoomLaws
+pub mod Outs
+pub mod Progress
+pub mod Preservation
+pub mod CallLaws
+pub mod Only
+pub mod Begin
+pub mod Safety

@@ -1,40 +1,40 @@
 -- Each step of a well-typed machine is a step to a well-typed one, done or no room.
-use mathlib.Core.Path.{_≡_, refl, sym, ap, _∙_, subst, subst⁻¹}
+use mathlib.Core.Path.{_≡_, refl, sym, _∙_, subst, subst⁻¹}
 use Prim.Native.Nat.{ℕ, zero, suc, _≤_, _<_}
 use native.Mathlib.Omega.{arith}
 use mathlib.Core.Bool.{Bool, true, false}
-use mathlib.Core.List.{List, [], _∷_, _++_, map, List·Memᴰ, List·Memᴰ·head, List·Memᴰ·tail, List·Memᴰ·not-nil, Memᴰ·map, Memᴰ·cast, append-assoc, append-nil}
-use mathlib.Core.Option.{Option, none, some}
+use mathlib.Core.List.{List, [], _∷_, _++_, map, List·Memᴰ, List·Memᴰ·not-nil, Memᴰ·cast, append-assoc, append-nil}
+use mathlib.Core.Option.{none, some}
 use mathlib.Core.Logic.{_≢_, _⊎_, inl, inr}
 use lib.ListN.{length, getElem?}
-use lib.Dec.{eqb, ltb}
+use lib.Dec.{eqb}
 use borrow.Author.Tests.{eq-eqb, eqb-true, eqb-false, ltb-true}
-use Rattle.order.specs.Bools.{_and_, and-r}
+use Rattle.order.specs.Bools.{and-r}
 use Rattle.order.specs.Order.{Below, bot, here, there}
 use Rattle.order.specs.OrderLaws.{below-grow, getElem?-seam, getElem?-at, getElem?-append, length-snoc}
-use Rattle.order.specs.Sets.{members, setOf}
+use Rattle.order.specs.Sets.{members}
 use Rattle.order.specs.Effects.{Effect, names, join, drop, raise}
 use Rattle.order.specs.EffectLaws.{drop-or, raise-off, raise-on}
-use Rattle.syntax.specs.Types.{Ty, fn, pair, lim, grant, rekey, keyOf}
+use Rattle.syntax.specs.Types.{Ty, fn, keyOf}
 use Rattle.syntax.specs.Commands.{Cmd, c-lim}
 use Rattle.syntax.specs.Job.{Src, upOf}
 use Rattle.syntax.specs.Tree.{Entry, e-var, e-name}
 use Rattle.typing.specs.Subtype.{Sub}
 use Rattle.typing.specs.Rules.{Has, h-num, h-top, h-var, h-pair, h-part1, h-part2, h-fn, h-app, h-new, h-asg, h-read, h-sum, h-test, h-lim, h-grant, h-newkey, h-assoc, h-sub, HasKeys, k-nil, k-cons, Fresh, Free, codeOf, keysType}
-use Rattle.semantics.specs.Machine.{Kind, k-pair, k-lim, k-grant, Value, unkeyed, Two, Bind, b-var, b-name, Link, Closure, Frame, Control, enter, hand, Thread, Store, Machine, most-bindings}
-use Rattle.semantics.specs.Keys.{enabled, narrow, add}
+use Rattle.semantics.specs.Machine.{Kind, k-pair, k-lim, k-grant, Value, unkeyed, Bind, b-var, b-name, Link, Frame, Control, hand, Thread, Store, Machine, most-bindings}
+use Rattle.semantics.specs.Keys.{add}
 use Rattle.semantics.specs.Step
 use Rattle.semantics.specs.Step.{Out, o-step, o-done, o-room, room, onNum, onPair, onFn, onCell, onLim, onGrant, found, one, two, go}
 use Rattle.semantics.specs.Step.{actPair, partOf, actPart, actApp, actNew, actAsg, actRead, actSum, branch, actTest, limitKeys, touchAll, actLim, actGrant, newKey, actNewkey, actAssoc}
 use Rattle.semantics.specs.Step.{worked, act, variable, newFn, push, enterLim, enterCmd, receive, handTo, stepOn, step}
 use Rattle.safety.specs.RuntimeTypes.{RTy, rnum, rpair, rcell, rfn, rlim, rgrant, RSub, r-num, r-pair, r-cell, r-fn, r-lim, r-grant, rkey, rrekey, inst, rsub-refl, rsub-trans, rsub-key, rsub-rekey, inst-rekey, inst-key, under-refl}
 use Rattle.safety.specs.Chains.{look, lookVar, Chain, ch-cons, chain-le, chain-seek, chain-wider, seam, seam-next, length-two}
-use Rattle.safety.specs.Invariant.{TwoTy, FnTy, World, worldOf, Ext, Typ, t-num, t-pair, t-cell, t-fn, t-lim, t-grant, Fits, On, on-zero, on-key, OnAll, Covers, EnvOk, eo-var, eo-name, Env, Held, hd-nil, hd-cons, Rest, rest-here, rest-next}
+use Rattle.safety.specs.Invariant.{TwoTy, FnTy, World, worldOf, Ext, Typ, t-num, t-pair, t-cell, t-fn, t-lim, t-grant, Fits, On, on-key, OnAll, Covers, EnvOk, eo-var, eo-name, Env, Held, hd-nil, hd-cons, Rest, rest-here, rest-next}
 use Rattle.safety.specs.Invariant.{FrameOk, fo-pair1, fo-pair2, fo-part1, fo-part2, fo-app1, fo-app2, fo-new, fo-read, fo-asg1, fo-asg2, fo-sum1, fo-sum2, fo-test, fo-lim, fo-grant, fo-newkey, fo-assoc1, fo-assoc2}
 use Rattle.safety.specs.Invariant.{StackOk, so-nil, so-cons, ThreadOk, to-enter, to-hand, FnOk, StoreOk, KeysOk, Ok}
 use Rattle.safety.specs.Growth.{ext-refl, fits-ext, on-ext, covers-ext, envOk-ext, env-ext, stack-ext}
 use Rattle.safety.specs.Enabled.{on-more, on-enabled, on-below, on-narrow, keys-snoc, on-under, add-new, add-old, on-name, covers-join-l, covers-join-r, covers-old, covers-touch, covers-map, map-covers, covers-more}
-use Rattle.safety.specs.Bindings.{fits-sub, look-off, inst-off, env-zero, env-one, env-mono, env-sub, env-lt, env-lookup, covers-below, covers-keys, mono-new, up-new}
+use Rattle.safety.specs.Bindings.{fits-sub, inst-off, env-zero, env-one, env-mono, env-sub, env-lt, env-lookup, covers-below, covers-keys, mono-new, up-new}
 use Rattle.safety.specs.Stores.{world, store-wider, fn-grows, add-fn, pair-grows, add-pair, cell-grows, add-cell, set-cell}
 
 -- from the world W a step leads into a wider one

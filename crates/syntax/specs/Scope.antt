@@ -16,7 +16,7 @@ use Rattle.syntax.specs.Commands.{Cmd, c-fn, c-newkey}
 use Rattle.syntax.specs.Operands.{nth, plain, inner, kids, typesOf, bindsVar, bindsName}
 use Rattle.syntax.specs.Job.{Name, HostValue, Src}
 use Rattle.syntax.specs.Reading.{Refusal, isHost, hostName, openName, localName}
-use Rattle.syntax.specs.Tree.{Entry, e-var, e-name, binds, varsOf, namesOf, memB, usesName, addHost, nameCtx, valueCtx, hostCtx, count, uses, usedRight, boundBy, bindsNew, parent, nameIn, inScope, firstBad, orElse, refusedAt, lowest, treeRefusal}
+use Rattle.syntax.specs.Tree.{Entry, e-var, e-name, binds, varsOf, namesOf, memB, usesName, addHost, nameCtx, valueCtx, hostCtx, count, uses, usedRight, boundBy, bindsNew, parent, nameIn, inScope, firstBad, orElse, numbered, lowest, treeRefusal}
 
 -- Tests on lists
 
@@ -43,7 +43,7 @@ firstBad-none p (suc n) i j e h k = at (p i) refl e (λ g l. firstBad-none p n (
     at false z g f = absurd (Option·none-ne-some i (sym g))
 
 lowest-none : (number : ℕ) (p : ℕ → Bool) (n j : ℕ) → lowest number p n ≡ none → j < n → p j ≡ true
-unfolding lowest refusedAt
+unfolding lowest numbered
 lowest-none number p n j e h = at (firstBad p 0 n) refl
   where
     at : (o : Option ℕ) → firstBad p 0 n ≡ o → p j ≡ true

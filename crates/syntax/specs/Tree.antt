@@ -134,12 +134,12 @@ unfoldable pub orElse : Option Refusal → Option Refusal → Option Refusal
 orElse none r = r
 orElse (some r) q = some r
 
-unfoldable pub refusedAt : ℕ → Option ℕ → Option Refusal
-refusedAt number none = none
-refusedAt number (some e) = some (record { number = number; place = e })
+unfoldable pub numbered : ℕ → Option ℕ → Option Refusal
+numbered number none = none
+numbered number (some e) = some (record { number = number; place = e })
 
 unfoldable pub lowest : ℕ → (ℕ → Bool) → ℕ → Option Refusal
-lowest number p n = refusedAt number (firstBad p 0 n)
+lowest number p n = numbered number (firstBad p 0 n)
 
 -- "each for all expressions", 8 before 9 before 10
 unfoldable pub treeRefusal : Src → Option Refusal
