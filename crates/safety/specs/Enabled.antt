@@ -2,7 +2,8 @@
 use mathlib.Core.Path.{_≡_, refl, ap, _∙_, subst}
 use Prim.Native.Nat.{ℕ, zero, suc, _^_, _<_}
 use native.Mathlib.Omega.{arith}
-use mathlib.Core.Bool.{Bool, true, false}
+use mathlib.Core.Bool.{Bool, true, false, cond}
+use lib.Bits.{bitOr}
 use mathlib.Core.List.{List, [], _∷_, _++_, map, List·Memᴰ, List·Memᴰ·head, List·Memᴰ·tail, Memᴰ·map, Memᴰ·of-map}
 use mathlib.Core.Logic.{_≢_}
 use lib.ListN.{length}
@@ -44,18 +45,25 @@ module _ {ks : List ℕ} (ok : KeysOk ks) where
   on-below (on-key m q) p = on-key m (below-trans p q)
 
   -- what a limit leaves enabled
-  pub on-narrow : (on : ℕ) (js : List ℕ) {k : ℕ} → On ks (members on) k → On ks js k → k < length ks → On ks (members (narrow ks on (setOf js))) k
+  pub on-narrow : (on : ℕ) (js : List ℕ) {k : ℕ} → On ks (members on) k → On ks js k → k < length ks → On ks (members (narrow ks on js)) k
   unfolding narrow
   on-narrow on js {k} o p h = at (eqb k 0) refl
     where
+      own : ℕ → Bool
+      own i = some-of (λ a. below ks i a) js
+
       test : ℕ → Bool
-      test i = ltb 0 i and enabled ks on i and enabled ks (setOf js) i
+      test i = ltb 0 i and enabled ks on i and own i
+
+      is-own : k ≢ 0 → On ks js k → own k ≡ true
+      is-own z (on-zero e) = absurd (z e)
+      is-own z (on-key m b) = →some-of (λ a. below ks k a) m (→below (ok .proper) b)
 
       at : (b : Bool) → eqb k 0 ≡ b → On ks (members (setOf (keep test (upto (length ks))))) k
       at true e = on-zero (eqb-true k 0 e)
       at false e =
           let z : k ≢ 0 = eqb-false k 0 e in
-          on-key (setOf-mem (mem-keep test (mem-upto (length ks) k h) (and3 (ltb 0 k) (enabled ks on k) (enabled ks (setOf js) k) (lt-ltb 0 k (omega arith)) (on-enabled on o) (on-enabled (setOf js) (on-more (λ a. setOf-mem) p))))) here
+          on-key (setOf-mem (mem-keep test (mem-upto (length ks) k h) (and3 (ltb 0 k) (enabled ks on k) (own k) (lt-ltb 0 k (omega arith)) (on-enabled on o) (is-own z p)))) here
 
   -- a new key below an old one
   pub keys-snoc : {j : ℕ} → 0 < j → j < length ks → KeysOk (ks ++ (j ∷ []))
@@ -65,13 +73,17 @@ module _ {ks : List ℕ} (ok : KeysOk ks) where
   on-under u c = record { each = λ k m. let z = u .each k m in on-below (c .each (z .0) (z .1)) (z .2) }
 
 -- what a grant enables
-pub add-new : (j on : ℕ) → List·Memᴰ j (members (add j on))
+pub add-new : (ks : List ℕ) (j on : ℕ) → j < length ks → List·Memᴰ j (members (add ks j on))
 unfolding add
-add-new j on = bit-mem (add j on) (bit-or j (2 ^ j) on ∙ →or-l (bit (2 ^ j) j) (bit on j) (bit-pow j j ∙ eq-eqb j j refl))
+add-new ks j on h = rw (lt-ltb j (length ks) h) (bit-mem (bitOr (2 ^ j) on) (bit-or j (2 ^ j) on ∙ →or-l (bit (2 ^ j) j) (bit on j) (bit-pow j j ∙ eq-eqb j j refl)))
 
-pub add-old : (j on : ℕ) {a : ℕ} → List·Memᴰ a (members on) → List·Memᴰ a (members (add j on))
+pub add-old : (ks : List ℕ) (j on : ℕ) {a : ℕ} → List·Memᴰ a (members on) → List·Memᴰ a (members (add ks j on))
 unfolding add
-add-old j on {a} m = bit-mem (add j on) (bit-or a (2 ^ j) on ∙ →or-r (bit (2 ^ j) a) (bit on a) (mem-bit on m))
+add-old ks j on {a} m = at (ltb j (length ks))
+  where
+    at : (b : Bool) → List·Memᴰ a (members (cond b (bitOr (2 ^ j) on) on))
+    at true = bit-mem (bitOr (2 ^ j) on) (bit-or a (2 ^ j) on ∙ →or-r (bit (2 ^ j) a) (bit on a) (mem-bit on m))
+    at false = m
 
 -- a name that is 0 or covered
 pub on-name : {ks l : List ℕ} (μ : ℕ → ℕ) → μ 0 ≡ 0 → (n : ℕ) → (n ≢ 0 → On ks l (μ n)) → On ks l (μ n)

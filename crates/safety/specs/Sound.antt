@@ -11,7 +11,7 @@ use lib.Dec.{eqb}
 use borrow.Author.Tests.{eq-eqb, eqb-true, eqb-false, ltb-true}
 use Rattle.order.specs.Bools.{and-r}
 use Rattle.order.specs.Order.{Below, bot, here, there}
-use Rattle.order.specs.OrderLaws.{below-grow, getElem?-seam, getElem?-at, getElem?-append, length-snoc}
+use Rattle.order.specs.OrderLaws.{below-grow, below-le, getElem?-seam, getElem?-at, getElem?-append, length-snoc}
 use Rattle.order.specs.Sets.{members}
 use Rattle.order.specs.Effects.{Effect, names, join, drop, raise}
 use Rattle.order.specs.EffectLaws.{drop-or, raise-off, raise-on}
@@ -29,7 +29,7 @@ use Rattle.semantics.specs.Step.{actPair, partOf, actPart, actApp, actNew, actA
 use Rattle.semantics.specs.Step.{worked, act, variable, newFn, push, enterLim, enterCmd, receive, handTo, stepOn, step}
 use Rattle.safety.specs.RuntimeTypes.{RTy, rnum, rpair, rcell, rfn, rlim, rgrant, RSub, r-num, r-pair, r-cell, r-fn, r-lim, r-grant, rkey, rrekey, inst, rsub-refl, rsub-trans, rsub-key, rsub-rekey, inst-rekey, inst-key, under-refl}
 use Rattle.safety.specs.Chains.{look, lookVar, Chain, ch-cons, chain-le, chain-seek, chain-wider, seam, seam-next, length-two}
-use Rattle.safety.specs.Invariant.{TwoTy, FnTy, World, worldOf, Ext, Typ, t-num, t-pair, t-cell, t-fn, t-lim, t-grant, Fits, On, on-key, OnAll, Covers, EnvOk, eo-var, eo-name, Env, Held, hd-nil, hd-cons, Rest, rest-here, rest-next}
+use Rattle.safety.specs.Invariant.{TwoTy, FnTy, World, worldOf, Ext, Typ, t-num, t-pair, t-cell, t-fn, t-lim, t-grant, Fits, On, on-zero, on-key, OnAll, Covers, EnvOk, eo-var, eo-name, Env, Held, hd-nil, hd-cons, Rest, rest-here, rest-next}
 use Rattle.safety.specs.Invariant.{FrameOk, fo-pair1, fo-pair2, fo-part1, fo-part2, fo-app1, fo-app2, fo-new, fo-read, fo-asg1, fo-asg2, fo-sum1, fo-sum2, fo-test, fo-lim, fo-grant, fo-newkey, fo-assoc1, fo-assoc2}
 use Rattle.safety.specs.Invariant.{StackOk, so-nil, so-cons, ThreadOk, to-enter, to-hand, FnOk, StoreOk, KeysOk, Ok}
 use Rattle.safety.specs.Growth.{ext-refl, fits-ext, on-ext, covers-ext, envOk-ext, env-ext, stack-ext}
@@ -358,11 +358,16 @@ module _ (S : Src) (σ : Store) (pt : List TwoTy) (ft : List FnTy) (ct : List RT
         → RSub (σ .keys) X (rgrant q j) → Typ W k x X → OnHere q → Envs E Γ → Has S Γ b T t → ((n : ℕ) → List·Memᴰ n (names t) → OnHere (look E n) ⊎ Below (σ .keys) (look E n) j)
         → Stack (inst (look E) T) → Good S W (actGrant b (val k x) m)
     unfolding actGrant onGrant
-    grant-ok {j = j} (r-grant b) (t-grant z) on o h c k = touch-ok (on-below ko on b) (step-ok (to-enter o h (record { each = λ n w. more (c n w) }) k))
+    grant-ok {j = j} {E = E} {t = t} (r-grant b) (t-grant z) on o h c k = touch-ok (on-below ko on b) (step-ok (to-enter o h (record { each = λ n w. more n (c n w) }) k))
       where
-        more : {i : ℕ} → OnHere i ⊎ Below (σ .keys) i j → On (σ .keys) (members (add j (θ .on))) i
-        more (inl e) = on-more (λ a w. add-old j (θ .on) w) e
-        more (inr e) = on-key (add-new j (θ .on)) e
+        -- the granted key is there, since a key below it is
+        under : (n : ℕ) → Below (σ .keys) (look E n) j → (look E n ≡ 0) ⊎ (j ≤ look E n) → On (σ .keys) (members (add (σ .keys) j (θ .on))) (look E n)
+        under n e (inl q) = on-zero q
+        under n e (inr q) = on-key (add-new (σ .keys) j (θ .on) (omega (arith, env-lt ko (o .ok) n))) e
+
+        more : (n : ℕ) → OnHere (look E n) ⊎ Below (σ .keys) (look E n) j → On (σ .keys) (members (add (σ .keys) j (θ .on))) (look E n)
+        more n (inl e) = on-more (λ a w. add-old (σ .keys) j (θ .on) w) e
+        more n (inr e) = under n e (below-le (ko .proper) e)
 
     assoc-ok : {k q j : ℕ} {x : Kind} {X A : RTy} {v : Value}
         → RSub (σ .keys) X (rlim q j) → Typ W k x X → OnHere q → Fits W v A → OnHere (rkey A) → Stack (rrekey j A) → Good S W (actAssoc v (val k x) m)
