@@ -148,16 +148,10 @@ impl<'a, const FAULT: u32> Checker<'a, FAULT> {
         Ok(match *expr {
             Expr::Number(_) => self.make(Shape::Number, 0),
             Expr::Top => self.make(Shape::Limit(1), 0),
-            Expr::Variable(v) => Typed {
-                entry: self.variables[v as usize],
-                effect: 0,
-            },
+            Expr::Variable(v) => Typed { entry: self.variables[v as usize], effect: 0 },
             Expr::Pair(first, second) => {
                 let (first, second) = (self.of(first), self.of(second));
-                self.make(
-                    Shape::Pair(first.entry, second.entry),
-                    first.effect | second.effect,
-                )
+                self.make(Shape::Pair(first.entry, second.entry), first.effect | second.effect)
             }
             Expr::Part(pair, part) => {
                 let (touched, Shape::Pair(first, second)) = self.touch(pair) else {

@@ -16,7 +16,7 @@ impl Rng {
         Rng(seed)
     }
 
-    pub fn next(&mut self) -> u64 {
+    pub fn word(&mut self) -> u64 {
         self.0 = self.0.wrapping_add(0x9E37_79B9_7F4A_7C15);
         let mut z = self.0;
         z = (z ^ z >> 30).wrapping_mul(0xBF58_476D_1CE4_E5B9);
@@ -26,7 +26,7 @@ impl Rng {
 
     /// A number below `bound`, which is not 0.
     pub fn below(&mut self, bound: usize) -> usize {
-        (self.next() % bound as u64) as usize
+        (self.word() % bound as u64) as usize
     }
 
     /// True `percent` times in a hundred.
@@ -69,7 +69,7 @@ pub fn job(seed: u64) -> (Source, Vec<u8>) {
             }
             (Source::Changed, write(&job))
         }
-        72..90 => {
+        72..88 => {
             let mut bytes = write(&typed(rng));
             for _ in 0..1 + rng.below(2) {
                 damage::bytes(rng, &mut bytes);

@@ -22,10 +22,7 @@ pub struct Refusal {
 
 impl Refusal {
     pub(crate) fn at(number: u32, place: usize) -> Self {
-        Refusal {
-            number,
-            place: place as u32,
-        }
+        Refusal { number, place: place as u32 }
     }
 }
 
@@ -134,12 +131,13 @@ pub struct Binder {
 }
 
 impl Expr {
-    /// The expressions used, in order.
-    pub fn operands(&self) -> impl Iterator<Item = u16> + use<> {
-        let (list, count): ([u16; 5], usize) = match *self {
-            Expr::Number(_) | Expr::Top | Expr::Variable(_) => ([0; 5], 0),
+    /// Hands each expression that is used to `take`, in order.
+    #[inline(always)]
+    pub fn each_operand(&self, mut take: impl FnMut(u16)) {
+        match *self {
+            Expr::Number(_) | Expr::Top | Expr::Variable(_) => {}
             Expr::Part(a, _) | Expr::Function(_, _, a) | Expr::NewCell(_, a) | Expr::Read(a) => {
-                ([a, 0, 0, 0, 0], 1)
+                take(a)
             }
             Expr::Pair(a, b)
             | Expr::Apply(a, b)
@@ -148,15 +146,16 @@ impl Expr {
             | Expr::Difference(a, b)
             | Expr::Grant(a, b)
             | Expr::NewKey(_, _, a, b, _)
-            | Expr::Associate(a, b) => ([a, b, 0, 0, 0], 2),
-            Expr::Test(a, b, c, _) => ([a, b, c, 0, 0], 3),
-            Expr::Limit(count, [a, b, c, d], body) => {
-                let mut list = [a, b, c, d, 0];
-                list[count as usize] = body;
-                (list, count as usize + 1)
+            | Expr::Associate(a, b) => {
+                take(a);
+                take(b)
             }
-        };
-        list.into_iter().take(count)
+            Expr::Test(a, b, c, _) => [a, b, c].into_iter().for_each(take),
+            Expr::Limit(count, keys, body) => {
+                keys[..count as usize].iter().for_each(|&key| take(key));
+                take(body)
+            }
+        }
     }
 
     /// The type written in the expression.
@@ -173,16 +172,10 @@ impl Expr {
     /// What the expression binds.
     pub fn binder(&self) -> Option<Binder> {
         match *self {
-            Expr::Function(variable, _, body) => Some(Binder {
-                variable,
-                name: None,
-                body,
-            }),
-            Expr::NewKey(variable, name, _, body, _) => Some(Binder {
-                variable,
-                name: Some(name),
-                body,
-            }),
+            Expr::Function(variable, _, body) => Some(Binder { variable, name: None, body }),
+            Expr::NewKey(variable, name, _, body, _) => {
+                Some(Binder { variable, name: Some(name), body })
+            }
             _ => None,
         }
     }

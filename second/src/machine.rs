@@ -47,14 +47,8 @@ impl Value {
     }
 
     pub fn kind(self) -> Kind {
-        [
-            Kind::Number,
-            Kind::Pair,
-            Kind::Cell,
-            Kind::Function,
-            Kind::Limit,
-            Kind::Grant,
-        ][self.0 as u8 as usize]
+        [Kind::Number, Kind::Pair, Kind::Cell, Kind::Function, Kind::Limit, Kind::Grant]
+            [self.0 as u8 as usize]
     }
 
     /// The key it carries; 0 is none.
@@ -232,14 +226,7 @@ impl<const FAULT: u32> MachineWith<FAULT> {
             control: Control::Enter(job.last() as u16),
             scope: 0,
             enabled: 0,
-            rooms: Rooms {
-                cells: 0,
-                keys: 2,
-                pairs: 0,
-                functions: 0,
-                frames: 0,
-                bindings: 0,
-            },
+            rooms: Rooms { cells: 0, keys: 2, pairs: 0, functions: 0, frames: 0, bindings: 0 },
             code: Vec::new(),
             cells: [Value::default(); CELLS],
             above: [0; KEYS],
@@ -464,7 +451,8 @@ impl<const FAULT: u32> MachineWith<FAULT> {
                 self.pairs[value.index() % PAIRS][(part as usize - 1) % 2]
             }
             Code::Apply(..) => {
-                let room = self.rooms.bindings < BINDINGS - (FAULT == fault::BINDINGS_1023) as usize;
+                let room =
+                    self.rooms.bindings < BINDINGS - (FAULT == fault::BINDINGS_1023) as usize;
                 match FAULT {
                     fault::APPLY_NOT_TESTED => kind(Kind::Function, first)?,
                     fault::ROOM_BEFORE_KEYS if !room => kind(Kind::Function, first)?,
@@ -573,10 +561,7 @@ impl<const FAULT: u32> MachineWith<FAULT> {
         if number >= FUNCTIONS - (FAULT == fault::FUNCTIONS_511) as usize {
             return Err(Stop::NoRoom);
         }
-        self.functions[number] = Closure {
-            body,
-            scope: self.scope,
-        };
+        self.functions[number] = Closure { body, scope: self.scope };
         self.rooms.functions += 1;
         if FAULT == fault::KEYS_WHERE_MADE {
             self.aside.made_with.push(self.enabled);
@@ -720,7 +705,7 @@ fn resolve(job: &Job, first_host: u16) -> Vec<Code> {
     let mut code = vec![Code::Top; job.exprs.len()];
     for (number, expr) in job.exprs.iter().enumerate().rev() {
         let depth = depths[number];
-        expr.operands().for_each(|operand| depths[operand as usize] = depth);
+        expr.each_operand(|operand| depths[operand as usize] = depth);
         if let Some(binder) = expr.binder() {
             bound_at[binder.variable as usize] = depth + 1;
             depths[binder.body as usize] = depth + 1;

@@ -17,12 +17,7 @@ impl Default for Names {
     fn default() -> Self {
         let mut up = [0; NAMES];
         up[1] = 1 << 1;
-        Names {
-            count: 2,
-            upper: [0; NAMES],
-            up,
-            host: 0,
-        }
+        Names { count: 2, upper: [0; NAMES], up, host: 0 }
     }
 }
 
@@ -107,7 +102,5 @@ pub fn bits(mut set: u64) -> impl Iterator<Item = u8> {
 }
 
 fn keep(set: u64, test: impl Fn(u8) -> bool) -> u64 {
-    bits(set)
-        .filter(|&name| test(name))
-        .fold(0, |kept, name| kept | 1 << name)
+    bits(set).filter(|&name| test(name)).fold(0, |kept, name| kept | 1 << name)
 }

@@ -28,19 +28,11 @@ pub fn observe<const FAULT: u32>(job: &[u8], steps: &[u64]) -> Seen {
     let runs = MachineWith::<FAULT>::start(job).map(|mut machine| {
         let run = |&steps| {
             let (outcome, steps) = machine.run(steps);
-            Ran {
-                outcome,
-                steps,
-                rooms: machine.rooms(),
-                result: machine.result(),
-            }
+            Ran { outcome, steps, rooms: machine.rooms(), result: machine.result() }
         };
         steps.iter().map(run).collect()
     });
-    Seen {
-        verdict: check_with::<FAULT>(job),
-        runs,
-    }
+    Seen { verdict: check_with::<FAULT>(job), runs }
 }
 
 impl fmt::Display for Ran {
@@ -64,7 +56,9 @@ impl fmt::Display for Ran {
 impl fmt::Display for Seen {
     fn fmt(&self, f: &mut fmt::Formatter) -> fmt::Result {
         match &self.verdict {
-            Ok(accepted) => write!(f, "accepted {:016x} {}", accepted.effect, accepted.kind.word())?,
+            Ok(accepted) => {
+                write!(f, "accepted {:016x} {}", accepted.effect, accepted.kind.word())?
+            }
             Err(refusal) => write!(f, "refused {} at {}", refusal.number, refusal.place)?,
         }
         for run in self.runs.iter().flatten() {

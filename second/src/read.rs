@@ -167,10 +167,7 @@ impl<const FAULT: u32> Reader<FAULT> {
         let key = self.name(operands.byte())?;
         let shape = match command {
             0x10 => Shape::Number,
-            0x11 => Shape::Pair(
-                self.ty(operands.reference())?,
-                self.ty(operands.reference())?,
-            ),
+            0x11 => Shape::Pair(self.ty(operands.reference())?, self.ty(operands.reference())?),
             0x12 => Shape::Cell(self.ty(operands.reference())?),
             0x13 => Shape::Function(
                 self.ty(operands.reference())?,
@@ -246,11 +243,7 @@ impl<const FAULT: u32> Reader<FAULT> {
             0x32 => Expr::Variable(variable(o.byte())?),
             0x33 => Expr::Pair(self.expr(o)?, self.expr(o)?),
             0x34 => Expr::Part(self.expr(o)?, Some(o.byte()).filter(|i| (1..=2).contains(i))?),
-            0x35 => Expr::Function(
-                self.bound(o.byte())?,
-                self.ty(o.reference())?,
-                self.expr(o)?,
-            ),
+            0x35 => Expr::Function(self.bound(o.byte())?, self.ty(o.reference())?, self.expr(o)?),
             0x36 => Expr::Apply(self.expr(o)?, self.expr(o)?),
             0x37 => Expr::NewCell(self.ty(o.reference())?, self.expr(o)?),
             0x38 => Expr::Assign(self.expr(o)?, self.expr(o)?),
@@ -260,12 +253,9 @@ impl<const FAULT: u32> Reader<FAULT> {
                 1 => Expr::Difference(self.expr(o)?, self.expr(o)?),
                 _ => return None,
             },
-            0x3B => Expr::Test(
-                self.expr(o)?,
-                self.expr(o)?,
-                self.expr(o)?,
-                self.ty(o.reference())?,
-            ),
+            0x3B => {
+                Expr::Test(self.expr(o)?, self.expr(o)?, self.expr(o)?, self.ty(o.reference())?)
+            }
             0x3C => {
                 let count = Some(o.byte()).filter(|&count| count <= 4)?;
                 let mut keys = [UNUSED; 4];
@@ -311,8 +301,7 @@ impl<const FAULT: u32> Reader<FAULT> {
 
     fn local(&self, name: u8) -> Option<u8> {
         let free = FAULT == fault::BINDER_OF_HOST_NAME && name > 1;
-        self.name(name)
-            .filter(|&name| free || self.0.names.local() >> name & 1 == 1)
+        self.name(name).filter(|&name| free || self.0.names.local() >> name & 1 == 1)
     }
 
     fn set(&self, set: u64) -> Option<u64> {

@@ -27,10 +27,12 @@ fn uses<const FAULT: u32>(job: &Job) -> Result<(), Refusal> {
     let mut uses = [0u32; EXPRESSIONS + 1];
     let mut users = [0; EXPRESSIONS + 1];
     for (number, expr) in job.exprs.iter().enumerate() {
-        for operand in expr.operands() {
+        expr.each_operand(|operand| {
             uses[operand as usize] += 1;
-            users[operand as usize] = number;
-        }
+            if FAULT == fault::USED_BY {
+                users[operand as usize] = number;
+            }
+        });
     }
     // No reference is to the last one, so it is never used.
     match uses[..job.last()].iter().position(|&count| match FAULT {
@@ -75,29 +77,30 @@ fn scopes<const FAULT: u32>(job: &Job) -> Result<(), Refusal> {
     let mut scopes = [outer; EXPRESSIONS + 1];
     let mut lowest = None;
     for (number, expr) in job.exprs.iter().enumerate().rev() {
-        let mut scope = scopes[number];
-        let operand_scope = scope;
-        let mut body_scope = scope;
+        let scope = scopes[number];
+        let mut own = scope;
+        expr.each_operand(|operand| scopes[operand as usize] = scope);
         if let Some(binder) = expr.binder() {
-            body_scope.variables |= 1 << binder.variable;
-            body_scope.names |= binder.name.map_or(0, |name| 1 << name);
-            if FAULT == fault::NAME_IN_OWN_TYPE {
-                scope.names = body_scope.names;
+            let mut inner = scope;
+            inner.variables |= 1 << binder.variable;
+            inner.names |= binder.name.map_or(0, |name| 1 << name);
+            scopes[binder.body as usize] = inner;
+            match FAULT {
+                fault::NAME_IN_OWN_TYPE => own = inner,
+                fault::SCOPE_OF_KEY_OPERAND => {
+                    expr.each_operand(|operand| scopes[operand as usize] = inner);
+                }
+                _ => {}
             }
         }
         let hidden = match *expr {
-            Expr::Variable(v) => scope.variables >> v & 1 == 0,
-            _ => expr
-                .type_operand()
-                .is_some_and(|ty| job.type_names[ty as usize] & !scope.names != 0),
+            Expr::Variable(v) => own.variables >> v & 1 == 0,
+            _ => {
+                expr.type_operand().is_some_and(|ty| job.type_names[ty as usize] & !own.names != 0)
+            }
         };
         if hidden {
             lowest = Some(number);
-        }
-        let body = expr.binder().map(|binder| binder.body);
-        for operand in expr.operands() {
-            let inside = Some(operand) == body || FAULT == fault::SCOPE_OF_KEY_OPERAND;
-            scopes[operand as usize] = if inside { body_scope } else { operand_scope };
         }
     }
     lowest.map_or(Ok(()), |number| Err(Refusal::at(10, number)))

@@ -100,14 +100,9 @@ fn keyed_and_unkeyed_reads() {
 #[test]
 fn example() {
     let example = |rights: &str| {
-        bytes(&format!(
-            "0101 1000 12020000 20010007000000 21{rights}00000000000000 3200 390000 FF"
-        ))
+        bytes(&format!("0101 1000 12020000 20010007000000 21{rights}00000000000000 3200 390000 FF"))
     };
-    assert_eq!(
-        desk(&example("04")),
-        "accepted 0000000000000004 number\ndone 3 number 7\n"
-    );
+    assert_eq!(desk(&example("04")), "accepted 0000000000000004 number\ndone 3 number 7\n");
     assert_eq!(desk(&example("00")), "refused 14 at 1\n");
     let mut machine = Machine::start(&example("00")).unwrap();
     assert_eq!(machine.run(100_000), (Outcome::Denied, 2));
@@ -186,8 +181,7 @@ fn written_as_read() {
 fn ladders() {
     let start = std::time::Instant::now();
     for shape in 0..3 {
-        let verdict = check(&write(&ladder(16, 120, shape)));
-        assert_eq!(verdict.is_ok(), shape != 1, "{verdict:?}");
+        assert!(check(&write(&ladder(16, 120, shape))).is_ok(), "{shape}");
     }
     assert!(start.elapsed().as_secs() < 1);
 }

@@ -14,3 +14,4 @@ pub mod CallLaws
 pub mod Only
 pub mod Begin
 pub mod Safety
+pub mod Demand3

@@ -4,3 +4,4 @@ pub mod Step
 pub mod Room
 pub mod Start
 pub mod Calls
+pub mod TypeFree

@@ -3,7 +3,7 @@
 use std::hint::black_box;
 use std::time::Instant;
 
-use second::generate::{heavy, job, ladder, looped, typed, tower, Rng};
+use second::generate::{Rng, heavy, job, ladder, looped, tower, typed};
 use second::{Machine, check, write};
 
 /// The least time of several tries, in nanoseconds for each of `count`.
@@ -21,30 +21,38 @@ fn main() {
     let fresh = Machine::start(&heavy).expect("a job that starts");
     let steps = 100_000;
     let mut machine = fresh.clone();
-    println!("step of a run of sums:    {:8.2} ns", time(steps, || {
-        machine.clone_from(&fresh);
-        black_box(machine.run(black_box(steps)));
-    }));
+    println!(
+        "step of a run of sums:    {:8.2} ns",
+        time(steps, || {
+            machine.clone_from(&fresh);
+            black_box(machine.run(black_box(steps)));
+        })
+    );
     // Runs of all kinds, restarted until there are steps enough.
     let mut rng = Rng::new(7);
-    let loops: Vec<Machine> = (0..200)
-        .filter_map(|_| Machine::start(&write(&looped(&mut rng))).ok())
-        .collect();
+    let loops: Vec<Machine> =
+        (0..200).filter_map(|_| Machine::start(&write(&looped(&mut rng))).ok()).collect();
     let mut taken = 0;
     for start in &loops {
         taken += start.clone().run(steps).1;
     }
-    println!("step of mixed runs:       {:8.2} ns", time(taken, || {
-        for start in &loops {
-            machine.clone_from(start);
-            black_box(machine.run(black_box(steps)));
-        }
-    }));
-    println!("start:                    {:8.0} ns", time(100, || {
-        for _ in 0..100 {
-            black_box(Machine::start(black_box(&heavy)).is_ok());
-        }
-    }));
+    println!(
+        "step of mixed runs:       {:8.2} ns",
+        time(taken, || {
+            for start in &loops {
+                machine.clone_from(start);
+                black_box(machine.run(black_box(steps)));
+            }
+        })
+    );
+    println!(
+        "start:                    {:8.0} ns",
+        time(100, || {
+            for _ in 0..100 {
+                black_box(Machine::start(black_box(&heavy)).is_ok());
+            }
+        })
+    );
     let checks = |what: &str, jobs: &[Vec<u8>]| {
         let bytes: usize = jobs.iter().map(Vec::len).sum();
         let each = time(jobs.len() as u64, || {
@@ -63,6 +71,9 @@ fn main() {
     checks("large typed jobs", &large);
     checks("512 expressions", &[write(&tower(512))]);
     for shape in 0..3 {
-        checks(["ladder of pairs", "ladder of functions", "ladder of cells"][shape], &[write(&ladder(16, 120, shape))]);
+        checks(
+            ["ladder of pairs", "ladder of functions", "ladder of cells"][shape],
+            &[write(&ladder(16, 120, shape))],
+        );
     }
 }

@@ -8,6 +8,9 @@ use std::process::ExitCode;
 use second::observe::Ran;
 use second::{Machine, desk, from_hex};
 
+/// What is expected and what is got, or nothing where a line is no case.
+type Case = fn(&[&str]) -> Option<(String, String)>;
+
 fn desk_case(fields: &[&str]) -> Option<(String, String)> {
     let [job, expected] = fields else { return None };
     let lines = desk(&from_hex(job)?);
@@ -23,13 +26,7 @@ fn machine_case(fields: &[&str]) -> Option<(String, String)> {
     let got = match Machine::start(&from_hex(job)?) {
         Ok(mut machine) => {
             let (outcome, steps) = machine.run(steps);
-            Ran {
-                outcome,
-                steps,
-                rooms: machine.rooms(),
-                result: machine.result(),
-            }
-            .to_string()
+            Ran { outcome, steps, rooms: machine.rooms(), result: machine.result() }.to_string()
         }
         Err(refusal) => format!("refused {} at {}", refusal.number, refusal.place),
     };
@@ -40,7 +37,7 @@ fn main() -> ExitCode {
     let arguments: Vec<String> = std::env::args().skip(1).collect();
     let mut failed = 0;
     for pair in arguments.chunks(2) {
-        let (case, path): (fn(&[&str]) -> Option<(String, String)>, _) = match pair {
+        let (case, path): (Case, _) = match pair {
             [kind, path] if kind == "desk" => (desk_case, path),
             [kind, path] if kind == "machine" => (machine_case, path),
             _ => {

@@ -4,9 +4,6 @@ use std::io::{self, Read, Write};
 
 fn main() -> io::Result<()> {
     let mut job = Vec::new();
-    io::stdin()
-        .lock()
-        .take(second::desk::INPUT)
-        .read_to_end(&mut job)?;
+    io::stdin().lock().take(second::desk::INPUT).read_to_end(&mut job)?;
     io::stdout().write_all(second::desk(&job).as_bytes())
 }

@@ -179,7 +179,7 @@ impl<'r> Builder<'r> {
     }
 
     fn some_names(&mut self) -> u64 {
-        self.scope & self.rng.next() & self.rng.next() & !1
+        self.scope & self.rng.word() & self.rng.word() & !1
     }
 
     fn some_name(&mut self) -> u8 {
@@ -331,7 +331,7 @@ impl<'r> Builder<'r> {
         let number = match self.rng.below(6) {
             0 => 0,
             1 => u32::MAX,
-            2 => self.rng.next() as u32,
+            2 => self.rng.word() as u32,
             _ => self.rng.below(10) as u32,
         };
         self.literal(number)
@@ -350,7 +350,12 @@ impl<'r> Builder<'r> {
     }
 
     /// Something built with a variable in scope.
-    fn under(&mut self, variable: u8, ty: Ty, build: impl FnOnce(&mut Self) -> Option<Node>) -> Option<Node> {
+    fn under(
+        &mut self,
+        variable: u8,
+        ty: Ty,
+        build: impl FnOnce(&mut Self) -> Option<Node>,
+    ) -> Option<Node> {
         self.variables.push((variable, ty));
         let node = build(self);
         self.variables.retain(|known| known.0 != variable);
@@ -392,12 +397,8 @@ impl<'r> Builder<'r> {
 
     /// A variable in scope that passes a test.
     fn variable(&mut self, test: impl Fn(&Self, Ty) -> bool) -> Option<Node> {
-        let fit: Vec<u8> = self
-            .variables
-            .iter()
-            .filter(|&&(_, ty)| test(self, ty))
-            .map(|&(v, _)| v)
-            .collect();
+        let fit: Vec<u8> =
+            self.variables.iter().filter(|&&(_, ty)| test(self, ty)).map(|&(v, _)| v).collect();
         if fit.is_empty() {
             return None;
         }
@@ -448,8 +449,7 @@ impl<'r> Builder<'r> {
             0 => self.key_around(inside),
             1 => {
                 let (first, rest) = (self.any(fuel), self.spine(fuel, turns - 1));
-                self.add(Expr::Pair(first, rest))
-                    .and_then(|pair| self.add(Expr::Part(pair, 2)))
+                self.add(Expr::Pair(first, rest)).and_then(|pair| self.add(Expr::Part(pair, 2)))
             }
             _ => self.let_in(fuel, inside),
         };
@@ -460,7 +460,11 @@ impl<'r> Builder<'r> {
     }
 
     /// A function applied to something, its body having it as a variable.
-    fn let_in(&mut self, fuel: usize, body: impl FnOnce(&mut Self) -> Option<Node>) -> Option<Node> {
+    fn let_in(
+        &mut self,
+        fuel: usize,
+        body: impl FnOnce(&mut Self) -> Option<Node>,
+    ) -> Option<Node> {
         let argument = self.any(fuel);
         let v = self.new_variable()?;
         let ty = self.widen(self.of(argument).ty, 0, true)?;
@@ -659,8 +663,7 @@ impl<'r> Builder<'r> {
                 let other = self.any(fuel - 1);
                 let first = self.rng.chance(50);
                 let pair = if first { Expr::Pair(node, other) } else { Expr::Pair(other, node) };
-                self.add(pair)
-                    .and_then(|pair| self.add(Expr::Part(pair, 2 - first as u8)))
+                self.add(pair).and_then(|pair| self.add(Expr::Part(pair, 2 - first as u8)))
             }
             5 => {
                 let ty = self.of(node).ty;
@@ -930,10 +933,7 @@ impl<'r> Builder<'r> {
         for (place, &node) in order.iter().enumerate() {
             places.insert(node, place as u16);
         }
-        let mut job = Job {
-            names: self.names.clone(),
-            ..Job::default()
-        };
+        let mut job = Job { names: self.names.clone(), ..Job::default() };
         let mut declared = HashMap::new();
         for index in 0..self.hosts.len() {
             let (ty, number) = self.hosts[index];
@@ -979,7 +979,7 @@ impl<'r> Builder<'r> {
             let next = if mixed { self.rng.below(open.len()) } else { last };
             let node = open.swap_remove(next);
             order.push(node);
-            open.extend(self.of(node).expr.operands());
+            self.of(node).expr.each_operand(|operand| open.push(operand));
         }
         order.reverse();
         order
@@ -1013,11 +1013,11 @@ impl<'r> Builder<'r> {
         let open = self.names.host() | 2;
         let rights = match self.rng.below(20) {
             0..12 => effect,
-            12..15 => effect | open & self.rng.next() & self.rng.next(),
+            12..15 => effect | open & self.rng.word() & self.rng.word(),
             15 | 16 => bits(effect).fold(0, |set, name| set | 1 << self.names.upper(name).max(1)),
             17 => 2,
-            18 => effect & self.rng.next(),
-            _ => open & self.rng.next(),
+            18 => effect & self.rng.word(),
+            _ => open & self.rng.word(),
         };
         self.names.reduce(rights & open)
     }
@@ -1037,6 +1037,8 @@ pub fn references(expr: &mut Expr) -> Vec<&mut u16> {
         | Expr::NewKey(_, _, a, b, _)
         | Expr::Associate(a, b) => vec![a, b],
         Expr::Test(a, b, c, _) => vec![a, b, c],
-        Expr::Limit(count, keys, body) => keys[..*count as usize].iter_mut().chain([body]).collect(),
+        Expr::Limit(count, keys, body) => {
+            keys[..*count as usize].iter_mut().chain([body]).collect()
+        }
     }
 }

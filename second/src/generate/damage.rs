@@ -31,7 +31,7 @@ pub fn tables(rng: &mut Rng, job: &mut Job) {
         }
         4 => {
             let open = job.names.host() | 2;
-            job.rights = job.names.reduce(rng.next() & rng.next() & open);
+            job.rights = job.names.reduce(rng.word() & rng.word() & open);
         }
         5 => job.rights = 0,
         6 => {
@@ -56,9 +56,8 @@ pub fn tables(rng: &mut Rng, job: &mut Job) {
         8 => job.exprs[expr] = other_command(rng, job.exprs[expr]),
         9 => {
             // One binder takes over what another binds.
-            let binders: Vec<usize> = (0..job.exprs.len())
-                .filter(|&e| job.exprs[e].binder().is_some())
-                .collect();
+            let binders: Vec<usize> =
+                (0..job.exprs.len()).filter(|&e| job.exprs[e].binder().is_some()).collect();
             if !binders.is_empty() {
                 let (from, to) = (rng.pick(&binders), rng.pick(&binders));
                 let Some(binder) = job.exprs[from].binder() else {
@@ -115,9 +114,7 @@ fn some<'a, T>(rng: &mut Rng, list: &'a mut [T]) -> Option<&'a mut T> {
 }
 
 fn variables(job: &Job) -> Vec<usize> {
-    (0..job.exprs.len())
-        .filter(|&expr| matches!(job.exprs[expr], Expr::Variable(_)))
-        .collect()
+    (0..job.exprs.len()).filter(|&expr| matches!(job.exprs[expr], Expr::Variable(_))).collect()
 }
 
 /// Exchanges two operands that may stand in each other's place.
@@ -190,7 +187,7 @@ fn other_upper(rng: &mut Rng, names: &Names) -> Names {
 pub fn bytes(rng: &mut Rng, bytes: &mut Vec<u8>) {
     let mut commands = split(bytes);
     if commands.is_empty() {
-        return bytes.push(rng.next() as u8);
+        return bytes.push(rng.word() as u8);
     }
     let at = rng.below(commands.len());
     let edges = [0, 1, 2, 3, 4, 5, 63, 64, 0xFE, 0xFF];
@@ -202,10 +199,10 @@ pub fn bytes(rng: &mut Rng, bytes: &mut Vec<u8>) {
                 0 => rng.pick(&edges),
                 1 => command[place].wrapping_add(1),
                 2 => command[place] ^ 1 << rng.below(8),
-                _ => rng.next() as u8,
+                _ => rng.word() as u8,
             };
         }
-        4 => commands[at][0] = rng.next() as u8,
+        4 => commands[at][0] = rng.word() as u8,
         5 => {
             let other = rng.below(commands.len());
             commands.swap(at, other);
@@ -224,7 +221,7 @@ pub fn bytes(rng: &mut Rng, bytes: &mut Vec<u8>) {
         }
         9 => {
             for _ in 0..1 + rng.below(3) {
-                commands.push(vec![rng.next() as u8]);
+                commands.push(vec![rng.word() as u8]);
             }
         }
         10 => {

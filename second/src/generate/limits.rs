@@ -8,7 +8,7 @@ use crate::read::write;
 /// A job at a limit, or one past it, or near a condition of the reader or of scopes.
 pub fn job(rng: &mut Rng) -> Vec<u8> {
     let past = rng.below(2);
-    match rng.below(20) {
+    match rng.below(23) {
         0 => repeated(rng, &[], &[0x01, 1], &[0x01, 0], 62 + past),
         1 => repeated(rng, &[], &[0x10, 0], &[0x10, 77], 256 + past),
         2 => {
@@ -38,6 +38,7 @@ pub fn job(rng: &mut Rng) -> Vec<u8> {
         11 => full(rng),
         12..16 => write(&brink(rng)),
         16 | 17 => misplaced(rng),
+        18..21 => edited(rng),
         _ => write(&scopes(rng)),
     }
 }
@@ -82,10 +83,7 @@ impl Exprs {
 }
 
 fn number(key: u8) -> Type {
-    Type {
-        key,
-        shape: Shape::Number,
-    }
+    Type { key, shape: Shape::Number }
 }
 
 /// A job of that many expressions, each but the first the operand of the next.
@@ -98,11 +96,7 @@ pub fn tower(count: usize) -> Job {
             _ => Expr::Read(top),
         });
     }
-    Job {
-        types: vec![number(0)],
-        exprs: exprs.0,
-        ..Job::default()
-    }
+    Job { types: vec![number(0)], exprs: exprs.0, ..Job::default() }
 }
 
 /// A job with a declared type of some depth.
@@ -121,11 +115,7 @@ fn nested(rng: &mut Rng, depth: usize) -> Job {
     let mut exprs = Exprs(Vec::new());
     let body = exprs.number(1);
     exprs.add(Expr::Function(5, depth as u16 - 1, body));
-    Job {
-        types,
-        exprs: exprs.0,
-        ..Job::default()
-    }
+    Job { types, exprs: exprs.0, ..Job::default() }
 }
 
 /// Two chains of types of some depth, compared by many applies.
@@ -155,11 +145,7 @@ pub fn ladder(depth: usize, applies: usize, shape: usize) -> Job {
     }
     let inner = exprs.add(Expr::Function(1, high - 1, sum));
     exprs.add(Expr::Function(0, taker, inner));
-    Job {
-        types,
-        exprs: exprs.0,
-        ..Job::default()
-    }
+    Job { types, exprs: exprs.0, ..Job::default() }
 }
 
 /// The variables of a loop: its counter, the cell that holds it, and one more.
@@ -169,11 +155,7 @@ const OTHER: u8 = 3;
 
 /// The first types of a loop's job.
 fn loop_types() -> Vec<Type> {
-    vec![
-        number(0),
-        Type::unkeyed(Shape::Function(0, 0, 0)),
-        Type::unkeyed(Shape::Cell(1)),
-    ]
+    vec![number(0), Type::unkeyed(Shape::Function(0, 0, 0)), Type::unkeyed(Shape::Cell(1))]
 }
 
 /// A cell holds a function that reads the cell and calls what it finds there, some turns long. The
@@ -209,11 +191,7 @@ pub fn heavy(differences: usize) -> Job {
         load = e.add(Expr::Difference(load, other));
     }
     looped(&mut e, load, 5000);
-    Job {
-        types: loop_types(),
-        exprs: e.0,
-        ..Job::default()
-    }
+    Job { types: loop_types(), exprs: e.0, ..Job::default() }
 }
 
 /// A loop that leaves one kind of room nearly or just full, and then an act that needs room or a
@@ -224,10 +202,7 @@ fn brink(rng: &mut Rng) -> Job {
     names.declare(1, false);
     names.declare(2, false);
     let mut types = loop_types();
-    types.push(Type {
-        key: 2,
-        shape: Shape::Limit(2),
-    });
+    types.push(Type { key: 2, shape: Shape::Limit(2) });
     let mut e = Exprs(Vec::new());
     let room = rng.below(5);
     let (load, turns) = match room {
@@ -339,10 +314,7 @@ fn full(rng: &mut Rng) -> Vec<u8> {
         });
     }
     let hosts: Vec<HostValue> = (0..VARIABLES)
-        .map(|_| HostValue {
-            ty: 1 + rng.below(TYPES - 1) as u16,
-            number: 0,
-        })
+        .map(|_| HostValue { ty: 1 + rng.below(TYPES - 1) as u16, number: 0 })
         .collect();
     let mut e = Exprs(Vec::new());
     let mut body = e.number(1);
@@ -372,16 +344,134 @@ fn full(rng: &mut Rng) -> Vec<u8> {
     write(&job)
 }
 
+/// A job of most commands with one byte on the edge of a condition.
+fn edited(rng: &mut Rng) -> Vec<u8> {
+    let mut commands: Vec<Vec<u8>> = [
+        &[0x01, 1][..],
+        &[0x02, 2],
+        &[0x10, 0],
+        &[0x12, 2, 0, 0],
+        &[0x14, 0, 2],
+        &[0x15, 0, 2],
+        &[0x11, 0, 0, 0, 0, 0],
+        &[0x13, 0, 0, 0, 0, 0, 4, 0, 0, 0, 0, 0, 0, 0],
+        &[0x20, 1, 0, 7, 0, 0, 0],
+        &[0x20, 2, 0, 0, 0, 0, 0],
+        &[0x20, 3, 0, 0, 0, 0, 0],
+        &[0x21, 4, 0, 0, 0, 0, 0, 0, 0],
+        &[0x32, 1],
+        &[0x30, 5, 0, 0, 0],
+        &[0x3E, 10, 3, 0, 0, 1, 0, 0, 0],
+        &[0x32, 1],
+        &[0x31],
+        &[0x3C, 2, 3, 0, 4, 0, 0xFF, 0xFF, 0xFF, 0xFF, 2, 0],
+        &[0x30, 6, 0, 0, 0],
+        &[0x3A, 0, 5, 0, 6, 0],
+        &[0x31],
+        &[0x33, 7, 0, 8, 0],
+        &[0x34, 9, 0, 1],
+        &[0x35, 11, 0, 0, 10, 0],
+        &[0xFF],
+    ]
+    .map(<[u8]>::to_vec)
+    .into();
+    let edits = [
+        (0, 1, 0),
+        (0, 1, 2),
+        (1, 1, 0),
+        (1, 1, 3),
+        (1, 0, 1),
+        (2, 1, 4),
+        (2, 1, 3),
+        (3, 1, 0),
+        (3, 1, 3),
+        (3, 2, 1),
+        (4, 2, 0),
+        (4, 2, 3),
+        (4, 2, 4),
+        (5, 2, 0),
+        (5, 2, 1),
+        (6, 2, 4),
+        (6, 3, 1),
+        (7, 4, 5),
+        (7, 6, 1),
+        (7, 6, 2),
+        (7, 6, 6),
+        (7, 6, 12),
+        (7, 6, 8),
+        (7, 6, 16),
+        (7, 13, 128),
+        (8, 1, 0),
+        (8, 1, 4),
+        (8, 1, 6),
+        (9, 3, 1),
+        (10, 6, 1),
+        (11, 1, 0),
+        (11, 1, 1),
+        (11, 1, 2),
+        (11, 1, 5),
+        (11, 1, 6),
+        (11, 1, 8),
+        (11, 1, 16),
+        (12, 1, 0),
+        (12, 1, 2),
+        (12, 1, 10),
+        (12, 1, 63),
+        (12, 1, 64),
+        (14, 1, 2),
+        (14, 1, 3),
+        (14, 1, 11),
+        (14, 1, 63),
+        (14, 1, 64),
+        (14, 2, 2),
+        (14, 2, 1),
+        (14, 2, 4),
+        (14, 3, 2),
+        (14, 7, 6),
+        (17, 1, 0),
+        (17, 1, 1),
+        (17, 1, 3),
+        (17, 1, 4),
+        (17, 1, 5),
+        (17, 2, 5),
+        (17, 6, 0),
+        (17, 7, 0),
+        (17, 9, 0xFE),
+        (19, 1, 1),
+        (19, 1, 2),
+        (19, 2, 7),
+        (22, 3, 0),
+        (22, 3, 2),
+        (22, 3, 3),
+        (23, 1, 2),
+        (23, 1, 10),
+        (23, 1, 64),
+        (23, 2, 1),
+        (24, 0, 0xFE),
+    ];
+    match rng.below(10) {
+        0 => {
+            let (at, again) = (rng.below(25), rng.below(25));
+            let again = commands[again].clone();
+            commands.insert(at, again);
+        }
+        1 => {
+            // A second 21 at once.
+            let again = commands[11].clone();
+            commands.insert(11, again);
+        }
+        _ => {
+            let (command, byte, value) = rng.pick(&edits);
+            commands[command][byte] = value;
+        }
+    }
+    commands.concat()
+}
+
 /// A job cut off within or after a command that may stand out of its section.
 fn misplaced(rng: &mut Rng) -> Vec<u8> {
-    let commands: [&[u8]; 6] = [
-        &[0x01, 1],
-        &[0x10, 0],
-        &[0x20, 1, 0, 7, 0, 0, 0],
-        &END[..9],
-        &END[9..14],
-        &END[14..],
-    ];
+    let commands: [&[u8]; 6] =
+        [&[0x01, 1], &[0x10, 0], &[0x20, 1, 0, 7, 0, 0, 0], &END[..9], &END[9..14], &END[14..]];
     let mut bytes = vec![0x01, 1, 0x10, 0, 0x12, 2, 0, 0];
     for command in &commands[2..2 + rng.below(4)] {
         bytes.extend(*command);
@@ -442,11 +532,5 @@ fn scopes(rng: &mut Rng) -> Job {
             None => made,
         });
     }
-    Job {
-        names,
-        types,
-        rights: 2,
-        exprs: e.0,
-        ..Job::default()
-    }
+    Job { names, types, rights: 2, exprs: e.0, ..Job::default() }
 }

@@ -1,0 +1,47 @@
+-- Demand 3, from the bytes: whatever the bytes of a job, if the check accepts it, then every list of calls, each a step or a run of any n, made one after another from
+-- the machine that starting the job gives, gets only the answers that document 01 allows, each exactly when document 01 has it. `AllGive` says which
+-- those are, by "finished" and "needs a place that is not there", which are defined apart from the step; stuck and denied are not among them.
+use mathlib.Core.Path.{_≡_, subst}
+use Prim.Native.Nat.{ℕ}
+use mathlib.Core.List.{List}
+use Rattle.order.specs.Effects.{Effect}
+use Rattle.syntax.specs.Types.{Ty, tree}
+use Rattle.syntax.specs.Commands.{Cmd, mapCmd}
+use Rattle.syntax.specs.Operands.{nth}
+use Rattle.syntax.specs.Job.{Job, sourceOf}
+use Rattle.syntax.specs.Reading.{read, reading}
+use Rattle.syntax.specs.ReadFormed.{read-well, nth-map}
+use Rattle.typing.specs.Verdict.{accept, verdictOf}
+use Rattle.typing.specs.Demand2.{accepts-typed}
+use Rattle.typing.specs.Rules.{codeOf}
+use Rattle.semantics.specs.Start.{startOf}
+use Rattle.semantics.specs.Calls.{Call, Ran, calls, AllGive}
+use Rattle.semantics.specs.TypeFree.{calls-same, all-same}
+use Rattle.safety.specs.Safety.{safety}
+
+-- the expressions of a job as it is read
+abbrev pub exprOf : Job → ℕ → Cmd ℕ
+exprOf J = nth (J .cmds)
+
+-- the results of a list of calls on the machine that starting the job gives
+abbrev pub callsOf : Job → List Call → List Ran
+callsOf J cs = calls (exprOf J) cs (startOf (sourceOf J))
+
+-- what they may be
+abbrev pub Allowed : Job → List Call → List Ran → Type 0
+Allowed J cs l = AllGive (exprOf J) cs (startOf (sourceOf J)) l
+
+same-code : (J : Job) (e : ℕ) → codeOf (sourceOf J) e ≡ mapCmd (tree (J .types)) (exprOf J e)
+unfolding sourceOf
+same-code J e = nth-map (tree (J .types)) (J .cmds) e
+
+-- no hypothesis but acceptance
+pub demand3 : (s : List ℕ) {T : Ty} {e : Effect} → verdictOf s ≡ accept T e → (J : Job) × (reading s ≡ read J) × ((cs : List Call) → Allowed J cs (callsOf J cs))
+demand3 s h =
+    let z = accepts-typed s h in
+    (z .0, z .1, λ cs. from (z .0) cs (safety (sourceOf (z .0)) (read-well s (z .0) (z .1)) (z .2 .has) (z .2 .within) cs))
+  where
+    from : (J : Job) (cs : List Call) → AllGive (codeOf (sourceOf J)) cs (startOf (sourceOf J)) (calls (codeOf (sourceOf J)) cs (startOf (sourceOf J))) → Allowed J cs (callsOf J cs)
+    from J cs g =
+        subst (λ l. Allowed J cs l) (calls-same (tree (J .types)) (exprOf J) (codeOf (sourceOf J)) (same-code J) cs (startOf (sourceOf J)))
+        (all-same (tree (J .types)) (exprOf J) (codeOf (sourceOf J)) (same-code J) g)
