@@ -22,6 +22,7 @@ use Rattle.semantics.specs.Step as Step
 use Rattle.semantics.specs.Room as Room
 use Rattle.semantics.specs.Start as Start
 use Rattle.semantics.specs.Calls as Calls
+use Rattle.semantics.specs.MarkedSteps as MarkedSteps
 use Rattle.report.specs.Lines as Lines
 use Rattle.marked.specs.Jobs as Jobs
 
@@ -107,14 +108,14 @@ marked =
       below = refl;
       not-below = refl;
       reduces = refl;
-      limit-leaves = refl;
-      limit-nothing = refl;
+      limit-leaves = MarkedSteps.limit-leaves;
+      limit-nothing = MarkedSteps.limit-nothing;
       grant-drops = refl;
       raised = refl;
       depth-16 = refl;
       depth-17 = refl;
-      sum-wraps = refl;
-      difference-wraps = refl;
+      sum-wraps = MarkedSteps.sum-wraps;
+      difference-wraps = MarkedSteps.difference-wraps;
       unkeyed-done = refl;
       limited-refused = refl;
       example-lines = refl;

@@ -13,3 +13,4 @@ pub mod Parts
 pub mod Exactly
 pub mod Demand2
 pub mod Entries
+pub mod Numbered

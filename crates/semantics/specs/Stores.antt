@@ -8,10 +8,10 @@ use mathlib.Core.Logic.{_⊎_, inl, inr}
 use lib.ListN.{length, getElem?, set, length-set}
 use Rattle.order.specs.OrderLaws.{getElem?-snoc, getElem?-set, getElem?-append, getElem?-at, length-snoc}
 use Rattle.syntax.specs.Job.{Src}
 use Rattle.semantics.specs.Machine.{Value, Two, Link, Closure}
-use Rattle.safety.specs.RuntimeTypes.{RTy}
-use Rattle.safety.specs.Invariant.{World, TwoTy, FnTy, Ext, Fits, PairOk, CellOk, FnOk, StoreOk}
-use Rattle.safety.specs.Growth.{fits-ext, pair-ext, cell-ext, fn-ext}
+use Rattle.semantics.specs.RuntimeTypes.{RTy}
+use Rattle.semantics.specs.Invariant.{World, TwoTy, FnTy, Ext, Fits, PairOk, CellOk, FnOk, StoreOk}
+use Rattle.semantics.specs.Growth.{fits-ext, pair-ext, cell-ext, fn-ext}
 
 abbrev pub world : List TwoTy → List FnTy → List RTy → List ℕ → List Link → World
 world p f c k b = record { pt = p; ft = f; ct = c; keys = k; links = b }

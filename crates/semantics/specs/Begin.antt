@@ -21,15 +21,15 @@ use Rattle.syntax.specs.Reading.{isHost, hostName}
 use Rattle.syntax.specs.Tree.{Entry, e-var, e-name, addHost, nameCtx, valueCtx, hostCtx, root, varsOf}
 use Rattle.syntax.specs.WellRead.{HostTyped, ht-cell, ht-lim, ht-grant, WellRead}
 use Rattle.typing.specs.Rules.{Has, Lookup, l-here, l-var, l-name, Fresh, Absent, a-nil, a-name}
 use Rattle.semantics.specs.Machine.{Value, unkeyed, k-num, k-cell, k-lim, k-grant, Bind, b-var, b-name, Link}
 use Rattle.semantics.specs.Start.{bindTo, Named, addName, addNames, named, hostValue, hostCell, Valued, addValues, keyNamed, valued, startOf}
-use Rattle.safety.specs.RuntimeTypes.{RTy, rnum, rcell, rlim, rgrant, r-num, r-cell, r-lim, r-grant, inst}
-use Rattle.safety.specs.Chains.{look, base, Chain, ch-nil, ch-cons, chain-wider}
-use Rattle.safety.specs.Invariant.{World, Ext, Fits, t-num, t-cell, t-lim, t-grant, On, on-key, EnvOk, eo-nil, eo-var, eo-name, Env, StoreOk, KeysOk, to-enter, so-nil, Ok}
-use Rattle.safety.specs.Growth.{fits-ext, envOk-ext}
-use Rattle.safety.specs.Enabled.{keys-snoc}
-use Rattle.safety.specs.Bindings.{look-off, look-on, env-zero, env-one, env-mono, env-lt, env-absent, mono-new, up-new}
-use Rattle.safety.specs.Stores.{world, store-wider, cell-grows, add-cell}
+use Rattle.semantics.specs.RuntimeTypes.{RTy, rnum, rcell, rlim, rgrant, r-num, r-cell, r-lim, r-grant, inst}
+use Rattle.semantics.specs.Chains.{look, base, Chain, ch-nil, ch-cons, chain-wider}
+use Rattle.semantics.specs.Invariant.{World, Ext, Fits, t-num, t-cell, t-lim, t-grant, On, on-key, EnvOk, eo-nil, eo-var, eo-name, Env, StoreOk, KeysOk, to-enter, so-nil, Ok}
+use Rattle.semantics.specs.Growth.{fits-ext, envOk-ext}
+use Rattle.semantics.specs.Enabled.{keys-snoc}
+use Rattle.semantics.specs.Bindings.{look-off, look-on, env-zero, env-one, env-mono, env-lt, env-absent, mono-new, up-new}
+use Rattle.semantics.specs.Stores.{world, store-wider, cell-grows, add-cell}
 
 -- lists that grow at the end
 getD-off : (l : List ℕ) (a u : ℕ) → u ≢ length l → getD (l ++ (a ∷ [])) u 0 ≡ getD l u 0

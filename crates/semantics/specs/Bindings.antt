@@ -20,11 +20,11 @@ use Rattle.syntax.specs.Job.{Src, upOf}
 use Rattle.syntax.specs.Tree.{Entry}
 use Rattle.typing.specs.Subtype.{Sub}
 use Rattle.typing.specs.Rules.{Lookup, l-here, l-var, l-name, Fresh, Free, Absent, a-nil, a-var, a-name}
 use Rattle.semantics.specs.Machine.{Value, Bind, b-var, b-name}
-use Rattle.safety.specs.RuntimeTypes.{RTy, RSub, inst, inst-same, inst-mono, rsub-trans}
-use Rattle.safety.specs.Chains.{look, lookVar, base}
-use Rattle.safety.specs.Invariant.{World, Fits, on-key, Covers, Mono, Up, EnvOk, eo-nil, eo-var, eo-name, KeysOk}
-use Rattle.safety.specs.Enabled.{on-below}
+use Rattle.semantics.specs.RuntimeTypes.{RTy, RSub, inst, inst-same, inst-mono, rsub-trans}
+use Rattle.semantics.specs.Chains.{look, lookVar, base}
+use Rattle.semantics.specs.Invariant.{World, Fits, on-key, Covers, Mono, Up, EnvOk, eo-nil, eo-var, eo-name, KeysOk}
+use Rattle.semantics.specs.Enabled.{on-below}
 
 pub fits-sub : {W : World} {v : Value} {A B : RTy} → Fits W v A → RSub (W .keys) A B → Fits W v B
 fits-sub {A = A} f h = record { exact = f .exact; typ = f .typ; sub = rsub-trans A (f .sub) h }

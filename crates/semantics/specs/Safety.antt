@@ -11,12 +11,12 @@ use Rattle.syntax.specs.Job.{Src, upOf}
 use Rattle.syntax.specs.Tree.{hostCtx, root}
 use Rattle.syntax.specs.WellRead.{WellRead}
 use Rattle.typing.specs.Rules.{Has, codeOf}
 use Rattle.semantics.specs.Machine.{Machine}
 use Rattle.semantics.specs.Start.{startOf}
 use Rattle.semantics.specs.Calls.{Call, Answer, taken, finished, spent, noroom, Ran, calls, Gives, step-taken, step-finished, step-noroom, run-finished, run-spent, run-noroom, AllGive}
-use Rattle.safety.specs.Begin.{start-ok}
-use Rattle.safety.specs.CallLaws.{calls-give}
-use Rattle.safety.specs.Only.{all-one}
+use Rattle.semantics.specs.Begin.{start-ok}
+use Rattle.semantics.specs.CallLaws.{calls-give}
+use Rattle.semantics.specs.Only.{all-one}
 
 pub safety : (S : Src) → WellRead S → {T : Ty} {s : Effect} → Has S (hostCtx S) (root S) T s → EffBelow (upOf S) s (S .rights)
     → (cs : List Call) → AllGive (codeOf S) cs (startOf S) (calls (codeOf S) cs (startOf S))

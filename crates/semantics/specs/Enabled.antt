@@ -16,9 +16,9 @@ use Rattle.order.specs.Sets.{bit, members, setOf, keep, some-of}
 use Rattle.order.specs.SetLaws.{→or-l, →or-r, bit-or, bit-pow, mem-bit, bit-mem, mem-keep, →some-of, setOf-mem}
 use Rattle.order.specs.Effects.{Effect, names, touch, join}
 use Rattle.order.specs.EffectLaws.{touch-name, touch-old, join-left, join-right}
 use Rattle.semantics.specs.Keys.{enabled, upto, narrow, add}
-use Rattle.safety.specs.RuntimeTypes.{Under}
-use Rattle.safety.specs.Invariant.{On, on-zero, on-key, OnAll, Covers, KeysOk}
+use Rattle.semantics.specs.RuntimeTypes.{Under}
+use Rattle.semantics.specs.Invariant.{On, on-zero, on-key, OnAll, Covers, KeysOk}
 
 -- more keys enable more
 pub on-more : {ks l m : List ℕ} → ((a : ℕ) → List·Memᴰ a l → List·Memᴰ a m) → {k : ℕ} → On ks l k → On ks m k

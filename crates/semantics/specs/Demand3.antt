@@ -14,10 +14,10 @@ use Rattle.syntax.specs.ReadFormed.{read-well, nth-map}
 use Rattle.typing.specs.Verdict.{accept, verdictOf}
 use Rattle.typing.specs.Demand2.{accepts-typed}
 use Rattle.typing.specs.Rules.{codeOf}
 use Rattle.semantics.specs.Start.{startOf}
 use Rattle.semantics.specs.Calls.{Call, Ran, calls, AllGive}
 use Rattle.semantics.specs.TypeFree.{calls-same, all-same}
-use Rattle.safety.specs.Safety.{safety}
+use Rattle.semantics.specs.Safety.{safety}
 
 -- the expressions of a job as it is read
 abbrev pub exprOf : Job → ℕ → Cmd ℕ

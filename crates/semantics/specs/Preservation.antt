@@ -3,12 +3,12 @@ use mathlib.Core.Path.{_≡_, ap, subst}
 use mathlib.Core.Bool.{false≢true}
 use Rattle.syntax.specs.Job.{Src}
 use Rattle.typing.specs.Rules.{codeOf}
 use Rattle.semantics.specs.Machine.{Machine, Thread}
 use Rattle.semantics.specs.Step.{Out, o-step, step}
-use Rattle.safety.specs.Outs.{isStep, after}
-use Rattle.safety.specs.Invariant.{World, worldOf, Ext, ThreadOk, Ok}
-use Rattle.safety.specs.Growth.{thread-ext}
-use Rattle.safety.specs.Sound.{Good, g-step, g-done, g-room, sound}
+use Rattle.semantics.specs.Outs.{isStep, after}
+use Rattle.semantics.specs.Invariant.{World, worldOf, Ext, ThreadOk, Ok}
+use Rattle.semantics.specs.Growth.{thread-ext}
+use Rattle.semantics.specs.Sound.{Good, g-step, g-done, g-room, sound}
 
 -- the world of a well-typed machine
 abbrev pub worldIn : (S : Src) (m : Machine) → Ok S m → World
