@@ -1,16 +1,18 @@
 -- Names by a table of ancestors: entry a is the set of the names at or above a, so that one word answers what is above a name. The tests and operations on
 -- effects by that table; `Laws` shows that they are those of the order.
 use Prim.Native.Nat.{ℕ, zero, suc, _+_, _-_, _/_, _%_, _^_}
-use mathlib.Core.Bool.{Bool, true, false, cond, not}
+use mathlib.Core.Bool.{Bool, false, cond, not}
 use mathlib.Core.List.{List, [], _∷_, _++_, map}
-use lib.ListN.{length, getD}
+use lib.ListN.{length, getD, set, replicate}
 use lib.Dec.{eqb, ltb}
-use lib.Bits.{bitAnd}
-use Rattle.order.specs.Bools.{_or_}
+use lib.Bits.{bitAnd, bitOr, bitXor}
+use lib.Count.{trailingZeros}
+use Rattle.order.specs.Bools.{_and_, _or_}
 use Rattle.order.specs.Order.{below}
 use Rattle.order.specs.Sets.{bit, members, setOf, keep, all-of}
 use Rattle.order.specs.Effects.{Effect, names}
 use Rattle.syntax.specs.Job.{Name}
+use Rattle.syntax.specs.Reading.{hostName}
 
 -- the declared name that a word of the names table stands for
 unfoldable pub nameOf : ℕ → Name
@@ -38,18 +40,74 @@ ancestorsOf up = map (λ a. cond (ltb a (length up)) (atOrAbove up a) 0) (range 
 unfoldable pub belowBy : List ℕ → ℕ → ℕ → Bool
 belowBy anc a b = eqb a 0 or eqb a b or bit (getD anc a 0) b
 
+-- a name of t is at or above n
+unfoldable pub meetsBy : List ℕ → Effect → ℕ → Bool
+meetsBy anc t n = not (eqb (bitAnd (getD anc n 0) t) 0)
+
 unfoldable pub effBelowBy : List ℕ → Effect → Effect → Bool
-effBelowBy anc s t = all-of (λ n. not (eqb (bitAnd (getD anc n 0) t) 0)) (names s)
+effBelowBy anc s t = all-of (meetsBy anc t) (names s)
 
 -- no other name of s is at or above n
 unfoldable pub topBy : List ℕ → Effect → ℕ → Bool
 topBy anc s n = eqb (bitAnd (getD anc n 0) s) (2 ^ n)
 
+-- n is no bottom, and no other name of s is at or above it
+unfoldable pub maximalBy : List ℕ → Effect → ℕ → Bool
+maximalBy anc s n = cond (eqb n 0) false (topBy anc s n)
+
 unfoldable pub reducedBy : List ℕ → Effect → Bool
-reducedBy anc s = all-of (λ n. cond (eqb n 0) false (topBy anc s n)) (members s)
+reducedBy anc s = all-of (maximalBy anc s) (members s)
 
 unfoldable pub reduceBy : List ℕ → Effect → Effect
-reduceBy anc s = setOf (keep (λ n. cond (eqb n 0) false (topBy anc s n)) (members s))
+reduceBy anc s = setOf (keep (maximalBy anc s) (members s))
+
+-- n is not below r
+unfoldable pub staysBy : List ℕ → ℕ → ℕ → Bool
+staysBy anc r n = not (belowBy anc n r)
 
 unfoldable pub dropBy : List ℕ → ℕ → Effect → Effect
-dropBy anc r s = setOf (keep (λ n. not (belowBy anc n r)) (names s))
+dropBy anc r s = setOf (keep (staysBy anc r) (names s))
+
+-- the lowest member of a set of numbers below 64; 64 for none
+unfoldable pub lowest : ℕ → ℕ
+lowest s = trailingZeros 64 s
+
+-- the set of one name below 64; none for other numbers
+unfoldable pub oneOf : ℕ → ℕ
+oneOf n = cond (ltb n 64) (2 ^ n) 0
+
+-- s without 0
+unfoldable pub nonzero : Effect → Effect
+nonzero s = s - s % 2
+
+-- touch and raise, for names below 64; a number that is no such name adds nothing
+unfoldable pub touchBy : ℕ → Effect → Effect
+touchBy q s = bitOr (oneOf q) s
+
+unfoldable pub raiseBy : ℕ → ℕ → Effect → Effect
+raiseBy r u s = cond (bit (nonzero s) r) (bitOr (oneOf u) (bitXor (nonzero s) (oneOf r))) (nonzero s)
+
+-- The table of ancestors by one pass over the declared names: a name's entry is its own bit with the entry of its upper name. 0 is below all, and 1 below itself.
+unfoldable pub firstTwo : List ℕ
+firstTwo = set (set (replicate 64 0) 0 0xFFFFFFFFFFFFFFFF) 1 2
+
+unfoldable pub entered : List ℕ → ℕ → Name → List ℕ
+entered anc a d = set anc a (bitOr (oneOf a) (getD anc (d .upper) 0))
+
+unfoldable pub passOver : ℕ → List ℕ → List Name → List ℕ
+passOver a anc [] = anc
+passOver a anc (d ∷ ds) = passOver (suc a) (entered anc a d) ds
+
+unfoldable pub ancestorsBy : List Name → List ℕ
+ancestorsBy ds = passOver 2 firstTwo ds
+
+-- a name that is 0, 1 or one of n declared ones
+unfoldable pub declaredOf : ℕ → ℕ → Bool
+declaredOf n q = ltb q (2 + n)
+
+-- the conditions on a written set and on the rights, by the table of ancestors of n declared names
+unfoldable pub setOkBy : List ℕ → ℕ → Effect → Bool
+setOkBy anc n s = all-of (declaredOf n) (members s) and reducedBy anc s
+
+unfoldable pub rightsOkBy : List ℕ → List Name → Effect → Bool
+rightsOkBy anc ds s = setOkBy anc (length ds) s and all-of (hostName ds) (members s)

@@ -1,0 +1,26 @@
+use mathlib.Core.Path.{sym}
+use lib.Seq.{set-out}
+use borrow.Author.Needs.{needs}
+use Rattle.store.proofs.put8.Statement.{statement}
+use Rattle.store.proofs.put8.Tie as tie
+use Rattle.store.proofs.put8.Reads as reads
+use Rattle.store.proofs.put8.Lts as lts
+
+-- src/lib.rt:152:9
+slice-write-s : tie.Need-slice-write-s
+slice-write-s c = search needs
+
+-- src/lib.rt:148:1
+same-length : tie.Need-same-length
+same-length c = search needs
+
+-- src/lib.rt:148:1
+returns : tie.Need-returns
+returns c = search needs
+
+-- src/lib.rt:148:1
+returns-2 : tie.Need-returns-2
+returns-2 c = record { same = sym (set-out _ _ _ (c .if1 .left)) }
+
+pub put8-spec : {M : Type 1} → statement M
+put8-spec = tie.close (tie.spec slice-write-s same-length returns returns-2)

@@ -1,0 +1,530 @@
+// Values, sets of keys and the entries of the machine's tables, in words of 64 bits.
+ghost use mathlib.Core.Path.{_≡_};
+ghost use mathlib.Core.Bool.{cond, true};
+ghost use Prim.Native.Nat.{_<_, _≤_, _+_, _*_, _%_, _^_};
+ghost use lib.ListN.{getD, length};
+ghost use lib.Dec.{eqb, ltb};
+ghost use lib.Bits.{bitOr};
+ghost use Rattle.order.specs.Bools.{_and_};
+ghost use Rattle.order.specs.Order.{below};
+ghost use Rattle.order.specs.Sets.{bit, some-of};
+ghost use Rattle.semantics.specs.Keys.{enabled, narrow};
+ghost use Rattle.store.specs.Meaning.{keysIn, valueIn, twoIn, closureIn, bindingIn, variableIn, nameIn, ownIn};
+ghost use Rattle.store.specs.Words.{wordIn, cellIn, pairIn, functionIn, linkIn, upIn};
+ghost use Rattle.store.specs.Frames.{headAt, heldIn, heldOf, freshOf, frameIn, Held};
+ghost use Rattle.store.specs.Tables.{Stored, Put, capped, listOf, stackOf};
+ghost use Rattle.store.specs.Walk.{walk, bothOf, bitsOf, span};
+
+// The number of a key.
+pub struct Key(pub u8);
+
+// The number of an expression.
+pub struct Expr(pub u16);
+
+// A set of keys: bit i of the first number is key i, of the second key 64 + i.
+pub struct Keys(pub u64, pub u64);
+
+// The keys of a limit: four, some of them the same.
+pub struct Own(pub Key, pub Key, pub Key, pub Key);
+
+// A number; the number of a pair, cell or function; the key that a limit or grant key stands for.
+pub enum Kind {
+    Number(u32),
+    Pair(u32),
+    Cell(u32),
+    Function(u32),
+    Limit(Key),
+    Grant(Key),
+}
+
+pub struct Value {
+    pub key: Key,
+    pub kind: Kind,
+}
+
+pub struct Two {
+    pub first: Value,
+    pub second: Value,
+}
+
+// A function, with its bindings.
+pub struct Closure {
+    pub var: u8,
+    pub body: Expr,
+    pub env: u16,
+}
+
+pub enum Bound {
+    Variable(u8, Value),
+    Name(u8, Key),
+}
+
+// What is bound, and the binding that it was added to.
+pub struct Binding {
+    pub bound: Bound,
+    pub next: u16,
+}
+
+// A frame without the values in hand.
+pub struct Head {
+    pub at: Expr,
+    pub held: u8,
+    pub env: u16,
+    pub on: Keys,
+}
+
+fn small(n: u32) -> u8
+    ensures { λ r. ⌜ r ≡ n % 256 ⌝ }
+{
+    (n % 256) as u8
+}
+
+pub fn unpack(w: u64) -> Value
+    ensures { λ r. ⌜ valueIn r ≡ wordIn w ⌝ }
+{
+    let n = (w % 4294967296) as u32;
+    let t = w / 4294967296 % 256;
+    let key = Key((w / 1099511627776 % 256) as u8);
+    match t {
+        0 => Value {
+            key: key,
+            kind: Kind::Number(n),
+        },
+        1 => Value {
+            key: key,
+            kind: Kind::Pair(n),
+        },
+        2 => Value {
+            key: key,
+            kind: Kind::Cell(n),
+        },
+        3 => Value {
+            key: key,
+            kind: Kind::Function(n),
+        },
+        4 => Value {
+            key: key,
+            kind: Kind::Limit(Key(small(n))),
+        },
+        _ => Value {
+            key: key,
+            kind: Kind::Grant(Key(small(n))),
+        },
+    }
+}
+
+fn word(key: u8, tag: u64, n: u32) -> u64
+    requires { ⌜ tag < 256 ⌝ }
+    ensures { λ r. ⌜ r ≡ n + tag * 4294967296 + key * 1099511627776 ⌝ }
+{
+    (n as u64) + tag * 4294967296 + (key as u64) * 1099511627776
+}
+
+pub fn pack(v: Value) -> u64
+    ensures { λ r. ⌜ wordIn r ≡ valueIn v ⌝ }
+{
+    let key = v.key;
+    let kind = v.kind;
+    match kind {
+        Kind::Number(n) => word(key.0, 0, n),
+        Kind::Pair(n) => word(key.0, 1, n),
+        Kind::Cell(n) => word(key.0, 2, n),
+        Kind::Function(n) => word(key.0, 3, n),
+        Kind::Limit(k) => word(key.0, 4, k.0 as u32),
+        Kind::Grant(k) => word(key.0, 5, k.0 as u32),
+    }
+}
+
+// The number at i; past the end 0.
+pub fn at64(s: &[u64], i: usize) -> u64
+    ensures { λ r. ⌜ r ≡ getD (now (s .entry)) i 0 ⌝ }
+{
+    if i < s.len() { s[i] } else { 0 }
+}
+
+pub fn at16(s: &[u16], i: usize) -> u16
+    ensures { λ r. ⌜ r ≡ getD (now (s .entry)) i 0 ⌝ }
+{
+    if i < s.len() { s[i] } else { 0 }
+}
+
+pub fn at8(s: &[u8], i: usize) -> u8
+    ensures { λ r. ⌜ r ≡ getD (now (s .entry)) i 0 ⌝ }
+{
+    if i < s.len() { s[i] } else { 0 }
+}
+
+// Past the end nothing is stored.
+fn put64(s: &mut [u64], i: usize, x: u64)
+    ensures { λ _. ⌜ Stored (now (s .entry)) (now (s .exit)) i x ⌝ }
+{
+    if i < s.len() {
+        s[i] = x;
+    }
+}
+
+fn put8(s: &mut [u8], i: usize, x: u8)
+    ensures { λ _. ⌜ Stored (now (s .entry)) (now (s .exit)) i x ⌝ }
+{
+    if i < s.len() {
+        s[i] = x;
+    }
+}
+
+// The smaller of a count and the number of places.
+pub fn cap(n: u16, most: u16) -> u16
+    ensures { λ r. ⌜ (r ≡ capped n most) × (r ≤ most) ⌝ }
+{
+    if n < most { n } else { most }
+}
+
+// The upper key of key i.
+pub fn up_at(s: &[u8; 128], i: u8) -> u8
+    ensures { λ r. ⌜ r ≡ upIn (now (s .entry)) i ⌝ }
+{
+    at8(s, i as usize)
+}
+
+pub fn put_up(t: &mut [u8; 128], i: u16, k: Key)
+    ensures { λ _. ⌜ Put upIn 128 (now (t .entry)) (now (t .exit)) i (k .0) ⌝ }
+{
+    put8(&mut t[..], i as usize, k.0);
+}
+
+pub fn cell_at(t: &[u64; 256], i: u32) -> Value
+    ensures { λ r. ⌜ valueIn r ≡ cellIn (now (t .entry)) i ⌝ }
+{
+    unpack(at64(t, i as usize))
+}
+
+pub fn put_cell(t: &mut [u64; 256], i: u32, v: Value)
+    ensures { λ _. ⌜ Put cellIn 256 (now (t .entry)) (now (t .exit)) i (valueIn v) ⌝ }
+{
+    let w = pack(v);
+    put64(&mut t[..], i as usize, w);
+}
+
+pub fn pair_at(t: &[u64; 1024], i: u32) -> Two
+    ensures { λ r. ⌜ twoIn r ≡ pairIn (now (t .entry)) i ⌝ }
+{
+    let j = i as usize;
+    let a = unpack(at64(t, j * 2));
+    let b = unpack(at64(t, j * 2 + 1));
+    Two {
+        first: a,
+        second: b,
+    }
+}
+
+pub fn put_pair(t: &mut [u64; 1024], i: u16, p: Two)
+    ensures { λ _. ⌜ Put pairIn 512 (now (t .entry)) (now (t .exit)) i (twoIn p) ⌝ }
+{
+    let x = p.first;
+    let y = p.second;
+    let a = pack(x);
+    let b = pack(y);
+    let j = i as usize;
+    put64(&mut t[..], j * 2, a);
+    put64(&mut t[..], j * 2 + 1, b);
+}
+
+// Three numbers of 8, 16 and 16 bits in a word.
+fn triple(a: u8, b: u16, c: u16) -> u64
+    ensures { λ r. ⌜ r ≡ a + b * 256 + c * 16777216 ⌝ }
+{
+    (a as u64) + (b as u64) * 256 + (c as u64) * 16777216
+}
+
+pub fn closure_at(t: &[u64; 512], i: u32) -> Closure
+    ensures { λ r. ⌜ closureIn r ≡ functionIn (now (t .entry)) i ⌝ }
+{
+    let w = at64(t, i as usize);
+    Closure {
+        var: (w % 256) as u8,
+        body: Expr((w / 256 % 65536) as u16),
+        env: (w / 16777216 % 65536) as u16,
+    }
+}
+
+pub fn put_closure(t: &mut [u64; 512], i: u16, f: Closure)
+    ensures { λ _. ⌜ Put functionIn 512 (now (t .entry)) (now (t .exit)) i (closureIn f) ⌝ }
+{
+    let body = f.body;
+    let w = triple(f.var, body.0, f.env);
+    put64(&mut t[..], i as usize, w);
+}
+
+pub fn binding_at(t: &[u64; 2048], i: u16) -> Binding
+    ensures { λ r. ⌜ bindingIn r ≡ linkIn (now (t .entry)) i ⌝ }
+{
+    let j = i as usize;
+    let w = at64(t, j * 2);
+    let v = at64(t, j * 2 + 1);
+    let x = (w % 256) as u8;
+    let next = (w / 256 % 65536) as u16;
+    if w / 16777216 % 65536 == 0 {
+        Binding {
+            bound: Bound::Variable(x, unpack(v)),
+            next: next,
+        }
+    } else {
+        Binding {
+            bound: Bound::Name(x, Key((v % 256) as u8)),
+            next: next,
+        }
+    }
+}
+
+// A variable bound to a value.
+pub fn put_variable(t: &mut [u64; 2048], i: u16, x: u8, v: Value, next: u16)
+    ensures { λ _. ⌜ Put linkIn 1024 (now (t .entry)) (now (t .exit)) i (variableIn x v next) ⌝ }
+{
+    let w = triple(x, next, 0);
+    let y = pack(v);
+    let j = i as usize;
+    put64(&mut t[..], j * 2, w);
+    put64(&mut t[..], j * 2 + 1, y);
+}
+
+// A name bound to a key.
+pub fn put_name(t: &mut [u64; 2048], i: u16, x: u8, k: Key, next: u16)
+    ensures { λ _. ⌜ Put linkIn 1024 (now (t .entry)) (now (t .exit)) i (nameIn x k next) ⌝ }
+{
+    let w = triple(x, next, 1);
+    let j = i as usize;
+    put64(&mut t[..], j * 2, w);
+    put64(&mut t[..], j * 2 + 1, k.0 as u64);
+}
+
+fn held(n: u64) -> u8
+    ensures { λ r. ⌜ r ≡ heldOf n ⌝ }
+{
+    if n < 3 { n as u8 } else { 3 }
+}
+
+pub fn head_at(t: &[u64; 1536], i: u16) -> Head
+    ensures { λ r. ⌜ r ≡ headAt (now (t .entry)) i ⌝ }
+{
+    let j = i as usize;
+    let w = at64(t, j * 6);
+    let n = held(w % 256);
+    Head {
+        at: Expr((w / 256 % 65536) as u16),
+        held: n,
+        env: (w / 16777216 % 65536) as u16,
+        on: Keys(at64(t, j * 6 + 1), at64(t, j * 6 + 2)),
+    }
+}
+
+// The value in hand at place j of frame i.
+pub fn held_at(t: &[u64; 1536], i: u16, j: u8) -> Value
+    ensures { λ r. ⌜ valueIn r ≡ heldIn (now (t .entry)) i j ⌝ }
+{
+    unpack(at64(t, (i as usize) * 6 + 3 + (j as usize)))
+}
+
+// A frame with nothing in hand.
+pub fn put_fresh(t: &mut [u64; 1536], i: u16, at: Expr, env: u16, on: Keys)
+    ensures { λ _. ⌜ Put frameIn 256 (now (t .entry)) (now (t .exit)) i (freshOf at env on) ⌝ }
+{
+    let w = triple(0, at.0, env);
+    let j = i as usize;
+    put64(&mut t[..], j * 6, w);
+    put64(&mut t[..], j * 6 + 1, on.0);
+    put64(&mut t[..], j * 6 + 2, on.1);
+}
+
+// Frame i with one value more in hand; a frame with three is left as it is.
+pub fn put_held(t: &mut [u64; 1536], i: u16, v: Value)
+    ensures { λ _. ⌜ Held (now (t .entry)) (now (t .exit)) i (valueIn v) ⌝ }
+{
+    let j = i as usize;
+    let w = at64(t, j * 6);
+    let n = w % 256;
+    if n < 3 {
+        let x = pack(v);
+        put64(&mut t[..], j * 6, w + 1);
+        put64(&mut t[..], j * 6 + 3 + (n as usize), x);
+    }
+}
+
+// Is k in the set?
+pub fn has(on: Keys, k: u8) -> bool
+    ensures { λ r. ⌜ r ≡ bit (keysIn on) k ⌝ }
+{
+    if k < 64 {
+        return (on.0 >> k) % 2 == 1;
+    }
+    if k < 128 {
+        let j = k - 64;
+        return (on.1 >> j) % 2 == 1;
+    }
+    false
+}
+
+// Is there a key in the set?
+fn any(on: Keys) -> bool
+    ensures { λ r. ⌜ r ≡ ltb 0 (keysIn on) ⌝ }
+{
+    if on.0 == 0 {
+        return 0 < on.1;
+    }
+    true
+}
+
+// Is k, or a key above it in the tree, in the set?
+fn walk_up(keys: &[u8; 128], n: u16, on: Keys, k: u8) -> bool
+    ensures { λ r. ⌜ r ≡ walk (listOf upIn (now (keys .entry)) n) (bit (keysIn on)) (ltb 0 (keysIn on)) n k ⌝ }
+{
+    let mut x = k;
+    let mut left = n;
+    while 0 < left {
+        if x == 0 {
+            return any(on);
+        }
+        if has(on, x) {
+            return true;
+        }
+        let i = x as u16;
+        if n <= i {
+            return false;
+        }
+        x = up_at(keys, x);
+        left = left - 1;
+    }
+    if x == 0 {
+        return any(on);
+    }
+    has(on, x)
+}
+
+// Is the key enabled?
+pub fn enabled(keys: &[u8; 128], n: u16, on: Keys, k: Key) -> bool
+    ensures { λ r. ⌜ r ≡ enabled (listOf upIn (now (keys .entry)) (capped n 128)) (keysIn on) (k .0) ⌝ }
+{
+    if k.0 == 0 {
+        return true;
+    }
+    let m = cap(n, 128);
+    walk_up(keys, m, on, k.0)
+}
+
+// Is k one of the keys?
+fn is_own(own: Own, k: u8) -> bool
+    ensures { λ r. ⌜ r ≡ some-of (eqb k) (ownIn own) ⌝ }
+{
+    let a = own.0;
+    let b = own.1;
+    let c = own.2;
+    let d = own.3;
+    if k == a.0 {
+        return true;
+    }
+    if k == b.0 {
+        return true;
+    }
+    if k == c.0 {
+        return true;
+    }
+    k == d.0
+}
+
+// Is k, or a key above it in the tree, one of the keys?
+fn walk_own(keys: &[u8; 128], n: u16, own: Own, k: u8) -> bool
+    ensures { λ r. ⌜ r ≡ walk (listOf upIn (now (keys .entry)) n) (λ x. some-of (eqb x) (ownIn own)) true n k ⌝ }
+{
+    let mut x = k;
+    let mut left = n;
+    while 0 < left {
+        if x == 0 {
+            return true;
+        }
+        if is_own(own, x) {
+            return true;
+        }
+        let i = x as u16;
+        if n <= i {
+            return false;
+        }
+        x = up_at(keys, x);
+        left = left - 1;
+    }
+    if x == 0 {
+        return true;
+    }
+    is_own(own, x)
+}
+
+// Is k below both an enabled key and one of the limit's own?
+fn both(keys: &[u8; 128], n: u16, on: Keys, own: Own, k: u8) -> bool
+    requires { ⌜ n ≤ 128 ⌝ }
+    ensures { λ r. ⌜ r ≡ bothOf (listOf upIn (now (keys .entry)) n) (keysIn on) (ownIn own) k ⌝ }
+{
+    if k == 0 {
+        return false;
+    }
+    if walk_up(keys, n, on, k) {
+        return walk_own(keys, n, own, k);
+    }
+    false
+}
+
+fn one_bit(yes: bool, j: u8) -> u64
+    requires { ⌜ j < 64 ⌝ }
+    ensures { λ r. ⌜ r ≡ cond yes (2 ^ j) 0 ⌝ }
+{
+    if yes {
+        return 1u64 << j;
+    }
+    0
+}
+
+// How many of n keys lie from `base` on, 64 at most.
+fn width(n: u16, base: u16) -> u16
+    ensures { λ r. ⌜ (r ≡ span n base) × (r ≤ 64) ⌝ }
+{
+    if n < base {
+        return 0;
+    }
+    let m = n - base;
+    if m < 64 { m } else { 64 }
+}
+
+// Of the keys from `base` on, those below both, as bits.
+fn gather(keys: &[u8; 128], n: u16, on: Keys, own: Own, base: u8) -> u64
+    requires { ⌜ (base ≤ 64) × (n ≤ 128) ⌝ }
+    ensures { λ r. ⌜ r ≡ bitsOf (bothOf (listOf upIn (now (keys .entry)) n) (keysIn on) (ownIn own)) base (span n base) ⌝ }
+{
+    let m = width(n, base as u16) as u8;
+    let mut acc: u64 = 0;
+    let mut j: u8 = 0;
+    while j < m {
+        let yes = both(keys, n, on, own, base + j);
+        acc = acc | one_bit(yes, j);
+        j = j + 1;
+    }
+    acc
+}
+
+// The keys that are below both an enabled key and one of the limit's own.
+pub fn narrow(keys: &[u8; 128], n: u16, on: Keys, own: Own) -> Keys
+    ensures { λ r. ⌜ keysIn r ≡ narrow (listOf upIn (now (keys .entry)) (capped n 128)) (keysIn on) (ownIn own) ⌝ }
+{
+    let m = cap(n, 128);
+    Keys(gather(keys, m, on, own, 0), gather(keys, m, on, own, 64))
+}
+
+// The set with a key added, if it is one of the n keys that there are.
+pub fn add(n: u16, on: Keys, k: Key) -> Keys
+    ensures { λ r. ⌜ keysIn r ≡ cond (ltb (k .0) (capped n 128)) (bitOr (2 ^ (k .0)) (keysIn on)) (keysIn on) ⌝ }
+{
+    let m = cap(n, 128);
+    let i = k.0;
+    if m <= i as u16 {
+        return on;
+    }
+    if i < 64 {
+        return Keys(one_bit(true, i) | on.0, on.1);
+    }
+    Keys(on.0, one_bit(true, i - 64) | on.1)
+}
