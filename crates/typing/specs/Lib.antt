@@ -14,3 +14,9 @@ pub mod Exactly
 pub mod Demand2
 pub mod Entries
 pub mod Numbered
+pub mod NumberedTables
+pub mod NumberedTests
+pub mod NumberedStep
+pub mod NumberedLaws
+pub mod NumberedWords
+pub mod NumberedVerdict

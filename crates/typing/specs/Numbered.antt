@@ -1,6 +1,6 @@
 -- Typing by numbers: the type of each expression as the number of an entry of the type table, the effects beside it, expression after expression, as a program
 -- does it. `NumberedLaws` shows that this is the typing by trees of `Least` and the table of `Layout`.
-use Prim.Native.Nat.{ℕ, zero, suc}
+use Prim.Native.Nat.{ℕ, suc}
 use mathlib.Core.Bool.{Bool, true, false, cond}
 use mathlib.Core.List.{List, [], _∷_, _++_}
 use mathlib.Core.Option.{Option, none, some}

@@ -1,0 +1,307 @@
+-- Type tables as typing makes them: parts are earlier entries, the content of a cell and the argument of a function are declared types, names and sets are in their
+-- bounds. The trees of such a table, and the entries of variables.
+use mathlib.Core.Path.{_≡_, refl, sym, ap, _∙_, subst, subst⁻¹}
+use Prim.Native.Nat.{ℕ, zero, suc, _+_, _^_, _≤_, _<_}
+use native.Mathlib.Omega.{arith}
+use mathlib.Core.Bool.{Bool, true, false, cond}
+use mathlib.Core.List.{List, [], _∷_, _++_, map, flatMap, append-assoc, append-nil, List·Memᴰ, List·Memᴰ·head, List·Memᴰ·tail, List·Memᴰ·not-nil}
+use mathlib.Core.Option.{Option, none, some, Option·none-ne-some, Option·some-injective}
+use mathlib.Core.Logic.{_≢_, _⊎_, inl, inr}
+use lib.ListN.{length, length-append, getElem?}
+use lib.Dec.{eqb}
+use borrow.Author.Tests.{eqb-true, eq-eqb, ne-eqb, ltb-true}
+use Rattle.order.specs.Bools.{and-l, and-r}
+use Rattle.order.specs.OrderLaws.{getElem?-append, getElem?-snoc, getElem?-seam, getElem?-lt, length-snoc}
+use Rattle.order.specs.SetLaws.{lt-bit, bit-mem, all-of→}
+use Rattle.order.specs.Effects.{Effect}
+use Rattle.syntax.specs.Types.{Ty, pair, lim, grant, TypeEntry, e-num, e-pair, e-cell, e-fn, e-lim, e-grant, grow, treeIn, tree}
+use Rattle.syntax.specs.Commands.{Cmd, c-num, c-top, c-var, c-pair, c-part, c-fn, c-app, c-new, c-asg, c-read, c-sum, c-test, c-lim, c-grant, c-newkey, c-assoc, mapCmd}
+use Rattle.syntax.specs.Operands.{nth, typesOf, bindsName}
+use Rattle.syntax.specs.Job.{Name, HostValue, Job, valueOf, sourceOf}
+use Rattle.syntax.specs.Reading.{declared, localName, setOk, partsOk, hostValueOk}
+use Rattle.syntax.specs.ReadLaws.{TypesOk, JobOk, built-at}
+use Rattle.syntax.specs.ReadFormed.{entry-parts, tree-append, cmds-formed}
+use Rattle.syntax.specs.Tree.{Entry, e-var, e-name, binds, boundBy, hostCtx}
+use Rattle.syntax.specs.Scope.{VarIn, v-here, v-var, v-name, host-var}
+use Rattle.typing.specs.Least.{typeIn, varType}
+use Rattle.typing.specs.Layout.{newKeys, keyEntries, Typing, hostVars, boundVars, entryOf, varEntry}
+use Rattle.typing.specs.Numbered.{startOf}
+
+-- an entry that may stand at n, where D types are declared and there are N names
+pub data EntryOk (D N n : ℕ) : TypeEntry → Type 0 where
+  ok-num : {q : ℕ} → q < N → EntryOk D N n (e-num q)
+  ok-pair : {q a b : ℕ} → q < N → a < n → b < n → EntryOk D N n (e-pair q a b)
+  ok-cell : {q a : ℕ} → q < N → a < n → a < D → EntryOk D N n (e-cell q a)
+  ok-fn : {q a b : ℕ} {s : Effect} → q < N → a < n → a < D → b < n → s < 2 ^ N → EntryOk D N n (e-fn q a b s)
+  ok-lim : {q r : ℕ} → q < N → r < N → EntryOk D N n (e-lim q r)
+  ok-grant : {q r : ℕ} → q < N → r < N → EntryOk D N n (e-grant q r)
+
+pub record TableOk (D N : ℕ) (T : List TypeEntry) : Type 0 where
+  pub each : (i : ℕ) (x : TypeEntry) → getElem? T i ≡ some x → EntryOk D N i x
+
+-- The trees of a table
+
+pub entry-some : {A : Type 0} (l : List A) (i : ℕ) → i < length l → (a : A) × (getElem? l i ≡ some a)
+entry-some [] i h = absurd (omega arith)
+entry-some (x ∷ l) zero h = (x, refl)
+entry-some (x ∷ l) (suc i) h = entry-some l i (omega arith)
+
+-- an entry's tree is decided by the trees of earlier entries
+grow-same : {D N n : ℕ} {x : TypeEntry} → EntryOk D N n x → (f g : ℕ → Ty) → ((a : ℕ) → a < n → f a ≡ g a) → grow (some x) f ≡ grow (some x) g
+unfolding grow
+grow-same (ok-num q) f g s = refl
+grow-same (ok-pair {a = a} {b = b} q x y) f g s = let u = s a x in let v = s b y in rw (u, v)
+grow-same (ok-cell {a = a} q x d) f g s = let u = s a x in rw u
+grow-same (ok-fn {a = a} {b = b} q x d y z) f g s = let u = s a x in let v = s b y in rw (u, v)
+grow-same (ok-lim q r) f g s = refl
+grow-same (ok-grant q r) f g s = refl
+
+module _ {D N : ℕ} {T : List TypeEntry} (ok : TableOk D N T) where
+  -- more levels than i give the same tree
+  levels : (f g i : ℕ) → i < f → i < g → treeIn f T i ≡ treeIn g T i
+  unfolding treeIn grow
+  levels zero g i h k = absurd (omega arith)
+  levels (suc f) zero i h k = absurd (omega arith)
+  levels (suc f) (suc g) i h k = at (getElem? T i) refl (λ a u v. levels f g a u v)
+    where
+      at : (o : Option TypeEntry) → getElem? T i ≡ o → ((a : ℕ) → a < f → a < g → treeIn f T a ≡ treeIn g T a) → grow o (treeIn f T) ≡ grow o (treeIn g T)
+      at none z s = refl
+      at (some e) z s = grow-same (ok .each i e z) (treeIn f T) (treeIn g T) (λ a u. s a (omega arith) (omega arith))
+
+  -- the tree of an entry is made of the trees of its parts
+  pub tree-entry : (i : ℕ) (x : TypeEntry) → getElem? T i ≡ some x → tree T i ≡ grow (some x) (tree T)
+  unfolding tree treeIn
+  tree-entry i x h = ap (λ o. grow o (treeIn i T)) h ∙ grow-same (ok .each i x h) (treeIn i T) (tree T) (λ a u. levels i (suc a) a u (omega arith))
+
+  longer : (U : List TypeEntry) (f i : ℕ) → i < length T → treeIn f (T ++ U) i ≡ treeIn f T i
+  unfolding treeIn
+  longer U zero i h = refl
+  longer U (suc f) i h = at (entry-some T i h) (λ a u. longer U f a u)
+    where
+      at : (e : TypeEntry) × (getElem? T i ≡ some e) → ((a : ℕ) → a < length T → treeIn f (T ++ U) a ≡ treeIn f T a)
+          → grow (getElem? (T ++ U) i) (treeIn f (T ++ U)) ≡ grow (getElem? T i) (treeIn f T)
+      at (e, z) s = rw (getElem?-append T U i e z, z) (grow-same (ok .each i e z) (treeIn f (T ++ U)) (treeIn f T) (λ a u. s a (omega arith)))
+
+  -- trees stay the same when entries are added at the end
+  pub tree-kept : (U : List TypeEntry) (i : ℕ) → i < length T → tree (T ++ U) i ≡ tree T i
+  unfolding tree
+  tree-kept U i h = longer U (suc i) i h
+
+-- A table that grows
+
+pub table-snoc : {D N : ℕ} {T : List TypeEntry} → TableOk D N T → {x : TypeEntry} → EntryOk D N (length T) x → TableOk D N (T ++ (x ∷ []))
+table-snoc {D} {N} {T} ok {x} h = record { each = λ i y e. at i y (getElem?-snoc T x i y e) }
+  where
+    at : (i : ℕ) (y : TypeEntry) → (getElem? T i ≡ some y) ⊎ ((i ≡ length T) × (x ≡ y)) → EntryOk D N i y
+    at i y (inl z) = ok .each i y z
+    at i y (inr z) = subst⁻¹ (λ n. EntryOk D N n y) (z .0) (subst (λ e. EntryOk D N (length T) e) (z .1) h)
+
+-- the tree of a new last entry
+pub tree-new : {D N : ℕ} {T : List TypeEntry} → TableOk D N T → {x : TypeEntry} → EntryOk D N (length T) x → tree (T ++ (x ∷ [])) (length T) ≡ grow (some x) (tree T)
+tree-new {D} {N} {T} ok {x} h =
+    tree-entry (table-snoc ok h) (length T) x (getElem?-seam T x) ∙ grow-same h (tree (T ++ (x ∷ []))) (tree T) (λ a u. tree-kept ok (x ∷ []) a u)
+
+-- Declared types
+
+pub set-lt : (ds : List Name) (s : Effect) → setOk ds s ≡ true → s < 2 ^ (2 + length ds)
+unfolding setOk declared
+set-lt ds s h = lt-bit (2 + length ds) s (λ i e. ltb-true _ _ (all-of→ (declared ds) (and-l _ _ h) (bit-mem s e)))
+
+name-lt : (ds : List Name) (q : ℕ) → declared ds q ≡ true → q < 2 + length ds
+unfolding declared
+name-lt ds q h = ltb-true _ _ h
+
+parts-ok : (ds : List Name) (D n : ℕ) → n ≤ D → (x : TypeEntry) → partsOk ds n x ≡ true → EntryOk D (2 + length ds) n x
+unfolding partsOk
+parts-ok ds D n l (e-num q) h = ok-num (name-lt ds q h)
+parts-ok ds D n l (e-pair q a b) h = ok-pair (name-lt ds q (and-l _ _ (and-l _ _ h))) (ltb-true _ _ (and-r _ _ (and-l _ _ h))) (ltb-true _ _ (and-r _ _ h))
+parts-ok ds D n l (e-cell q a) h = let k = ltb-true a n (and-r _ _ h) in ok-cell (name-lt ds q (and-l _ _ h)) k (omega arith)
+parts-ok ds D n l (e-fn q a b s) h =
+    let k = ltb-true a n (and-r _ _ (and-l _ _ (and-l _ _ h))) in
+    ok-fn (name-lt ds q (and-l _ _ (and-l _ _ (and-l _ _ h)))) k (omega arith) (ltb-true _ _ (and-r _ _ (and-l _ _ h))) (set-lt ds s (and-r _ _ h))
+parts-ok ds D n l (e-lim q r) h = ok-lim (name-lt ds q (and-l _ _ (and-l _ _ h))) (name-lt ds r (and-r _ _ (and-l _ _ h)))
+parts-ok ds D n l (e-grant q r) h = ok-grant (name-lt ds q (and-l _ _ (and-l _ _ h))) (name-lt ds r (and-r _ _ (and-l _ _ h)))
+
+pub declared-ok : (ds : List Name) {ts : List TypeEntry} → TypesOk ds ts → TableOk (length ts) (2 + length ds) ts
+declared-ok ds {ts} b = record { each = λ i x e. let l : i ≤ length ts = omega (arith, getElem?-lt ts i x e) in parts-ok ds (length ts) i l x (entry-parts ds b i x e) }
+
+-- The entries of 3E
+
+-- n entries stand before
+three : {A : Type 0} (T : List A) (x y z : A) (l : List A) → T ++ (x ∷ y ∷ z ∷ l) ≡ (((T ++ (x ∷ [])) ++ (y ∷ [])) ++ (z ∷ [])) ++ l
+three T x y z l = simp append-assoc
+
+three-length : {A : Type 0} (T : List A) (x y z : A) → length (((T ++ (x ∷ [])) ++ (y ∷ [])) ++ (z ∷ [])) ≡ 3 + length T
+three-length T x y z = omega (arith, length-snoc ((T ++ (x ∷ [])) ++ (y ∷ [])) z, length-snoc (T ++ (x ∷ [])) y, length-snoc T x)
+
+-- the table with one 3E's entries more
+abbrev withKey : List TypeEntry → ℕ → List TypeEntry
+withKey T r = ((T ++ (e-lim 0 r ∷ [])) ++ (e-grant 0 r ∷ [])) ++ (e-pair 0 (length T) (suc (length T)) ∷ [])
+
+key-split : (T : List TypeEntry) (r : ℕ) (rs : List ℕ) → T ++ keyEntries (length T) (r ∷ rs) ≡ withKey T r ++ keyEntries (length (withKey T r)) rs
+unfolding keyEntries
+key-split T r rs =
+    three T (e-lim 0 r) (e-grant 0 r) (e-pair 0 (length T) (suc (length T))) (keyEntries (3 + length T) rs)
+    ∙ ap (λ n. withKey T r ++ keyEntries n rs) (sym (three-length T (e-lim 0 r) (e-grant 0 r) (e-pair 0 (length T) (suc (length T)))))
+
+with-key : {D N : ℕ} {T : List TypeEntry} → TableOk D N T → 0 < N → (r : ℕ) → r < N → TableOk D N (withKey T r)
+with-key {D} {N} {T} ok p r low =
+    let X = e-lim 0 r in
+    let Y = e-grant 0 r in
+    let a : TableOk D N (T ++ (X ∷ [])) = table-snoc ok (ok-lim p low) in
+    let b : TableOk D N ((T ++ (X ∷ [])) ++ (Y ∷ [])) = table-snoc a (ok-grant p low) in
+    table-snoc b (ok-pair p (omega (arith, length-snoc (T ++ (X ∷ [])) Y, length-snoc T X)) (omega (arith, length-snoc (T ++ (X ∷ [])) Y, length-snoc T X)))
+
+pub table-keys : {D N : ℕ} {T : List TypeEntry} → TableOk D N T → 0 < N → (rs : List ℕ) → ((r : ℕ) → List·Memᴰ r rs → r < N) → TableOk D N (T ++ keyEntries (length T) rs)
+table-keys {D} {N} {T} ok p [] h = unfold keyEntries in subst⁻¹ (λ l. TableOk D N l) (append-nil T) ok
+table-keys {D} {N} {T} ok p (r ∷ rs) h =
+    subst⁻¹ (λ l. TableOk D N l) (key-split T r rs) (table-keys (with-key ok p r (h r (List·Memᴰ·head refl))) p rs (λ x m. h x (List·Memᴰ·tail m)))
+
+-- the entries of the 3E's with the local names rs stand from n on
+pub data KeysAt (E : List TypeEntry) : ℕ → List ℕ → Type 0 where
+  at-none : {n : ℕ} → KeysAt E n []
+  at-key : {n r : ℕ} {rs : List ℕ} → getElem? E n ≡ some (e-lim 0 r) → getElem? E (suc n) ≡ some (e-grant 0 r) → getElem? E (2 + n) ≡ some (e-pair 0 n (suc n)) → KeysAt E (3 + n) rs
+      → KeysAt E n (r ∷ rs)
+
+seam : {A : Type 0} (T : List A) (x : A) (l : List A) → getElem? (T ++ (x ∷ l)) (length T) ≡ some x
+seam [] x l = refl
+seam (y ∷ T) x l = seam T x l
+
+seam1 : {A : Type 0} (T : List A) (w x : A) (l : List A) → getElem? (T ++ (w ∷ x ∷ l)) (suc (length T)) ≡ some x
+seam1 [] w x l = refl
+seam1 (y ∷ T) w x l = seam1 T w x l
+
+seam2 : {A : Type 0} (T : List A) (v w x : A) (l : List A) → getElem? (T ++ (v ∷ w ∷ x ∷ l)) (suc (suc (length T))) ≡ some x
+seam2 [] v w x l = refl
+seam2 (y ∷ T) v w x l = seam2 T v w x l
+
+pub keys-at : (T : List TypeEntry) (rs : List ℕ) → KeysAt (T ++ keyEntries (length T) rs) (length T) rs
+unfolding keyEntries
+keys-at T [] = at-none
+keys-at T (r ∷ rs) = at-key (seam T _ _) (seam1 T _ _ _) (let h : 2 + length T ≡ suc (suc (length T)) = omega arith in rw h (seam2 T _ _ _ _)) (rest (keys-at (withKey T r) rs))
+  where
+    rest : KeysAt (withKey T r ++ keyEntries (length (withKey T r)) rs) (length (withKey T r)) rs
+        → KeysAt (T ++ (e-lim 0 r ∷ e-grant 0 r ∷ e-pair 0 (length T) (suc (length T)) ∷ keyEntries (3 + length T) rs)) (3 + length T) rs
+    rest k =
+        subst⁻¹ (λ l. KeysAt l (3 + length T) rs) (key-split T r rs)
+        (subst (λ n. KeysAt (withKey T r ++ keyEntries (length (withKey T r)) rs) n rs) (three-length T (e-lim 0 r) (e-grant 0 r) (e-pair 0 (length T) (suc (length T)))) k)
+
+-- Variables
+
+-- entry i has the tree A
+pub record TreeAt (E : List TypeEntry) (A : Ty) (i : ℕ) : Type 0 where
+  pub is : tree E i ≡ A
+  pub low : i < length E
+
+typeIn-in : (Γ : List Entry) (x : ℕ) (A : Ty) → typeIn Γ x ≡ some A → VarIn x A Γ
+unfolding typeIn
+typeIn-in [] x A e = absurd (Option·none-ne-some A e)
+typeIn-in (e-var y B ∷ Γ) x A e = at (eqb x y) refl e (λ h. typeIn-in Γ x A h)
+  where
+    at : (b : Bool) → eqb x y ≡ b → cond b (some B) (typeIn Γ x) ≡ some A → (typeIn Γ x ≡ some A → VarIn x A Γ) → VarIn x A (e-var y B ∷ Γ)
+    at true z h f = subst (λ C. VarIn x A (e-var y C ∷ Γ)) (sym (Option·some-injective B A h)) (subst (λ t. VarIn x A (e-var t A ∷ Γ)) (eqb-true x y z) v-here)
+    at false z h f = v-var (f h)
+typeIn-in (e-name r ∷ Γ) x A e = v-name (typeIn-in Γ x A e)
+
+-- the last bound first
+module _ (ts : List TypeEntry) {D N : ℕ} {E : List TypeEntry} (ok : TableOk D N E) (kept : (t : ℕ) → t < length ts → TreeAt E (tree ts t) t) (x : ℕ) where
+  by-test : (b : Bool) {B : Ty} {i : ℕ} → TreeAt E B i → {o : Option Ty} {j : ℕ} → ((A : Ty) → o ≡ some A → TreeAt E A j) → (A : Ty) → cond b (some B) o ≡ some A → TreeAt E A (cond b i j)
+  by-test true {B} {i} h f A e = subst (λ C. TreeAt E C i) (Option·some-injective B A e) h
+  by-test false h f A e = f A e
+
+  key-tree : {n r : ℕ} → getElem? E n ≡ some (e-lim 0 r) → getElem? E (suc n) ≡ some (e-grant 0 r) → getElem? E (2 + n) ≡ some (e-pair 0 n (suc n)) → TreeAt E (pair 0 (lim 0 r) (grant 0 r)) (2 + n)
+  unfolding grow
+  key-tree {n} {r} a b c = record { is = tree-entry ok (2 + n) (e-pair 0 n (suc n)) c ∙ rw (tree-entry ok n (e-lim 0 r) a, tree-entry ok (suc n) (e-grant 0 r) b); low = getElem?-lt E (2 + n) _ c }
+
+  bound-at : (l : List (Cmd ℕ)) (n : ℕ) → ((i t : ℕ) → List·Memᴰ t (typesOf (nth l i)) → t < length ts) → KeysAt E n (newKeys l) → (Γ : List Entry) (L : List Typing)
+      → ((A : Ty) → typeIn Γ x ≡ some A → TreeAt E A (entryOf L x)) → (A : Ty) → typeIn (boundBy (map (mapCmd (tree ts)) l) ++ Γ) x ≡ some A → TreeAt E A (entryOf (boundVars n l ++ L) x)
+  unfolding newKeys boundVars boundBy binds mapCmd typeIn entryOf typesOf nth flatMap
+  bound-at [] n t k Γ L f A e = f A e
+  bound-at (c-num y ∷ l) n t k Γ L f A e = bound-at l n (λ i. t (suc i)) k Γ L f A e
+  bound-at (c-top ∷ l) n t k Γ L f A e = bound-at l n (λ i. t (suc i)) k Γ L f A e
+  bound-at (c-var v ∷ l) n t k Γ L f A e = bound-at l n (λ i. t (suc i)) k Γ L f A e
+  bound-at (c-pair a b ∷ l) n t k Γ L f A e = bound-at l n (λ i. t (suc i)) k Γ L f A e
+  bound-at (c-part a i ∷ l) n t k Γ L f A e = bound-at l n (λ i. t (suc i)) k Γ L f A e
+  bound-at (c-fn v u b ∷ l) n t k Γ L f A e = by-test (eqb x v) (kept u (t 0 u (List·Memᴰ·head refl))) (λ B h. bound-at l n (λ i. t (suc i)) k Γ L f B h) A e
+  bound-at (c-app a b ∷ l) n t k Γ L f A e = bound-at l n (λ i. t (suc i)) k Γ L f A e
+  bound-at (c-new u a ∷ l) n t k Γ L f A e = bound-at l n (λ i. t (suc i)) k Γ L f A e
+  bound-at (c-asg a b ∷ l) n t k Γ L f A e = bound-at l n (λ i. t (suc i)) k Γ L f A e
+  bound-at (c-read a ∷ l) n t k Γ L f A e = bound-at l n (λ i. t (suc i)) k Γ L f A e
+  bound-at (c-sum i a b ∷ l) n t k Γ L f A e = bound-at l n (λ i. t (suc i)) k Γ L f A e
+  bound-at (c-test a b c u ∷ l) n t k Γ L f A e = bound-at l n (λ i. t (suc i)) k Γ L f A e
+  bound-at (c-lim ks b ∷ l) n t k Γ L f A e = bound-at l n (λ i. t (suc i)) k Γ L f A e
+  bound-at (c-grant a b ∷ l) n t k Γ L f A e = bound-at l n (λ i. t (suc i)) k Γ L f A e
+  bound-at (c-newkey v r a b u ∷ l) n t (at-key p q w k) Γ L f A e = by-test (eqb x v) (key-tree p q w) (λ B h. bound-at l (3 + n) (λ i. t (suc i)) k Γ L f B h) A e
+  bound-at (c-assoc a b ∷ l) n t k Γ L f A e = bound-at l n (λ i. t (suc i)) k Γ L f A e
+
+-- the host's variables, in order
+host-at : (hs : List (HostValue ℕ)) (v i x : ℕ) (h : HostValue ℕ) → x ≡ v + i → getElem? hs i ≡ some h → entryOf (hostVars v hs) x ≡ h .ty
+unfolding hostVars entryOf
+host-at [] v i x h e g = absurd (Option·none-ne-some h g)
+host-at (k ∷ hs) v zero x h e g = let z : x ≡ v = omega arith in rw (eq-eqb x v z) (ap (λ y. y .ty) (Option·some-injective k h g))
+host-at (k ∷ hs) v (suc i) x h e g = let z : x ≢ v = λ y. omega arith in rw (ne-eqb x v z) (host-at hs (suc v) i x h (omega arith) g)
+
+map-at : {A B : Type 0} (f : A → B) (l : List A) (i : ℕ) (b : B) → getElem? (map f l) i ≡ some b → (a : A) × (getElem? l i ≡ some a) × (f a ≡ b)
+map-at f [] i b e = absurd (Option·none-ne-some b e)
+map-at f (x ∷ l) zero b e = (x, refl, Option·some-injective (f x) b e)
+map-at f (x ∷ l) (suc i) b e = map-at f l i b e
+
+-- The start
+
+new-name : (l : List (Cmd ℕ)) (r : ℕ) → List·Memᴰ r (newKeys l) → (i : ℕ) × List·Memᴰ r (bindsName (nth l i))
+unfolding newKeys bindsName nth
+new-name [] r m = absurd (List·Memᴰ·not-nil m)
+new-name (c-num y ∷ l) r m = let z = new-name l r m in (suc (z .0), z .1)
+new-name (c-top ∷ l) r m = let z = new-name l r m in (suc (z .0), z .1)
+new-name (c-var v ∷ l) r m = let z = new-name l r m in (suc (z .0), z .1)
+new-name (c-pair a b ∷ l) r m = let z = new-name l r m in (suc (z .0), z .1)
+new-name (c-part a i ∷ l) r m = let z = new-name l r m in (suc (z .0), z .1)
+new-name (c-fn v t b ∷ l) r m = let z = new-name l r m in (suc (z .0), z .1)
+new-name (c-app a b ∷ l) r m = let z = new-name l r m in (suc (z .0), z .1)
+new-name (c-new t a ∷ l) r m = let z = new-name l r m in (suc (z .0), z .1)
+new-name (c-asg a b ∷ l) r m = let z = new-name l r m in (suc (z .0), z .1)
+new-name (c-read a ∷ l) r m = let z = new-name l r m in (suc (z .0), z .1)
+new-name (c-sum i a b ∷ l) r m = let z = new-name l r m in (suc (z .0), z .1)
+new-name (c-test a b c t ∷ l) r m = let z = new-name l r m in (suc (z .0), z .1)
+new-name (c-lim ks b ∷ l) r m = let z = new-name l r m in (suc (z .0), z .1)
+new-name (c-grant a b ∷ l) r m = let z = new-name l r m in (suc (z .0), z .1)
+new-name (c-newkey v s a b t ∷ l) r (List·Memᴰ·head e) = (0, List·Memᴰ·head e)
+new-name (c-newkey v s a b t ∷ l) r (List·Memᴰ·tail m) = let z = new-name l r m in (suc (z .0), z .1)
+new-name (c-assoc a b ∷ l) r m = let z = new-name l r m in (suc (z .0), z .1)
+
+pub local-lt : (ds : List Name) (r : ℕ) → localName ds r ≡ true → r < 2 + length ds
+unfolding localName
+local-lt ds r h = name-lt ds r (and-r _ _ (and-l _ _ h))
+
+module _ {J : Job} (j : JobOk J) where
+  pub start-ok : TableOk (length (J .types)) (2 + length (J .names)) (startOf J .entries)
+  unfolding startOf
+  start-ok =
+      table-keys (declared-ok (J .names) (j .types)) (omega arith) (newKeys (J .cmds)) (λ r m. let z = new-name (J .cmds) r m in local-lt (J .names) r (cmds-formed j (z .0) .bound-name r (z .1)))
+
+  -- declared types are where they were
+  pub start-kept : (t : ℕ) → t < length (J .types) → TreeAt (startOf J .entries) (tree (J .types) t) t
+  unfolding startOf
+  start-kept t h =
+      record { is = tree-append (J .names) (j .types) _ t h; low = omega (arith, length-append (J .types) (keyEntries (length (J .types)) (newKeys (J .cmds)))) }
+
+  value-low : (i : ℕ) (h : HostValue ℕ) → getElem? (J .values) i ≡ some h → h .ty < length (J .types)
+  unfolding hostValueOk
+  value-low i h e = ltb-true _ _ (and-l _ _ (built-at _ (j .values) i h e))
+
+  host-typing : (x : ℕ) (A : Ty) → typeIn (hostCtx (sourceOf J)) x ≡ some A → TreeAt (startOf J .entries) A (entryOf (hostVars 0 (J .values)) x)
+  unfolding sourceOf valueOf
+  host-typing x A e = at (host-var (sourceOf J) (typeIn-in (hostCtx (sourceOf J)) x A e))
+    where
+      at : (h : HostValue Ty) × (getElem? (map (valueOf (J .types)) (J .values)) x ≡ some h) × (h .ty ≡ A) → TreeAt (startOf J .entries) A (entryOf (hostVars 0 (J .values)) x)
+      at (h, p, q) =
+          let z = map-at (valueOf (J .types)) (J .values) x h p in
+          let k : entryOf (hostVars 0 (J .values)) x ≡ z .0 .ty = host-at (J .values) 0 x x (z .0) (omega arith) (z .1) in
+          subst⁻¹ (λ i. TreeAt (startOf J .entries) A i) k (subst (λ B. TreeAt (startOf J .entries) B (z .0 .ty)) (ap (λ y. y .ty) (z .2) ∙ q) (start-kept (z .0 .ty) (value-low x (z .0) (z .1))))
+
+  -- the entry of a variable has the variable's type
+  pub var-tree : (x : ℕ) (A : Ty) → varType (sourceOf J) x ≡ some A → TreeAt (startOf J .entries) A (varEntry J x)
+  unfolding varType varEntry startOf sourceOf
+  var-tree x A e =
+      bound-at (J .types) start-ok start-kept x (J .cmds) (length (J .types)) (λ i t m. cmds-formed j i .type-operand t m) (keys-at (J .types) (newKeys (J .cmds)))
+      (hostCtx (sourceOf J)) (hostVars 0 (J .values)) (host-typing x) A e
