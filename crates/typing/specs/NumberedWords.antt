@@ -1,4 +1,4 @@
--- The words of the tables read back: what the type table and its sets hold of a state's entries are those entries.
+-- The words of the tables, read back: what the type table and its sets hold of a state's entries are those entries.
 use mathlib.Core.Path.{_≡_, refl, ap, _∙_}
 use Prim.Native.Nat.{ℕ, zero, suc, _+_, _-_, _*_, _/_, _%_, _≤_, _<_}
 use native.Mathlib.Omega.{arith}
