@@ -12,3 +12,4 @@ pub mod ReadFormed
 pub mod ReadPlaces
 pub mod Scope
 pub mod Context
+pub mod WordLaws

@@ -20,3 +20,4 @@ pub mod NumberedStep
 pub mod NumberedLaws
 pub mod NumberedWords
 pub mod NumberedVerdict
+pub mod EntryLaws

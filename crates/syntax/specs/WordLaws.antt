@@ -1,0 +1,733 @@
+-- The numbers of a job that is read fit its tables, and an expression is read back from its words.
+use mathlib.Core.Path.{_≡_, refl, sym, ap, _∙_, subst, subst⁻¹}
+use Prim.Native.Nat.{ℕ, zero, suc, _+_, _-_, _*_, _/_, _%_, _^_, _≤_, _<_}
+use native.Mathlib.Nat.{pow-succ', one-le-pow}
+use native.Mathlib.Omega.{arith}
+use mathlib.Core.Bool.{Bool, true, false, cond}
+use mathlib.Core.List.{List, [], _∷_, _++_, map, flatMap, List·Memᴰ, List·Memᴰ·head, List·Memᴰ·tail, Memᴰ·append-left, Memᴰ·append-right}
+use mathlib.Core.Option.{Option, none, some, Option·none-ne-some, Option·some-injective}
+use mathlib.Core.Logic.{_⊎_, inl, inr}
+use lib.ListN.{length, length-append, length-take, length-replicate, getD, getD-replicate, getElem?, replicate, take, drop, List·getD-append}
+use lib.Seq.{getD-append-add, getD-drop}
+use lib.Dec.{eqb, ltb, leb}
+use borrow.Author.Tests.{ltb-true}
+use Rattle.order.specs.Bools.{_and_, and-l, and-r}
+use Rattle.order.specs.Sets.{all-of}
+use Rattle.order.specs.SetLaws.{all-of→, lt-bit, bit-mem}
+use Rattle.order.specs.Effects.{Effect}
+use Rattle.order.specs.OrderLaws.{getElem?-lt, getElem?-snoc}
+use Rattle.syntax.specs.Types.{TypeEntry, e-num, e-pair, e-cell, e-fn, e-lim, e-grant}
+use Rattle.syntax.specs.Commands.{Cmd, c-num, c-top, c-var, c-pair, c-part, c-fn, c-app, c-new, c-asg, c-read, c-sum, c-test, c-lim, c-grant, c-newkey, c-assoc}
+use Rattle.syntax.specs.Commands.{Op, o-host, o-local, o-number, o-pair, o-cell, o-function, o-limit, o-grant, o-value, o-rights, o-end, opOf, operands, width, sectionOf, little, fields}
+use Rattle.syntax.specs.Commands.{x-number, x-top, x-variable, x-pair, x-part, x-function, x-apply, x-cell, x-assign, x-read, x-sum, x-test, x-limit, x-grant, x-newkey, x-associate}
+use Rattle.syntax.specs.Operands.{nth, plain, inner, kids, typesOf, usesVar, bindsVar, bindsName}
+use Rattle.syntax.specs.Job.{Name, HostValue, Job}
+use Rattle.syntax.specs.Reading.{Refusal, State, declared, localName, setOk, nameOk, partsOk, typeOk, hostValueOk, rightsOk, cmdOk}
+use Rattle.syntax.specs.Reading.{Written, w-name, w-type, w-value, w-rights, w-cmd, w-end, unwritten, partOf, sumOf, limitOf, written, given, enter, misplaced, full}
+use Rattle.syntax.specs.Reading.{Step, refuse, proceed, finish, settle, command, Read, refused, read, ended, onward, onOp, readFrom, noJob, reading}
+use Rattle.syntax.specs.Words.{nameWord, typeWord, setWord, valueWord, headBits, headWord, filled, slots, nameWords, typeWords, setWords, valueWords, headWords, slotWords, decode, codeIn}
+use Rattle.syntax.specs.ReadLaws.{JobOk, built-at, read-ok}
+use Rattle.syntax.specs.ReadFormed.{nth-at, entry-parts, CmdFormed, cmds-formed}
+
+-- Ranges
+
+-- an expression whose numbers fit its words
+pub data CmdFits : Cmd ℕ → Type 0 where
+  num-fits : {n : ℕ} → n < 4294967296 → CmdFits (c-num n)
+  top-fits : CmdFits c-top
+  var-fits : {v : ℕ} → v < 64 → CmdFits (c-var v)
+  pair-fits : {a b : ℕ} → a < 512 → b < 512 → CmdFits (c-pair a b)
+  part-fits : {a : ℕ} {i : Bool} → a < 512 → CmdFits (c-part a i)
+  fn-fits : {v t b : ℕ} → v < 64 → t < 256 → b < 512 → CmdFits (c-fn v t b)
+  app-fits : {a b : ℕ} → a < 512 → b < 512 → CmdFits (c-app a b)
+  new-fits : {t a : ℕ} → t < 256 → a < 512 → CmdFits (c-new t a)
+  asg-fits : {a b : ℕ} → a < 512 → b < 512 → CmdFits (c-asg a b)
+  read-fits : {a : ℕ} → a < 512 → CmdFits (c-read a)
+  sum-fits : {i : Bool} {a b : ℕ} → a < 512 → b < 512 → CmdFits (c-sum i a b)
+  test-fits : {a b c t : ℕ} → a < 512 → b < 512 → c < 512 → t < 256 → CmdFits (c-test a b c t)
+  lim-fits : {ks : List ℕ} {b : ℕ} → length ks ≤ 4 → ((c : ℕ) → List·Memᴰ c ks → c < 512) → b < 512 → CmdFits (c-lim ks b)
+  grant-fits : {a b : ℕ} → a < 512 → b < 512 → CmdFits (c-grant a b)
+  newkey-fits : {v r a b t : ℕ} → v < 64 → r < 64 → a < 512 → b < 512 → t < 256 → CmdFits (c-newkey v r a b t)
+  assoc-fits : {a b : ℕ} → a < 512 → b < 512 → CmdFits (c-assoc a b)
+
+-- an entry of the type table whose numbers fit its words
+pub data TypeFits : TypeEntry → Type 0 where
+  t-num : {q : ℕ} → q < 64 → TypeFits (e-num q)
+  t-pair : {q a b : ℕ} → q < 64 → a < 256 → b < 256 → TypeFits (e-pair q a b)
+  t-cell : {q a : ℕ} → q < 64 → a < 256 → TypeFits (e-cell q a)
+  t-fn : {q a b : ℕ} {s : Effect} → q < 64 → a < 256 → b < 256 → s < 18446744073709551616 → TypeFits (e-fn q a b s)
+  t-lim : {q r : ℕ} → q < 64 → r < 64 → TypeFits (e-lim q r)
+  t-grant : {q r : ℕ} → q < 64 → r < 64 → TypeFits (e-grant q r)
+
+pub record ValueFits (h : HostValue ℕ) : Type 0 where
+  pub ty : h .ty < 256
+  pub init : h .init < 4294967296
+
+-- a job whose numbers fit its tables
+pub record JobFits (J : Job) : Type 0 where
+  pub upper : (i : ℕ) (d : Name) → getElem? (J .names) i ≡ some d → d .upper < 64
+  pub types : (i : ℕ) (e : TypeEntry) → getElem? (J .types) i ≡ some e → TypeFits e
+  pub values : (i : ℕ) (h : HostValue ℕ) → getElem? (J .values) i ≡ some h → ValueFits h
+  pub rights : J .rights < 18446744073709551616
+  pub cmds : (e : ℕ) → CmdFits (nth (J .cmds) e)
+
+-- Lists filled up
+
+-- a list that is filled up with zeros has the same entries, and 0 past them
+zeros-at : (k i : ℕ) → _≡_ {A = ℕ} (getD (replicate k 0) i 0) 0
+zeros-at zero i = refl
+zeros-at (suc k) zero = refl
+zeros-at (suc k) (suc i) = zeros-at k i
+
+padded-at : (l : List ℕ) (k i : ℕ) → getD (l ++ replicate k 0) i 0 ≡ getD l i 0
+padded-at [] k i = zeros-at k i
+padded-at (x ∷ l) k zero = refl
+padded-at (x ∷ l) k (suc i) = padded-at l k i
+
+pub filled-at : (n : ℕ) (l : List ℕ) (i : ℕ) → getD (filled n 0 l) i 0 ≡ getD l i 0
+unfolding filled
+filled-at n l i = padded-at l (n - length l) i
+
+-- filled up with any number: its own entries, that number past them, and the length that was asked for
+pub filled-in : (n x : ℕ) (l : List ℕ) (i : ℕ) → i < length l → getD (filled n x l) i 0 ≡ getD l i 0
+unfolding filled
+filled-in n x l i h = List·getD-append l (replicate (n - length l) x) 0 i h
+
+pub filled-past : (n x : ℕ) (l : List ℕ) (i : ℕ) → length l ≤ i → i < n → getD (filled n x l) i 0 ≡ x
+unfolding filled
+filled-past n x l i h k =
+    let z : i ≡ length l + (i - length l) = omega arith in
+    ap (λ j. getD (l ++ replicate (n - length l) x) j 0) z ∙ getD-append-add l (replicate (n - length l) x) (i - length l) 0 ∙ getD-replicate (n - length l) (i - length l) x 0 (omega arith)
+
+pub filled-length : (n x : ℕ) (l : List ℕ) → length l ≤ n → length (filled n x l) ≡ n
+unfolding filled
+filled-length n x l h = omega (arith, length-append l (replicate (n - length l) x), length-replicate (n - length l) x)
+
+-- a table of words, filled up with zeros: the word of each entry, and 0 past them
+module _ {A : Type 0} (f : A → ℕ) where
+  map-at : (l : List A) (i : ℕ) (a : A) → getElem? l i ≡ some a → getD (map f l) i 0 ≡ f a
+  map-at [] i a e = absurd (Option·none-ne-some a e)
+  map-at (x ∷ l) zero a e = ap f (Option·some-injective x a e)
+  map-at (x ∷ l) (suc i) a e = map-at l i a e
+
+  map-past : (l : List A) (i : ℕ) → getElem? l i ≡ none → getD (map f l) i 0 ≡ 0
+  map-past [] i e = refl
+  map-past (x ∷ l) zero e = absurd (Option·none-ne-some x (sym e))
+  map-past (x ∷ l) (suc i) e = map-past l i e
+
+  pub word-at : (n : ℕ) (l : List A) (i : ℕ) (a : A) → getElem? l i ≡ some a → getD (filled n 0 (map f l)) i 0 ≡ f a
+  word-at n l i a e = filled-at n (map f l) i ∙ map-at l i a e
+
+  pub word-past : (n : ℕ) (l : List A) (i : ℕ) → getElem? l i ≡ none → getD (filled n 0 (map f l)) i 0 ≡ 0
+  word-past n l i e = filled-at n (map f l) i ∙ map-past l i e
+
+  -- a bound of the words of all entries
+  pub words-lt : (b : ℕ) (l : List A) → 0 < b → ((i : ℕ) (a : A) → getElem? l i ≡ some a → f a < b) → (i : ℕ) → getD (map f l) i 0 < b
+  words-lt b [] h g i = h
+  words-lt b (x ∷ l) h g zero = g 0 x refl
+  words-lt b (x ∷ l) h g (suc i) = words-lt b l h (λ n a e. g (suc n) a e) i
+
+-- Expressions read back
+
+-- the parts of a head
+head-parts : (byte x a b c d e : ℕ) → byte < 256 → x < 4294967296 → decode (headBits byte x % 256) (headBits byte x / 256 % 4294967296) a b c d e ≡ decode byte x a b c d e
+head-parts byte x a b c d e h k =
+    let w : ℕ = headBits byte x in
+    let y : w % 256 ≡ byte = low w (omega arith) in
+    let z : w / 256 % 4294967296 ≡ x = ap (λ n. n % 4294967296) (high w (omega arith)) ∙ small in
+    λ i. decode (y i) (z i) a b c d e
+  where
+    low : (w : ℕ) → w ≡ byte + 256 * x → w % 256 ≡ byte
+    low w e = omega arith
+
+    high : (w : ℕ) → w ≡ byte + 256 * x → w / 256 ≡ x
+    high w e = omega arith
+
+    small : x % 4294967296 ≡ x
+    small = omega arith
+
+low-byte : (r : ℕ) → r < 256 → r % 256 ≡ r
+low-byte r h = omega arith
+
+two-low : (v r : ℕ) → v < 256 → (v + 256 * r) % 256 ≡ v
+two-low v r h = omega arith
+
+two-high : (v r : ℕ) → v < 256 → r < 256 → (v + 256 * r) / 256 % 256 ≡ r
+two-high v r h k = let z : (v + 256 * r) / 256 ≡ r = omega arith in ap (λ n. n % 256) z ∙ low-byte r k
+
+-- an expression is read back from its head and its five places
+pub word-cmd : (k : Cmd ℕ) → CmdFits k
+    → decode (headWord k % 256) (headWord k / 256 % 4294967296) (getD (slots k) 0 0) (getD (slots k) 1 0) (getD (slots k) 2 0) (getD (slots k) 3 0) (getD (slots k) 4 0) ≡ k
+unfolding headWord slots decode filled
+word-cmd (c-num n) (num-fits h) = head-parts 0x30 n 0 0 0 0 0 (omega arith) h
+word-cmd c-top top-fits = head-parts 0x31 0 0 0 0 0 0 (omega arith) (omega arith)
+word-cmd (c-var v) (var-fits h) = head-parts 0x32 v 0 0 0 0 0 (omega arith) (omega arith) ∙ ap c-var (low-byte v (omega arith))
+word-cmd (c-pair a b) (pair-fits h k) = head-parts 0x33 0 a b 0 0 0 (omega arith) (omega arith)
+word-cmd (c-part a true) (part-fits h) = head-parts 0x34 1 a 0 0 0 0 (omega arith) (omega arith)
+word-cmd (c-part a false) (part-fits h) = head-parts 0x34 2 a 0 0 0 0 (omega arith) (omega arith)
+word-cmd (c-fn v t b) (fn-fits h k l) = head-parts 0x35 v b t 0 0 0 (omega arith) (omega arith) ∙ ap (λ n. c-fn n t b) (low-byte v (omega arith))
+word-cmd (c-app a b) (app-fits h k) = head-parts 0x36 0 a b 0 0 0 (omega arith) (omega arith)
+word-cmd (c-new t a) (new-fits h k) = head-parts 0x37 0 a t 0 0 0 (omega arith) (omega arith)
+word-cmd (c-asg a b) (asg-fits h k) = head-parts 0x38 0 a b 0 0 0 (omega arith) (omega arith)
+word-cmd (c-read a) (read-fits h) = head-parts 0x39 0 a 0 0 0 0 (omega arith) (omega arith)
+word-cmd (c-sum true a b) (sum-fits h k) = head-parts 0x3A 0 a b 0 0 0 (omega arith) (omega arith)
+word-cmd (c-sum false a b) (sum-fits h k) = head-parts 0x3A 1 a b 0 0 0 (omega arith) (omega arith)
+word-cmd (c-test a b c t) (test-fits h k l m) = head-parts 0x3B 0 a b c t 0 (omega arith) (omega arith)
+word-cmd (c-lim [] b) (lim-fits h k l) = head-parts 0x3C 0 0xFFFF 0xFFFF 0xFFFF 0xFFFF b (omega arith) (omega arith)
+word-cmd (c-lim (x ∷ []) b) (lim-fits h k l) = head-parts 0x3C 1 x 0xFFFF 0xFFFF 0xFFFF b (omega arith) (omega arith)
+word-cmd (c-lim (x ∷ y ∷ []) b) (lim-fits h k l) = head-parts 0x3C 2 x y 0xFFFF 0xFFFF b (omega arith) (omega arith)
+word-cmd (c-lim (x ∷ y ∷ z ∷ []) b) (lim-fits h k l) = head-parts 0x3C 3 x y z 0xFFFF b (omega arith) (omega arith)
+word-cmd (c-lim (x ∷ y ∷ z ∷ w ∷ []) b) (lim-fits h k l) = head-parts 0x3C 4 x y z w b (omega arith) (omega arith)
+word-cmd (c-lim (x ∷ y ∷ z ∷ w ∷ u ∷ ks) b) (lim-fits h k l) = absurd (omega arith)
+word-cmd (c-grant a b) (grant-fits h k) = head-parts 0x3D 0 a b 0 0 0 (omega arith) (omega arith)
+word-cmd (c-newkey v r a b t) (newkey-fits h k l m o) =
+    head-parts 0x3E (v + 256 * r) a b t 0 0 (omega arith) (omega arith) ∙ (λ i. c-newkey (two-low v r (omega arith) i) (two-high v r (omega arith) (omega arith) i) a b t)
+word-cmd (c-assoc a b) (assoc-fits h k) = head-parts 0x3F 0 a b 0 0 0 (omega arith) (omega arith)
+
+-- from any tables that hold its words
+pub decode-back : (heads places : List ℕ) (e : ℕ) (k : Cmd ℕ) → CmdFits k → getD heads e 0 ≡ headWord k → ((i : ℕ) → i < 5 → getD places (e * 5 + i) 0 ≡ getD (slots k) i 0)
+    → codeIn heads places e ≡ k
+unfolding codeIn
+decode-back heads places e k f h p =
+    let z : e * 5 ≡ e * 5 + 0 = omega arith in
+    let a = ap (λ i. getD places i 0) z ∙ p 0 (omega arith) in
+    (λ i. decode (h i % 256) (h i / 256 % 4294967296) (a i) (p 1 (omega arith) i) (p 2 (omega arith) i) (p 3 (omega arith) i) (p 4 (omega arith) i)) ∙ word-cmd k f
+
+-- a head that is 0 stands for the number 0
+pub decode-past : (heads places : List ℕ) (e : ℕ) → getD heads e 0 ≡ 0 → codeIn heads places e ≡ c-num 0
+unfolding codeIn decode
+decode-past heads places e h =
+    λ i. decode (h i % 256) (h i / 256 % 4294967296) (getD places (e * 5) 0) (getD places (e * 5 + 1) 0) (getD places (e * 5 + 2) 0) (getD places (e * 5 + 3) 0) (getD places (e * 5 + 4) 0)
+
+-- each expression has five places
+pub slots-length : (k : Cmd ℕ) → CmdFits k → length (slots k) ≡ 5
+unfolding slots filled
+slots-length (c-num n) f = refl
+slots-length c-top f = refl
+slots-length (c-var v) f = refl
+slots-length (c-pair a b) f = refl
+slots-length (c-part a i) f = refl
+slots-length (c-fn v t b) f = refl
+slots-length (c-app a b) f = refl
+slots-length (c-new t a) f = refl
+slots-length (c-asg a b) f = refl
+slots-length (c-read a) f = refl
+slots-length (c-sum i a b) f = refl
+slots-length (c-test a b c t) f = refl
+slots-length (c-lim [] b) f = refl
+slots-length (c-lim (x ∷ []) b) f = refl
+slots-length (c-lim (x ∷ y ∷ []) b) f = refl
+slots-length (c-lim (x ∷ y ∷ z ∷ []) b) f = refl
+slots-length (c-lim (x ∷ y ∷ z ∷ w ∷ []) b) f = refl
+slots-length (c-lim (x ∷ y ∷ z ∷ w ∷ u ∷ ks) b) (lim-fits h k l) = absurd (omega arith)
+slots-length (c-grant a b) f = refl
+slots-length (c-newkey v r a b t) f = refl
+slots-length (c-assoc a b) f = refl
+
+-- the places of expression e; past the end zeros, as of the number 0
+pub slots-at : (l : List (Cmd ℕ)) → ((e : ℕ) → CmdFits (nth l e)) → (e i : ℕ) → i < 5 → getD (flatMap slots l) (e * 5 + i) 0 ≡ getD (slots (nth l e)) i 0
+unfolding flatMap nth
+slots-at [] f e i h = sym (unfold slots filled in zeros-at 5 i)
+slots-at (k ∷ l) f zero i h =
+    let z : zero * 5 + i ≡ i = omega arith in
+    ap (λ n. getD (slots k ++ flatMap slots l) n 0) z ∙ List·getD-append (slots k) (flatMap slots l) 0 i (omega (arith, slots-length k (f 0)))
+slots-at (k ∷ l) f (suc e) i h =
+    let z : suc e * 5 + i ≡ length (slots k) + (e * 5 + i) = omega (arith, slots-length k (f 0)) in
+    ap (λ n. getD (slots k ++ flatMap slots l) n 0) z ∙ getD-append-add (slots k) (flatMap slots l) (e * 5 + i) 0 ∙ slots-at l (λ x. f (suc x)) e i h
+
+-- the head of expression e, and past the end 0
+pub heads-at : (l : List (Cmd ℕ)) (e : ℕ) → (getD (map headWord l) e 0 ≡ headWord (nth l e)) ⊎ ((getD (map headWord l) e 0 ≡ 0) × (nth l e ≡ c-num 0))
+unfolding nth
+heads-at [] e = inr (refl, refl)
+heads-at (k ∷ l) zero = inl refl
+heads-at (k ∷ l) (suc e) = heads-at l e
+
+-- the expressions of a job, from the tables that hold them, filled up with zeros to any length
+pub code-back : (J : Job) → JobOk J → JobFits J → (n m e : ℕ) → codeIn (filled n 0 (headWords J)) (filled m 0 (slotWords J)) e ≡ nth (J .cmds) e
+code-back J j f n m e = at (heads-at (J .cmds) e)
+  where
+    place : (i : ℕ) → i < 5 → getD (filled m 0 (slotWords J)) (e * 5 + i) 0 ≡ getD (slots (nth (J .cmds) e)) i 0
+    place i h = filled-at m (slotWords J) (e * 5 + i) ∙ slots-at (J .cmds) (f .cmds) e i h
+
+    at : (getD (headWords J) e 0 ≡ headWord (nth (J .cmds) e)) ⊎ ((getD (headWords J) e 0 ≡ 0) × (nth (J .cmds) e ≡ c-num 0))
+        → codeIn (filled n 0 (headWords J)) (filled m 0 (slotWords J)) e ≡ nth (J .cmds) e
+    at (inl z) = decode-back _ _ e _ (f .cmds e) (filled-at n (headWords J) e ∙ z) place
+    at (inr z) = decode-past _ _ e (filled-at n (headWords J) e ∙ z .0) ∙ sym (z .1)
+
+-- Bytes
+
+-- every element of a list is a byte
+abbrev pub Bytes : List ℕ → Type 0
+Bytes s = (i : ℕ) → getD s i 0 < 256
+
+pub bytes-take : (n : ℕ) (s : List ℕ) → Bytes s → Bytes (take n s)
+bytes-take zero s h i = omega arith
+bytes-take (suc n) [] h i = omega arith
+bytes-take (suc n) (b ∷ s) h zero = h 0
+bytes-take (suc n) (b ∷ s) h (suc i) = bytes-take n s (λ k. h (suc k)) i
+
+pub bytes-drop : (n : ℕ) (s : List ℕ) → Bytes s → Bytes (drop n s)
+bytes-drop n s h i = omega (arith, getD-drop n s i 0, h (n + i))
+
+-- an operand of k bytes
+pub little-lt : (k : ℕ) (s : List ℕ) → Bytes s → little (take k s) < 256 ^ k
+unfolding little
+little-lt zero s h = omega arith
+little-lt (suc k) [] h = omega (arith, one-le-pow (suc k) 256 (omega arith))
+little-lt (suc k) (b ∷ s) h = omega (arith, pow-succ' 256 k, h 0, little-lt k s (λ i. h (suc i)))
+
+-- Reading
+
+-- the number that 30 writes, and how many keys 3C has
+unfoldable literal : Cmd ℕ → ℕ
+literal (c-num n) = n
+literal c-top = 0
+literal (c-var v) = 0
+literal (c-pair a b) = 0
+literal (c-part a i) = 0
+literal (c-fn v t b) = 0
+literal (c-app a b) = 0
+literal (c-new t a) = 0
+literal (c-asg a b) = 0
+literal (c-read a) = 0
+literal (c-sum i a b) = 0
+literal (c-test a b c t) = 0
+literal (c-lim ks b) = 0
+literal (c-grant a b) = 0
+literal (c-newkey v r a b t) = 0
+literal (c-assoc a b) = 0
+
+unfoldable keyCount : Cmd ℕ → ℕ
+keyCount (c-num n) = 0
+keyCount c-top = 0
+keyCount (c-var v) = 0
+keyCount (c-pair a b) = 0
+keyCount (c-part a i) = 0
+keyCount (c-fn v t b) = 0
+keyCount (c-app a b) = 0
+keyCount (c-new t a) = 0
+keyCount (c-asg a b) = 0
+keyCount (c-read a) = 0
+keyCount (c-sum i a b) = 0
+keyCount (c-test a b c t) = 0
+keyCount (c-lim ks b) = length ks
+keyCount (c-grant a b) = 0
+keyCount (c-newkey v r a b t) = 0
+keyCount (c-assoc a b) = 0
+
+-- what the widths of operands bound
+record Narrow (k : Cmd ℕ) : Type 0 where
+  pub number : literal k < 4294967296
+  pub few-keys : keyCount k ≤ 4
+
+record Slim (J : Job) : Type 0 where
+  pub values : (i : ℕ) (h : HostValue ℕ) → getElem? (J .values) i ≡ some h → h .init < 4294967296
+  pub cmds : (i : ℕ) (k : Cmd ℕ) → getElem? (J .cmds) i ≡ some k → Narrow k
+
+data Thin : Written → Type 0 where
+  thin-name : (d : Name) → Thin (w-name d)
+  thin-type : (e : TypeEntry) → Thin (w-type e)
+  thin-value : (h : HostValue ℕ) → h .init < 4294967296 → Thin (w-value h)
+  thin-rights : (s : Effect) → Thin (w-rights s)
+  thin-cmd : (k : Cmd ℕ) → Narrow k → Thin (w-cmd k)
+  thin-end : Thin w-end
+  thin-none : Thin unwritten
+
+if-thin : (b : Bool) (k : Cmd ℕ) {w : Written} → Narrow k → Thin w → Thin (cond b (w-cmd k) w)
+if-thin true k n w = thin-cmd k n
+if-thin false k n w = w
+
+thin-part : (a i : ℕ) → Thin (partOf a i)
+unfolding partOf literal keyCount
+thin-part a i =
+    if-thin (eqb i 1) (c-part a true) (record { number = omega arith; few-keys = omega arith })
+    (if-thin (eqb i 2) (c-part a false) (record { number = omega arith; few-keys = omega arith }) thin-none)
+
+thin-sum : (i a b : ℕ) → Thin (sumOf i a b)
+unfolding sumOf literal keyCount
+thin-sum i a b =
+    if-thin (eqb i 0) (c-sum true a b) (record { number = omega arith; few-keys = omega arith })
+    (if-thin (eqb i 1) (c-sum false a b) (record { number = omega arith; few-keys = omega arith }) thin-none)
+
+thin-limit : (c : ℕ) (l : List ℕ) (b : ℕ) → Thin (limitOf c (take 4 l) b)
+unfolding limitOf literal keyCount
+thin-limit c l b =
+    if-thin (leb c 4 and all-of (λ e. eqb e 0xFFFF) (drop c (take 4 l))) (c-lim (take c (take 4 l)) b)
+    (record { number = omega arith; few-keys = omega (arith, length-take c (take 4 l), length-take 4 l) }) thin-none
+
+-- neither a number nor keys
+thin-plain : (k : Cmd ℕ) → literal k ≡ 0 → keyCount k ≡ 0 → Thin (w-cmd k)
+thin-plain k a b = thin-cmd k (record { number = omega arith; few-keys = omega arith })
+
+thin-op : (op : Op) (s : List ℕ) → Bytes s → Thin (written op (fields (operands op) s))
+unfolding written fields operands literal keyCount
+thin-op o-host s h = thin-name _
+thin-op o-local s h = thin-name _
+thin-op o-number s h = thin-type _
+thin-op o-pair s h = thin-type _
+thin-op o-cell s h = thin-type _
+thin-op o-function s h = thin-type _
+thin-op o-limit s h = thin-type _
+thin-op o-grant s h = thin-type _
+thin-op o-value s h = thin-value _ (little-lt 4 (drop 2 s) (bytes-drop 2 s h))
+thin-op o-rights s h = thin-rights _
+thin-op x-number s h = thin-cmd (c-num (little (take 4 s))) (record { number = little-lt 4 s h; few-keys = omega arith })
+thin-op x-top s h = thin-plain _ refl refl
+thin-op x-variable s h = thin-plain _ refl refl
+thin-op x-pair s h = thin-plain _ refl refl
+thin-op x-part s h = thin-part _ _
+thin-op x-function s h = thin-plain _ refl refl
+thin-op x-apply s h = thin-plain _ refl refl
+thin-op x-cell s h = thin-plain _ refl refl
+thin-op x-assign s h = thin-plain _ refl refl
+thin-op x-read s h = thin-plain _ refl refl
+thin-op x-sum s h = thin-sum _ _ _
+thin-op x-test s h = thin-plain _ refl refl
+thin-op x-limit s h = let o = fields (operands x-limit) s in thin-limit (getD o 0 0) (drop 1 o) (getD o 5 0)
+thin-op x-grant s h = thin-plain _ refl refl
+thin-op x-newkey s h = thin-plain _ refl refl
+thin-op x-associate s h = thin-plain _ refl refl
+thin-op o-end s h = thin-end
+
+-- what one command comes to, what reading comes to
+data SlimStep : Step → Type 0 where
+  slim-refuse : (n : ℕ) → SlimStep (refuse n)
+  slim-proceed : (st : State) → Slim (st .job) → SlimStep (proceed st)
+  slim-finish : (J : Job) → Slim J → SlimStep (finish J)
+
+data SlimRead : Read → Type 0 where
+  slim-refused : (r : Refusal) → SlimRead (refused r)
+  slim-read : (J : Job) → Slim J → SlimRead (read J)
+
+slim-settle : (sec : ℕ) (J : Job) → Slim J → (b : Bool) → SlimStep (settle sec (given b J))
+unfolding settle given
+slim-settle sec J i false = slim-refuse 6
+slim-settle sec J i true = at (eqb sec 5)
+  where
+    at : (c : Bool) → SlimStep (cond c (finish J) (proceed (record { section = sec; job = J })))
+    at true = slim-finish J i
+    at false = slim-proceed (record { section = sec; job = J }) i
+
+slim-enter : (sec : ℕ) (w : Written) → Thin w → (J : Job) → Slim J → SlimStep (settle sec (enter w J))
+unfolding enter settle given
+slim-enter sec w (thin-name d) J i = slim-settle sec _ (record { values = i .values; cmds = i .cmds }) (nameOk (J .names) d)
+slim-enter sec w (thin-type e) J i = slim-settle sec _ (record { values = i .values; cmds = i .cmds }) (typeOk (J .names) (J .types) e)
+slim-enter sec w (thin-value h l) J i = slim-settle sec _ (record { values = λ n x e. at n x (getElem?-snoc (J .values) h n x e); cmds = i .cmds }) (hostValueOk (J .names) (J .types) h)
+  where
+    at : (n : ℕ) (x : HostValue ℕ) → (getElem? (J .values) n ≡ some x) ⊎ ((n ≡ length (J .values)) × (h ≡ x)) → x .init < 4294967296
+    at n x (inl z) = i .values n x z
+    at n x (inr z) = subst (λ (v : HostValue ℕ). v .init < 4294967296) (z .1) l
+slim-enter sec w (thin-rights s) J i = slim-settle sec _ (record { values = i .values; cmds = i .cmds }) (rightsOk (J .names) s)
+slim-enter sec w (thin-cmd k l) J i = slim-settle sec _ (record { values = i .values; cmds = λ n x e. at n x (getElem?-snoc (J .cmds) k n x e) }) (cmdOk J k)
+  where
+    at : (n : ℕ) (x : Cmd ℕ) → (getElem? (J .cmds) n ≡ some x) ⊎ ((n ≡ length (J .cmds)) × (k ≡ x)) → Narrow x
+    at n x (inl z) = i .cmds n x z
+    at n x (inr z) = subst (λ v. Narrow v) (z .1) l
+slim-enter sec w thin-end J i = slim-settle sec J i true
+slim-enter sec w thin-none J i = slim-refuse 6
+
+slim-command : (op : Op) (s : List ℕ) → Bytes s → (st : State) → Slim (st .job) → SlimStep (command op s st)
+unfolding command
+slim-command op s h st i = at (misplaced st (sectionOf op)) (ltb (length s) (width op)) (full (st .job) (sectionOf op))
+  where
+    at : (a b c : Bool) → SlimStep (cond a (refuse 3) (cond b (refuse 4) (cond c (refuse 5) (settle (sectionOf op) (enter (written op (fields (operands op) s)) (st .job))))))
+    at true b c = slim-refuse 3
+    at false true c = slim-refuse 4
+    at false false true = slim-refuse 5
+    at false false false = slim-enter (sectionOf op) (written op (fields (operands op) s)) (thin-op op s h) (st .job) i
+
+slim-onward : (t : Step) → SlimStep t → (pos : ℕ) (s : List ℕ) (next : State → Read) → ((st : State) → Slim (st .job) → SlimRead (next st)) → SlimRead (onward t pos s next)
+unfolding onward ended
+slim-onward t (slim-refuse n) pos s next f = slim-refused _
+slim-onward t (slim-proceed st i) pos s next f = f st i
+slim-onward t (slim-finish J i) pos [] next f = slim-read J i
+slim-onward t (slim-finish J i) pos (b ∷ s) next f = slim-refused _
+
+slim-from : (f pos : ℕ) (st : State) (s : List ℕ) → Bytes s → Slim (st .job) → SlimRead (readFrom f pos st s)
+unfolding readFrom onOp
+slim-from zero pos st s h i = slim-refused _
+slim-from (suc f) pos st [] h i = slim-refused _
+slim-from (suc f) pos st (b ∷ s) h i = at (opOf b) (λ op next j. slim-from f (pos + 1 + width op) next (drop (width op) s) (bytes-drop (width op) s rest) j)
+  where
+    rest : Bytes s
+    rest k = h (suc k)
+
+    at : (o : Option Op) → ((op : Op) (next : State) → Slim (next .job) → SlimRead (readFrom f (pos + 1 + width op) next (drop (width op) s)))
+        → SlimRead (onOp o pos (λ op. onward (command op s st) pos s (λ next. readFrom f (pos + 1 + width op) next (drop (width op) s))))
+    at none g = slim-refused _
+    at (some op) g = slim-onward (command op s st) (slim-command op s rest st i) pos s (λ next. readFrom f (pos + 1 + width op) next (drop (width op) s)) (λ next j. g op next j)
+
+slim-done : {r : Read} → SlimRead r → (J : Job) → r ≡ read J → Slim J
+slim-done (slim-refused q) J e = absurd (let z : _≡_ {A = ℕ} 0 1 = cc in omega arith)
+slim-done (slim-read K i) J e = let z : K ≡ J = cc in subst (λ j. Slim j) z i
+
+read-slim : (s : List ℕ) (J : Job) → Bytes s → reading s ≡ read J → Slim J
+unfolding reading
+read-slim s J h e = slim-done (slim-from (suc (length s)) 0 (record { section = 0; job = noJob }) s h start) J e
+  where
+    start : Slim noJob
+    start = record { values = λ i x z. absurd (Option·none-ne-some x z); cmds = λ i x z. absurd (Option·none-ne-some x z) }
+
+-- The ranges of a job that is read
+
+-- a set of declared names
+set-lt : (ds : List Name) (s : Effect) → 2 + length ds ≤ 64 → setOk ds s ≡ true → s < 18446744073709551616
+unfolding setOk declared
+set-lt ds s h e = lt-bit 64 s (λ i b. omega (arith, ltb-true i (2 + length ds) (all-of→ (λ q. ltb q (2 + length ds)) (and-l _ _ e) (bit-mem s b))))
+
+name-lt : (ds : List Name) (q : ℕ) → 2 + length ds ≤ 64 → declared ds q ≡ true → q < 64
+unfolding declared
+name-lt ds q h e = omega (arith, ltb-true q (2 + length ds) e)
+
+part-lt : (a n : ℕ) → n < 256 → ltb a n ≡ true → a < 256
+part-lt a n h e = omega (arith, ltb-true a n e)
+
+type-fits : (ds : List Name) (n : ℕ) (x : TypeEntry) → 2 + length ds ≤ 64 → n < 256 → partsOk ds n x ≡ true → TypeFits x
+unfolding partsOk
+type-fits ds n (e-num q) h k e = t-num (name-lt ds q h e)
+type-fits ds n (e-pair q a b) h k e = t-pair (name-lt ds q h (and-l _ _ (and-l _ _ e))) (part-lt a n k (and-r _ _ (and-l _ _ e))) (part-lt b n k (and-r _ _ e))
+type-fits ds n (e-cell q a) h k e = t-cell (name-lt ds q h (and-l _ _ e)) (part-lt a n k (and-r _ _ e))
+type-fits ds n (e-fn q a b s) h k e =
+    let l = and-l _ _ e in t-fn (name-lt ds q h (and-l _ _ (and-l _ _ l))) (part-lt a n k (and-r _ _ (and-l _ _ l))) (part-lt b n k (and-r _ _ l)) (set-lt ds s h (and-r _ _ e))
+type-fits ds n (e-lim q r) h k e = t-lim (name-lt ds q h (and-l _ _ (and-l _ _ e))) (name-lt ds r h (and-r _ _ (and-l _ _ e)))
+type-fits ds n (e-grant q r) h k e = t-grant (name-lt ds q h (and-l _ _ (and-l _ _ e))) (name-lt ds r h (and-r _ _ (and-l _ _ e)))
+
+first : {a : ℕ} {l : List ℕ} → List·Memᴰ a (a ∷ l)
+first = List·Memᴰ·head refl
+
+second : {a b : ℕ} {l : List ℕ} → List·Memᴰ b (a ∷ b ∷ l)
+second = List·Memᴰ·tail first
+
+third : {a b c : ℕ} {l : List ℕ} → List·Memᴰ c (a ∷ b ∷ c ∷ l)
+third = List·Memᴰ·tail second
+
+cmd-fits : {ds : List Name} {types values e : ℕ} (k : Cmd ℕ) → CmdFormed ds types values e k → 2 + length ds ≤ 64 → types ≤ 256 → e ≤ 512 → literal k < 4294967296 → keyCount k ≤ 4 → CmdFits k
+unfolding kids plain inner typesOf usesVar bindsVar bindsName literal keyCount localName
+cmd-fits {ds} {types} {values} {e} k w d t n x y = at k (λ c m. operand c (w .operand c m)) (λ c m. ofType c (w .type-operand c m)) (w .used-variable) (λ v m. w .bound-variable v m .1) (λ r m. ofName r (w .bound-name r m)) x y
+  where
+    operand : (c : ℕ) → c < e → c < 512
+    operand c h = omega arith
+
+    ofType : (c : ℕ) → c < types → c < 256
+    ofType c h = omega arith
+
+    ofName : (r : ℕ) → localName ds r ≡ true → r < 64
+    ofName r h = name-lt ds r d (and-r _ _ (and-l _ _ h))
+
+    at : (k : Cmd ℕ) → ((c : ℕ) → List·Memᴰ c (kids k) → c < 512) → ((c : ℕ) → List·Memᴰ c (typesOf k) → c < 256) → ((v : ℕ) → List·Memᴰ v (usesVar k) → v < 64)
+        → ((v : ℕ) → List·Memᴰ v (bindsVar k) → v < 64) → ((r : ℕ) → List·Memᴰ r (bindsName k) → r < 64) → literal k < 4294967296 → keyCount k ≤ 4 → CmdFits k
+    at (c-num n) o p u b r x y = num-fits x
+    at c-top o p u b r x y = top-fits
+    at (c-var v) o p u b r x y = var-fits (u v first)
+    at (c-pair a c) o p u b r x y = pair-fits (o a first) (o c second)
+    at (c-part a i) o p u b r x y = part-fits (o a first)
+    at (c-fn v t c) o p u b r x y = fn-fits (b v first) (p t first) (o c first)
+    at (c-app a c) o p u b r x y = app-fits (o a first) (o c second)
+    at (c-new t a) o p u b r x y = new-fits (p t first) (o a first)
+    at (c-asg a c) o p u b r x y = asg-fits (o a first) (o c second)
+    at (c-read a) o p u b r x y = read-fits (o a first)
+    at (c-sum i a c) o p u b r x y = sum-fits (o a first) (o c second)
+    at (c-test a c d t) o p u b r x y = test-fits (o a first) (o c second) (o d third) (p t first)
+    at (c-lim ks c) o p u b r x y =
+        lim-fits y (λ k m. o k (Memᴰ·append-left [] (Memᴰ·append-left (c ∷ []) m))) (o c (Memᴰ·append-left [] (Memᴰ·append-right ks first)))
+    at (c-grant a c) o p u b r x y = grant-fits (o a first) (o c second)
+    at (c-newkey v n a c t) o p u b r x y = newkey-fits (b v first) (r n first) (o a first) (o c second) (p t first)
+    at (c-assoc a c) o p u b r x y = assoc-fits (o a first) (o c second)
+
+-- a job that is read from bytes
+pub job-fits : (s : List ℕ) (J : Job) → Bytes s → reading s ≡ read J → JobFits J
+unfolding nameOk hostValueOk rightsOk
+job-fits s J b r =
+    record {
+      upper = λ i d e. omega (arith, j .few-names, length-take i (J .names), upper-lt (take i (J .names)) (d .upper) (and-r _ _ (and-l _ _ (built-at _ (j .names) i d e))));
+      types = λ i x e. type-fits (J .names) i x (j .few-names) (omega (arith, j .few-types, getElem?-lt (J .types) i x e)) (entry-parts (J .names) (j .types) i x e);
+      values = λ i h e. record { ty = part-le (h .ty) (length (J .types)) (j .few-types) (and-l _ _ (built-at _ (j .values) i h e)); init = t .values i h e };
+      rights = set-lt (J .names) (J .rights) (j .few-names) (and-l _ _ (j .rights));
+      cmds = λ e. at e (nth-at (J .cmds) e);
+    }
+  where
+    j : JobOk J
+    j = read-ok s J r
+
+    t : Slim J
+    t = read-slim s J b r
+
+    upper-lt : (ds : List Name) (q : ℕ) → declared ds q ≡ true → q < 2 + length ds
+    upper-lt ds q e = unfold declared in ltb-true q (2 + length ds) e
+
+    part-le : (a n : ℕ) → n ≤ 256 → ltb a n ≡ true → a < 256
+    part-le a n h e = omega (arith, ltb-true a n e)
+
+    at : (e : ℕ) → (getElem? (J .cmds) e ≡ some (nth (J .cmds) e)) ⊎ (nth (J .cmds) e ≡ c-num 0) → CmdFits (nth (J .cmds) e)
+    at e (inl z) =
+        let n = t .cmds e (nth (J .cmds) e) z in
+        cmd-fits (nth (J .cmds) e) (cmds-formed j e) (j .few-names) (j .few-types) (omega (arith, j .few-cmds, getElem?-lt (J .cmds) e _ z)) (n .number) (n .few-keys)
+    at e (inr z) = subst⁻¹ (λ k. CmdFits k) z (num-fits (omega arith))
+
+-- The words themselves
+
+-- a name's upper name and whose it is
+pub name-back : (d : Name) → d .upper < 64 → (nameWord d % 256 ≡ d .upper) × (nameWord d / 256 ≡ cond (d .host) 1 2)
+unfolding nameWord
+name-back d h = at (d .upper) (cond (d .host) 1 2) h
+  where
+    at : (u k : ℕ) → u < 64 → ((u + 256 * k) % 256 ≡ u) × ((u + 256 * k) / 256 ≡ k)
+    at u k h = (omega arith, omega arith)
+
+-- a host value's type and starting number
+pub value-back : (h : HostValue ℕ) → ValueFits h → (valueWord h / 256 % 65536 ≡ h .ty) × (valueWord h / 16777216 % 4294967296 ≡ h .init)
+unfolding valueWord
+value-back h f = at (h .ty) (h .init) (f .ty) (f .init)
+  where
+    at : (t n : ℕ) → t < 256 → n < 4294967296 → ((0x20 + 256 * t + 16777216 * n) / 256 % 65536 ≡ t) × ((0x20 + 256 * t + 16777216 * n) / 16777216 % 4294967296 ≡ n)
+    at t n a b =
+        let x : (0x20 + 256 * t + 16777216 * n) / 256 ≡ t + 65536 * n = omega arith in
+        let y : (t + 65536 * n) % 65536 ≡ t = omega arith in
+        let z : (0x20 + 256 * t + 16777216 * n) / 16777216 ≡ n = omega arith in
+        let w : n % 4294967296 ≡ n = omega arith in
+        (ap (λ k. k % 65536) x ∙ y, ap (λ k. k % 4294967296) z ∙ w)
+
+pub value-lt : (h : HostValue ℕ) → ValueFits h → valueWord h < 18446744073709551616
+unfolding valueWord
+value-lt h f = omega (arith, f .ty, f .init)
+
+pub name-word-lt : (d : Name) → d .upper < 64 → nameWord d < 65536
+unfolding nameWord
+name-word-lt d h = at (d .host)
+  where
+    at : (b : Bool) → d .upper + 256 * cond b 1 2 < 65536
+    at true = omega arith
+    at false = omega arith
+
+pub type-lt : (x : TypeEntry) → TypeFits x → typeWord x < 18446744073709551616
+unfolding typeWord
+type-lt (e-num q) (t-num h) = omega arith
+type-lt (e-pair q a b) (t-pair h k l) = omega arith
+type-lt (e-cell q a) (t-cell h k) = omega arith
+type-lt (e-fn q a b s) (t-fn h k l m) = omega arith
+type-lt (e-lim q r) (t-lim h k) = omega arith
+type-lt (e-grant q r) (t-grant h k) = omega arith
+
+pub set-word-lt : (x : TypeEntry) → TypeFits x → setWord x < 18446744073709551616
+unfolding setWord
+set-word-lt (e-num q) f = omega arith
+set-word-lt (e-pair q a b) f = omega arith
+set-word-lt (e-cell q a) f = omega arith
+set-word-lt (e-fn q a b s) (t-fn h k l m) = m
+set-word-lt (e-lim q r) f = omega arith
+set-word-lt (e-grant q r) f = omega arith
+
+pub head-lt : (k : Cmd ℕ) → CmdFits k → headWord k < 18446744073709551616
+unfolding headWord
+head-lt (c-num n) (num-fits h) = omega arith
+head-lt c-top f = omega arith
+head-lt (c-var v) (var-fits h) = omega arith
+head-lt (c-pair a b) f = omega arith
+head-lt (c-part a true) f = omega arith
+head-lt (c-part a false) f = omega arith
+head-lt (c-fn v t b) (fn-fits h k l) = omega arith
+head-lt (c-app a b) f = omega arith
+head-lt (c-new t a) f = omega arith
+head-lt (c-asg a b) f = omega arith
+head-lt (c-read a) f = omega arith
+head-lt (c-sum true a b) f = omega arith
+head-lt (c-sum false a b) f = omega arith
+head-lt (c-test a b c t) f = omega arith
+head-lt (c-lim ks b) (lim-fits h k l) = omega arith
+head-lt (c-grant a b) f = omega arith
+head-lt (c-newkey v r a b t) (newkey-fits h k l m o) = omega arith
+head-lt (c-assoc a b) f = omega arith
+
+-- a list of numbers of two bytes
+data Small : List ℕ → Type 0 where
+  none-small : Small []
+  more-small : {a : ℕ} {l : List ℕ} → a < 65536 → Small l → Small (a ∷ l)
+
+small-at : {l : List ℕ} → Small l → (i : ℕ) → getD l i 0 < 65536
+small-at none-small i = omega arith
+small-at (more-small h s) zero = h
+small-at (more-small h s) (suc i) = small-at s i
+
+small-same : (k x : ℕ) → x < 65536 → Small (replicate k x)
+small-same zero x h = none-small
+small-same (suc k) x h = more-small h (small-same k x h)
+
+small-append : {l m : List ℕ} → Small l → Small m → Small (l ++ m)
+small-append none-small t = t
+small-append (more-small h s) t = more-small h (small-append s t)
+
+small-mem : (l : List ℕ) → ((c : ℕ) → List·Memᴰ c l → c < 512) → Small l
+small-mem [] f = none-small
+small-mem (x ∷ l) f = let h : x < 65536 = omega (arith, f x first) in more-small h (small-mem l (λ c m. f c (List·Memᴰ·tail m)))
+
+small-filled : (n x : ℕ) {l : List ℕ} → x < 65536 → Small l → Small (filled n x l)
+unfolding filled
+small-filled n x {l} h s = small-append s (small-same (n - length l) x h)
+
+small-zeros : {l : List ℕ} → Small l → Small (filled 5 0 l)
+small-zeros s = small-filled 5 0 (omega arith) s
+
+small-slots : (k : Cmd ℕ) → CmdFits k → Small (slots k)
+unfolding slots
+small-slots (c-num n) f = small-zeros none-small
+small-slots c-top f = small-zeros none-small
+small-slots (c-var v) f = small-zeros none-small
+small-slots (c-pair a b) (pair-fits h k) = small-zeros (more-small (omega arith) (more-small (omega arith) none-small))
+small-slots (c-part a i) (part-fits h) = small-zeros (more-small (omega arith) none-small)
+small-slots (c-fn v t b) (fn-fits h k l) = small-zeros (more-small (omega arith) (more-small (omega arith) none-small))
+small-slots (c-app a b) (app-fits h k) = small-zeros (more-small (omega arith) (more-small (omega arith) none-small))
+small-slots (c-new t a) (new-fits h k) = small-zeros (more-small (omega arith) (more-small (omega arith) none-small))
+small-slots (c-asg a b) (asg-fits h k) = small-zeros (more-small (omega arith) (more-small (omega arith) none-small))
+small-slots (c-read a) (read-fits h) = small-zeros (more-small (omega arith) none-small)
+small-slots (c-sum i a b) (sum-fits h k) = small-zeros (more-small (omega arith) (more-small (omega arith) none-small))
+small-slots (c-test a b c t) (test-fits h k l m) = small-zeros (more-small (omega arith) (more-small (omega arith) (more-small (omega arith) (more-small (omega arith) none-small))))
+small-slots (c-lim ks b) (lim-fits h k l) = small-append (small-filled 4 0xFFFF (omega arith) (small-mem ks k)) (more-small (omega arith) none-small)
+small-slots (c-grant a b) (grant-fits h k) = small-zeros (more-small (omega arith) (more-small (omega arith) none-small))
+small-slots (c-newkey v r a b t) (newkey-fits h k l m o) = small-zeros (more-small (omega arith) (more-small (omega arith) (more-small (omega arith) none-small)))
+small-slots (c-assoc a b) (assoc-fits h k) = small-zeros (more-small (omega arith) (more-small (omega arith) none-small))
+
+pub slot-lt : (k : Cmd ℕ) → CmdFits k → (i : ℕ) → getD (slots k) i 0 < 65536
+slot-lt k f i = small-at (small-slots k f) i
+
+-- The tables of a job that fits
+
+nth-of : (l : List (Cmd ℕ)) (i : ℕ) (k : Cmd ℕ) → getElem? l i ≡ some k → nth l i ≡ k
+unfolding nth
+nth-of [] i k e = absurd (Option·none-ne-some k e)
+nth-of (x ∷ l) zero k e = Option·some-injective x k e
+nth-of (x ∷ l) (suc i) k e = nth-of l i k e
+
+small-places : (l : List (Cmd ℕ)) → ((e : ℕ) → CmdFits (nth l e)) → Small (flatMap slots l)
+unfolding flatMap nth
+small-places [] f = none-small
+small-places (k ∷ l) f = small-append (small-slots k (f 0)) (small-places l (λ e. f (suc e)))
+
+module _ (J : Job) (f : JobFits J) where
+  pub heads-lt : (i : ℕ) → getD (headWords J) i 0 < 18446744073709551616
+  heads-lt = words-lt headWord 18446744073709551616 (J .cmds) (omega arith) (λ i k e. head-lt k (subst (λ z. CmdFits z) (nth-of (J .cmds) i k e) (f .cmds i)))
+
+  pub slots-lt : (i : ℕ) → getD (slotWords J) i 0 < 65536
+  slots-lt i = small-at (small-places (J .cmds) (f .cmds)) i
+
+  pub types-lt : (i : ℕ) → getD (typeWords (J .types)) i 0 < 18446744073709551616
+  types-lt = words-lt typeWord 18446744073709551616 (J .types) (omega arith) (λ i x e. type-lt x (f .types i x e))
+
+  pub sets-lt : (i : ℕ) → getD (setWords (J .types)) i 0 < 18446744073709551616
+  sets-lt = words-lt setWord 18446744073709551616 (J .types) (omega arith) (λ i x e. set-word-lt x (f .types i x e))
+
+  pub values-lt : (i : ℕ) → getD (valueWords J) i 0 < 18446744073709551616
+  values-lt = words-lt valueWord 18446744073709551616 (J .values) (omega arith) (λ i h e. value-lt h (f .values i h e))
+
+  -- the words of names 0 and 1 are 0
+  pub names-lt : (i : ℕ) → getD (nameWords J) i 0 < 65536
+  names-lt zero = omega arith
+  names-lt (suc zero) = omega arith
+  names-lt (suc (suc i)) = words-lt nameWord 65536 (J .names) (omega arith) (λ n d e. name-word-lt d (f .upper n d e)) i
+
+  -- the type and starting number of a host value, from its table
+  pub values-back : (n i : ℕ) (h : HostValue ℕ) → getElem? (J .values) i ≡ some h
+      → (getD (filled n 0 (valueWords J)) i 0 / 256 % 65536 ≡ h .ty) × (getD (filled n 0 (valueWords J)) i 0 / 16777216 % 4294967296 ≡ h .init)
+  values-back n i h e =
+      let z = word-at valueWord n (J .values) i h e in
+      let b = value-back h (f .values i h e) in
+      (ap (λ w. w / 256 % 65536) z ∙ b .0, ap (λ w. w / 16777216 % 4294967296) z ∙ b .1)
