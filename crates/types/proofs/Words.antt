@@ -5,13 +5,12 @@ use native.Mathlib.Numerals.{sub-one}
 use mathlib.Core.Bool.{Bool, true, false, cond, true≢false, false≢true}
 use mathlib.Core.List.{List}
 use mathlib.Core.Logic.{_≢_}
-use mathlib.Core.Option.{Option, none, some}
+use mathlib.Core.Option.{none}
 use lib.ListN.{getD}
 use lib.Dec.{eqb}
 use borrow.Author.Tests.{eqb-true, eqb-false, eq-eqb, ne-eqb}
 use Rattle.order.specs.Bools.{_and_}
 use Rattle.order.specs.Effects.{Effect}
-use Rattle.syntax.specs.Types.{TypeEntry, e-num, e-pair, e-cell, e-fn, e-lim, e-grant}
 use Rattle.syntax.specs.Words.{entryBits, entryIn}
 use Rattle.typing.specs.Entries.{ifNum, ifPair, ifCell, ifFn, ifLim, ifGrant, sameEntry, subEntry, superEntry, sameIn, subIn, superIn}
 

@@ -1,0 +1,20 @@
+use borrow.Author.Needs.{needs}
+use Rattle.typing.specs.Numbered.{need}
+use Rattle.types.specs.Entry.{entryOf}
+use Rattle.infer.specs.Answer.{resultIn, made}
+use Rattle.infer.proofs.cell.Statement.{statement}
+use Rattle.infer.proofs.cell.Tie as tie
+
+fits-requires : tie.Need-fits-requires
+fits-requires c κs = search needs
+
+returns : tie.Need-returns
+unfolding resultIn made entryOf need
+returns c = simp (← (c .before .fits2 .ensures), (c .if1 .taken))
+
+returns-2 : tie.Need-returns-2
+unfolding resultIn need
+returns-2 c = simp (← (c .before .fits2 .ensures), (c .if1 .left))
+
+pub cell-spec : {M : Type 1} → statement M
+cell-spec = tie.close (tie.spec fits-requires returns returns-2)

@@ -1,0 +1,135 @@
+use native.Mathlib.Omega.{arith}
+use borrow.Author.Tests.{ne-eqb}
+use borrow.Author.Needs.{needs}
+use Rattle.typing.specs.Numbered.{resultAt, fits}
+use Rattle.syntax.specs.Words.{codeIn, decode, entryIn}
+use Rattle.infer.proofs.Keys.{keys-any}
+use lib.ListN.{getD}
+use Rattle.infer.proofs.result.Statement.{statement}
+use Rattle.infer.proofs.result.Tie as tie
+
+at64-requires : tie.Need-at64-requires
+at64-requires c κs = search needs
+
+mul-at : tie.Need-mul-at
+mul-at c = search needs
+
+operand-at-requires : tie.Need-operand-at-requires
+operand-at-requires c κs = search needs
+
+number-requires : tie.Need-number-requires
+number-requires c κs = search needs
+
+returns : tie.Need-returns
+unfolding resultAt codeIn decode fits
+returns c = simp (← (c .before .before .before .at64 .ensures), (c .before .match .keys1), (c .number .ensures))
+
+top-requires : tie.Need-top-requires
+top-requires c κs = search needs
+
+returns-2 : tie.Need-returns-2
+unfolding resultAt codeIn decode fits
+returns-2 c = simp (← (c .before .before .before .at64 .ensures), (c .before .match .keys2), (c .top .ensures))
+
+low-requires : tie.Need-low-requires
+low-requires c κs = search needs
+
+variable-requires : tie.Need-variable-requires
+variable-requires c κs = search needs
+
+returns-3 : tie.Need-returns-3
+unfolding resultAt codeIn decode fits
+returns-3 c = simp (← (c .before .before .before .before .at64 .ensures), (c .before .before .match .keys3), (c .variable .ensures), (c .before .low .ensures))
+
+lead-requires : tie.Need-lead-requires
+lead-requires c κs = search needs
+
+part-requires : tie.Need-part-requires
+part-requires c κs = search needs
+
+returns-4 : tie.Need-returns-4
+unfolding resultAt codeIn decode fits
+returns-4 c = simp (← (c .before .before .before .before .at64 .ensures), (c .before .before .match .keys4), (c .part .ensures), (c .before .lead .ensures), (c .before .before .before .operand-at .ensures))
+
+add-at16 : tie.Need-add-at16
+add-at16 c = search needs
+
+at16-requires : tie.Need-at16-requires
+at16-requires c κs = search needs
+
+function-requires : tie.Need-function-requires
+function-requires c κs = search needs
+
+returns-5 : tie.Need-returns-5
+unfolding resultAt codeIn decode fits
+returns-5 c = simp (← (c .before .before .before .before .at64 .ensures), (c .before .before .match .keys5), (c .function .ensures), (c .before .at16 .ensures), (c .before .before .before .operand-at .ensures))
+
+add-at16-2 : tie.Need-add-at16-2
+add-at16-2 c = search needs
+
+at16-requires-2 : tie.Need-at16-requires-2
+at16-requires-2 c κs = search needs
+
+cell-requires : tie.Need-cell-requires
+cell-requires c κs = search needs
+
+returns-6 : tie.Need-returns-6
+unfolding resultAt codeIn decode fits
+returns-6 c = simp (← (c .before .before .before .before .at64 .ensures), (c .before .before .match .keys6), (c .cell .ensures), (c .before .at162 .ensures), (c .before .before .before .operand-at .ensures))
+
+read-requires : tie.Need-read-requires
+read-requires c κs = search needs
+
+returns-7 : tie.Need-returns-7
+unfolding resultAt codeIn decode fits
+returns-7 c = simp (← (c .before .before .before .at64 .ensures), (c .before .match .keys7), (c .read .ensures), (c .before .before .operand-at .ensures))
+
+lead-requires-2 : tie.Need-lead-requires-2
+lead-requires-2 c κs = search needs
+
+limit-requires : tie.Need-limit-requires
+limit-requires c κs = omega (arith, (c .before .before .before .before .before .before .before .before .before .before .before .fits .e))
+
+returns-8 : tie.Need-returns-8
+unfolding resultAt codeIn decode
+returns-8 c = simp (← (c .before .before .before .before .at64 .ensures), (c .before .before .match .keys8), (c .limit .ensures), (c .before .lead2 .ensures)) (keys-any (c .before .before .before .before .before .before .before .before .before .before .before .before .args .anc .now) (c .before .before .before .before .before .before .before .before .before .before .before .before .args .names .now) (λ v. getD (c .before .before .before .before .before .before .before .before .before .before .before .before .args .vars .now) v 0) (entryIn (c .before .before .before .before .before .before .before .before .before .before .before .before .args .types .now) (c .before .before .before .before .before .before .before .before .before .before .before .before .args .sets .now)) (λ a. getD (c .before .before .before .before .before .before .before .before .before .before .before .before .args .entries .now) a 0) (λ a. getD (c .before .before .before .before .before .before .before .before .before .before .before .before .args .effects .now) a 0) _ _ _ _)
+
+two-requires : tie.Need-two-requires
+two-requires c κs = (omega (arith, (c .before .before .before .before .before .before .before .before .before .before .fits .e)), (c .before .operand-at .ensures))
+
+returns-9 : tie.Need-returns-9
+unfolding resultAt codeIn decode
+returns-9 c = simp (← (c .before .before .before .at64 .ensures), ne-eqb _ _ (c .before .match .rest .1), ne-eqb _ _ (c .before .match .rest .0 .1), ne-eqb _ _ (c .before .match .rest .0 .0 .1), ne-eqb _ _ (c .before .match .rest .0 .0 .0 .1), ne-eqb _ _ (c .before .match .rest .0 .0 .0 .0 .1), ne-eqb _ _ (c .before .match .rest .0 .0 .0 .0 .0 .1), ne-eqb _ _ (c .before .match .rest .0 .0 .0 .0 .0 .0 .1)) ((c .two .ensures) (λ v. getD ((c .before .before .before .before .before .before .before .before .before .before .before .args .vars) .now) v 0))
+
+pub result-spec : {M : Type 1} → statement M
+result-spec =
+    tie.close
+    (tie.spec
+    at64-requires
+    mul-at
+    operand-at-requires
+    number-requires
+    returns
+    top-requires
+    returns-2
+    low-requires
+    variable-requires
+    returns-3
+    lead-requires
+    part-requires
+    returns-4
+    add-at16
+    at16-requires
+    function-requires
+    returns-5
+    add-at16-2
+    at16-requires-2
+    cell-requires
+    returns-6
+    read-requires
+    returns-7
+    lead-requires-2
+    limit-requires
+    returns-8
+    two-requires
+    returns-9)

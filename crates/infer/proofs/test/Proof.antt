@@ -1,0 +1,59 @@
+use borrow.Author.Needs.{needs}
+use Rattle.typing.specs.Numbered.{need}
+use Rattle.infer.specs.Answer.{resultIn}
+use Rattle.infer.proofs.Sorts.{not-num, is-num}
+use Rattle.infer.proofs.test.Statement.{statement}
+use Rattle.infer.proofs.test.Tie as tie
+
+entry-at-requires : tie.Need-entry-at-requires
+entry-at-requires c κs = search needs
+
+enum-known-q : tie.Need-enum-known-q
+enum-known-q c = search needs
+
+returns : tie.Need-returns
+unfolding resultIn
+returns c = not-num _ (c .before .entry-at .ensures) (c .match .keys2) _
+
+fits-requires : tie.Need-fits-requires
+fits-requires c κs = search needs
+
+returns-2 : tie.Need-returns-2
+unfolding resultIn need
+returns-2 c = simp (is-num (c .before .before .before .before .before .entry-at .ensures) (c .before .before .before .q .given .1), ← (c .before .fits2 .ensures), (c .if1 .left))
+
+fits-requires-2 : tie.Need-fits-requires-2
+fits-requires-2 c κs = search needs
+
+returns-3 : tie.Need-returns-3
+unfolding resultIn need
+returns-3 c = simp (is-num (c .before .before .before .before .before .before .before .entry-at .ensures) (c .before .before .before .before .before .q .given .1), ← (c .before .before .before .fits2 .ensures), (c .before .before .if1 .taken), ← (c .before .fits3 .ensures), (c .if2 .left))
+
+join-requires : tie.Need-join-requires
+join-requires c κs = search needs
+
+join-requires-2 : tie.Need-join-requires-2
+join-requires-2 c κs = search needs
+
+touched-requires : tie.Need-touched-requires
+touched-requires c κs = search needs
+
+returns-4 : tie.Need-returns-4
+unfolding resultIn need
+returns-4 c = simp (is-num (c .before .before .before .before .before .before .before .before .before .before .entry-at .ensures) (c .before .before .before .before .before .before .before .before .q .given .1), ← (c .before .before .before .before .before .before .fits2 .ensures), (c .before .before .before .before .before .if1 .taken), ← (c .before .before .before .before .fits3 .ensures), (c .before .before .before .if2 .taken), (c .touched .ensures), (c .before .join2 .ensures), (c .before .before .join .ensures))
+
+pub test-spec : {M : Type 1} → statement M
+test-spec =
+    tie.close
+    (tie.spec
+    entry-at-requires
+    enum-known-q
+    returns
+    fits-requires
+    returns-2
+    fits-requires-2
+    returns-3
+    join-requires
+    join-requires-2
+    touched-requires
+    returns-4)

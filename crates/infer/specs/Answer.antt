@@ -1,0 +1,17 @@
+-- What an answer of the inference stands for: an expression's type, as a new entry or the number of one, and its effect; or the number of a refusal.
+use mathlib.Core.Option.{Option, none, some}
+use Rattle.syntax.specs.Types.{TypeEntry, e-num}
+use Rattle.typing.specs.Numbered.{Result, makes, points, wrong}
+use Rattle.types.specs.Entry.{entryOf}
+use Rattle.infer.specs.declared.Typing.{Typing}
+use Rattle.infer.specs.declared.Typing.the-variants.{Makes, Points, Wrong}
+
+-- a new entry is always something
+unfoldable pub made : Option TypeEntry → TypeEntry
+made none = e-num 0
+made (some e) = e
+
+unfoldable pub resultIn : Typing → Result
+resultIn (Makes e s) = makes (made (entryOf e)) s
+resultIn (Points i s) = points i s
+resultIn (Wrong n) = wrong n

@@ -1,0 +1,20 @@
+-- The tests and operations on names and effects as the code has them: by the table of ancestors, and the upper name by the names table.
+use Prim.Native.Nat.{ℕ, _%_}
+use mathlib.Core.List.{List}
+use lib.ListN.{getD}
+use lib.Dec.{eqb}
+use Rattle.typing.specs.Numbered.{Ops}
+use Rattle.names.specs.Ancestors.{belowBy, effBelowBy, touchBy, reduceBy, dropBy, raiseBy}
+
+-- ancestors, names
+abbrev pub opsBy : List ℕ → List ℕ → Ops
+opsBy anc names =
+    record {
+      over = λ r u. eqb u (getD names r 0 % 256);
+      below = belowBy anc;
+      effBelow = effBelowBy anc;
+      touch = touchBy;
+      reduce = reduceBy anc;
+      drop = dropBy anc;
+      raise = raiseBy;
+    }

@@ -1,0 +1,442 @@
+// The type and the effect of one expression, from the lent tables and what is known of its operands.
+use names::Name;
+use names::at16;
+use names::at64;
+use names::eff_below;
+use names::join;
+use names::touch;
+use types::Entry;
+use types::entry_at;
+ghost use mathlib.Core.Path.{_≡_};
+ghost use Prim.Native.Nat.{ℕ, _≤_, _/_, _%_};
+ghost use lib.ListN.{getD};
+ghost use lib.Dec.{eqb};
+ghost use Rattle.syntax.specs.Words.{codeIn, entryIn};
+ghost use Rattle.typing.specs.Layout as laid;
+ghost use Rattle.typing.specs.Numbered.{keyIn, resultAt};
+ghost use Rattle.names.specs.Ancestors.{reduceBy, touchBy};
+ghost use Rattle.types.specs.Entry.{entryOf};
+ghost use Rattle.infer.specs.Answer.{made, resultIn};
+ghost use Rattle.infer.specs.Ops.{opsBy};
+ghost use Rattle.infer.specs.Commands as by;
+
+// The type and effect of an expression: a new entry or one already there, or the number of a refusal.
+pub enum Typing {
+    Makes(Entry, u64),
+    Points(u16, u64),
+    Wrong(u8),
+}
+
+// What is known of an operand: the entry of its type, and its effect.
+pub struct Operand {
+    pub ty: u16,
+    pub effect: u64,
+}
+
+// The operand that stands at place j.
+fn operand_at<'a>(slots: &'a [u16], entries: &'a [u16], effects: &'a [u64], j: usize) -> Operand
+    ensures { λ r. ⌜ r ≡ by.operandAt (now (slots .entry)) (now (entries .entry)) (now (effects .entry)) j ⌝ }
+{
+    let a = at16(slots, j) as usize;
+    Operand {
+        ty: at16(entries, a),
+        effect: at64(effects, a),
+    }
+}
+
+// An effect with the name of a touched value's key, reduced.
+fn touched(anc: &[u64; 64], q: Name, s: u64) -> u64
+    ensures { λ r. ⌜ r ≡ reduceBy (now (anc .entry)) (touchBy (q .0) s) ⌝ }
+{
+    names::reduce(anc, touch(q, s))
+}
+
+// Whether type a is a subtype of type t. One of them is a declared type, which is no deeper than 16.
+fn fits<'a>(anc: &'a [u64; 64], types: &'a [u64], sets: &'a [u64], a: u16, t: u16) -> bool
+    ensures { λ r. ⌜ r ≡ by.fitsBy (now (anc .entry)) (now (types .entry)) (now (sets .entry)) a t ⌝ }
+{
+    types::below(16, anc, types, sets, a, t)
+}
+
+// 30, 31, 32.
+fn number() -> Typing
+    ensures { λ r. ⌜ resultIn r ≡ by.numberBy ⌝ }
+{
+    Typing::Makes(Entry::Number(Name(0)), 0)
+}
+
+fn top() -> Typing
+    ensures { λ r. ⌜ resultIn r ≡ by.topBy ⌝ }
+{
+    Typing::Makes(Entry::Limit(Name(0), Name(1)), 0)
+}
+
+fn variable(vars: &[u16; 64], v: u8) -> Typing
+    ensures { λ r. ⌜ resultIn r ≡ by.variableBy (now (vars .entry)) v ⌝ }
+{
+    Typing::Points(at16(vars, v as usize), 0)
+}
+
+// 33.
+fn pair(anc: &[u64; 64], x: Operand, y: Operand) -> Typing
+    ensures { λ r. ⌜ resultIn r ≡ by.pairBy (now (anc .entry)) x y ⌝ }
+{
+    Typing::Makes(
+        Entry::Pair(Name(0), x.ty, y.ty),
+        names::reduce(anc, join(x.effect, y.effect)),
+    )
+}
+
+// 34.
+fn part<'a>(anc: &'a [u64; 64], types: &'a [u64], sets: &'a [u64], x: Operand, i: u32) -> Typing
+    ensures { λ r. ⌜ resultIn r ≡ by.partBy (now (anc .entry)) (now (types .entry)) (now (sets .entry)) x i ⌝ }
+{
+    let Entry::Pair(q, a, b) = entry_at(types, sets, x.ty) else {
+        return Typing::Wrong(11);
+    };
+    let s = touched(anc, q, x.effect);
+    if i == 1 {
+        return Typing::Points(a, s);
+    }
+    Typing::Points(b, s)
+}
+
+// 35.
+fn function(t: u16, x: Operand) -> Typing
+    ensures { λ r. ⌜ resultIn r ≡ by.functionBy t x ⌝ }
+{
+    Typing::Makes(Entry::Function(Name(0), t, x.ty, x.effect), 0)
+}
+
+// 36.
+fn apply<'a>(
+    anc: &'a [u64; 64],
+    types: &'a [u64],
+    sets: &'a [u64],
+    x: Operand,
+    y: Operand,
+) -> Typing
+    ensures { λ r. ⌜ resultIn r ≡ by.applyBy (now (anc .entry)) (now (types .entry)) (now (sets .entry)) x y ⌝ }
+{
+    let Entry::Function(q, t, u, l) = entry_at(types, sets, x.ty) else {
+        return Typing::Wrong(11);
+    };
+    if fits(anc, types, sets, y.ty, t) {
+        let s = join(l, join(x.effect, y.effect));
+        return Typing::Points(u, touched(anc, q, s));
+    }
+    Typing::Wrong(12)
+}
+
+// 37.
+fn cell<'a>(anc: &'a [u64; 64], types: &'a [u64], sets: &'a [u64], t: u16, x: Operand) -> Typing
+    ensures { λ r. ⌜ resultIn r ≡ by.cellBy (now (anc .entry)) (now (types .entry)) (now (sets .entry)) t x ⌝ }
+{
+    if fits(anc, types, sets, x.ty, t) {
+        return Typing::Makes(Entry::Cell(Name(0), t), x.effect);
+    }
+    Typing::Wrong(12)
+}
+
+// 38.
+fn assign<'a>(
+    anc: &'a [u64; 64],
+    types: &'a [u64],
+    sets: &'a [u64],
+    x: Operand,
+    y: Operand,
+) -> Typing
+    ensures { λ r. ⌜ resultIn r ≡ by.assignBy (now (anc .entry)) (now (types .entry)) (now (sets .entry)) x y ⌝ }
+{
+    let Entry::Cell(q, t) = entry_at(types, sets, x.ty) else {
+        return Typing::Wrong(11);
+    };
+    if fits(anc, types, sets, y.ty, t) {
+        return Typing::Points(t, touched(anc, q, join(x.effect, y.effect)));
+    }
+    Typing::Wrong(12)
+}
+
+// 39.
+fn read<'a>(anc: &'a [u64; 64], types: &'a [u64], sets: &'a [u64], x: Operand) -> Typing
+    ensures { λ r. ⌜ resultIn r ≡ by.readBy (now (anc .entry)) (now (types .entry)) (now (sets .entry)) x ⌝ }
+{
+    let Entry::Cell(q, t) = entry_at(types, sets, x.ty) else {
+        return Typing::Wrong(11);
+    };
+    Typing::Points(t, touched(anc, q, x.effect))
+}
+
+// 3A.
+fn sum<'a>(anc: &'a [u64; 64], types: &'a [u64], sets: &'a [u64], x: Operand, y: Operand) -> Typing
+    ensures { λ r. ⌜ resultIn r ≡ by.sumBy (now (anc .entry)) (now (types .entry)) (now (sets .entry)) x y ⌝ }
+{
+    let Entry::Number(p) = entry_at(types, sets, x.ty) else {
+        return Typing::Wrong(11);
+    };
+    let Entry::Number(q) = entry_at(types, sets, y.ty) else {
+        return Typing::Wrong(11);
+    };
+    let s = touch(q, join(x.effect, y.effect));
+    Typing::Makes(Entry::Number(Name(0)), touched(anc, p, s))
+}
+
+// 3B.
+fn test<'a>(
+    anc: &'a [u64; 64],
+    types: &'a [u64],
+    sets: &'a [u64],
+    x: Operand,
+    y: Operand,
+    z: Operand,
+    t: u16,
+) -> Typing
+    ensures { λ r. ⌜ resultIn r ≡ by.testBy (now (anc .entry)) (now (types .entry)) (now (sets .entry)) x y z t ⌝ }
+{
+    let Entry::Number(q) = entry_at(types, sets, x.ty) else {
+        return Typing::Wrong(11);
+    };
+    if fits(anc, types, sets, y.ty, t) {} else {
+        return Typing::Wrong(12);
+    }
+    if fits(anc, types, sets, z.ty, t) {} else {
+        return Typing::Wrong(12);
+    }
+    let s = join(x.effect, join(y.effect, z.effect));
+    Typing::Points(t, touched(anc, q, s))
+}
+
+// A limit has at most four keys.
+fn four(n: u32) -> usize
+    ensures { λ r. ⌜ r ≡ by.four n ⌝ }
+{
+    if n < 4 {
+        return n as usize;
+    }
+    4
+}
+
+// 3C: n keys at place `at` and after it, and the body at the fifth place.
+fn limit<'a>(
+    anc: &'a [u64; 64],
+    types: &'a [u64],
+    sets: &'a [u64],
+    slots: &'a [u16],
+    entries: &'a [u16],
+    effects: &'a [u64],
+    at: usize,
+    n: u32,
+) -> Typing
+    requires { ⌜ at ≤ 327675 ⌝ }
+    ensures { λ r. ⌜ resultIn r
+        ≡ by.limitBy (now (anc .entry)) (now (types .entry)) (now (sets .entry)) (now (slots .entry)) (now (entries .entry)) (now (effects .entry)) at n ⌝ }
+{
+    let mut rs: u64 = 0;
+    let mut s: u64 = 0;
+    let mut j = at;
+    let mut left = four(n);
+    while 0 < left {
+        let x = operand_at(slots, entries, effects, j);
+        let Entry::Limit(q, r) = entry_at(types, sets, x.ty) else {
+            return Typing::Wrong(11);
+        };
+        rs = touch(r, rs);
+        s = touch(q, join(x.effect, s));
+        j = j + 1;
+        left = left - 1;
+    }
+    let body = operand_at(slots, entries, effects, at + 4);
+    if eff_below(anc, body.effect, rs) {
+        return Typing::Points(body.ty, names::reduce(anc, join(s, body.effect)));
+    }
+    Typing::Wrong(13)
+}
+
+// 3D.
+fn grant<'a>(
+    anc: &'a [u64; 64],
+    types: &'a [u64],
+    sets: &'a [u64],
+    x: Operand,
+    y: Operand,
+) -> Typing
+    ensures { λ r. ⌜ resultIn r ≡ by.grantBy (now (anc .entry)) (now (types .entry)) (now (sets .entry)) x y ⌝ }
+{
+    let Entry::Grant(q, r) = entry_at(types, sets, x.ty) else {
+        return Typing::Wrong(11);
+    };
+    let s = join(x.effect, names::drop_below(anc, r, y.effect));
+    Typing::Points(y.ty, touched(anc, q, s))
+}
+
+// Whether u is the upper name of r.
+fn is_upper(names: &[u16], r: u8, u: Name) -> bool
+    ensures { λ b. ⌜ b ≡ eqb (u .0) (getD (now (names .entry)) r 0 % 256) ⌝ }
+{
+    let w = at16(names, r as usize) % 256;
+    let n = u.0 as u16;
+    n == w
+}
+
+// 3E.
+fn new_key<'a>(
+    anc: &'a [u64; 64],
+    types: &'a [u64],
+    sets: &'a [u64],
+    names: &'a [u16],
+    r: u8,
+    x: Operand,
+    y: Operand,
+    t: u16,
+) -> Typing
+    ensures { λ b. ⌜ resultIn b ≡ by.newKeyBy (now (anc .entry)) (now (types .entry)) (now (sets .entry)) (now (names .entry)) r x y t ⌝ }
+{
+    let Entry::Limit(q, u) = entry_at(types, sets, x.ty) else {
+        return Typing::Wrong(11);
+    };
+    if is_upper(names, r, u) {} else {
+        return Typing::Wrong(11);
+    }
+    if fits(anc, types, sets, y.ty, t) {} else {
+        return Typing::Wrong(12);
+    }
+    let s = join(x.effect, names::raise(Name(r), u, y.effect));
+    Typing::Points(t, touched(anc, q, s))
+}
+
+// The key of an entry, and an entry with another key.
+fn key(e: Entry) -> Name
+    ensures { λ r. ⌜ r .0 ≡ keyIn (entryOf e) ⌝ }
+{
+    match e {
+        Entry::Number(q) => q,
+        Entry::Pair(q, _, _) => q,
+        Entry::Cell(q, _) => q,
+        Entry::Function(q, _, _, _) => q,
+        Entry::Limit(q, _) => q,
+        Entry::Grant(q, _) => q,
+        Entry::Nothing => Name(0),
+    }
+}
+
+fn rekeyed(k: Name, e: Entry) -> Entry
+    ensures { λ r. ⌜ made (entryOf r) ≡ laid.rekeyed (k .0) (entryOf e) ⌝ }
+{
+    match e {
+        Entry::Number(_) => Entry::Number(k),
+        Entry::Pair(_, a, b) => Entry::Pair(k, a, b),
+        Entry::Cell(_, a) => Entry::Cell(k, a),
+        Entry::Function(_, a, b, s) => Entry::Function(k, a, b, s),
+        Entry::Limit(_, r) => Entry::Limit(k, r),
+        Entry::Grant(_, r) => Entry::Grant(k, r),
+        Entry::Nothing => Entry::Number(k),
+    }
+}
+
+// 3F.
+fn associate<'a>(
+    anc: &'a [u64; 64],
+    types: &'a [u64],
+    sets: &'a [u64],
+    x: Operand,
+    y: Operand,
+) -> Typing
+    ensures { λ r. ⌜ resultIn r ≡ by.associateBy (now (anc .entry)) (now (types .entry)) (now (sets .entry)) x y ⌝ }
+{
+    let Entry::Limit(q, r) = entry_at(types, sets, y.ty) else {
+        return Typing::Wrong(11);
+    };
+    let e = entry_at(types, sets, x.ty);
+    let s = touch(q, join(x.effect, y.effect));
+    let k = key(e);
+    Typing::Makes(rekeyed(r, e), touched(anc, k, s))
+}
+
+// The operand of one byte or four in a head, and the local name of 3E.
+fn lead(w: u64) -> u32
+    ensures { λ r. ⌜ r ≡ w / 256 % 4294967296 ⌝ }
+{
+    (w / 256 % 4294967296) as u32
+}
+
+fn low(w: u64) -> u8
+    ensures { λ r. ⌜ r ≡ w / 256 % 4294967296 % 256 ⌝ }
+{
+    (lead(w) % 256) as u8
+}
+
+fn local(w: u64) -> u8
+    ensures { λ r. ⌜ r ≡ w / 256 % 4294967296 / 256 % 256 ⌝ }
+{
+    (lead(w) / 256 % 256) as u8
+}
+
+// The commands with two operands or more, of which x is the first; the five places start at `at`. Any other stands for a number.
+fn two<'a>(
+    w: u64,
+    at: usize,
+    x: Operand,
+    slots: &'a [u16],
+    types: &'a [u64],
+    sets: &'a [u64],
+    entries: &'a [u16],
+    effects: &'a [u64],
+    names: &'a [u16],
+    anc: &'a [u64; 64],
+) -> Typing
+    requires { ⌜ (at ≤ 327675) × (x ≡ by.operandAt (now slots) (now entries) (now effects) at) ⌝ }
+    ensures { λ r. ⌜ ((var : ℕ → ℕ) → resultIn r
+        ≡ resultAt (opsBy (now (anc .entry)) (now (names .entry))) var (entryIn (now (types .entry)) (now (sets .entry)))
+        (λ a. getD (now (entries .entry)) a 0) (λ a. getD (now (effects .entry)) a 0) (by.twoIn (now (slots .entry)) w at)) ⌝ }
+{
+    let y = operand_at(slots, entries, effects, at + 1);
+    match w % 256 {
+        0x33 => return pair(anc, x, y),
+        0x36 => return apply(anc, types, sets, x, y),
+        0x38 => return assign(anc, types, sets, x, y),
+        0x3A => return sum(anc, types, sets, x, y),
+        0x3B => {
+            let z = operand_at(slots, entries, effects, at + 2);
+            return test(anc, types, sets, x, y, z, at16(slots, at + 3));
+        }
+        0x3D => return grant(anc, types, sets, x, y),
+        0x3E => return new_key(anc, types, sets, names, local(w), x, y, at16(slots, at + 2)),
+        0x3F => return associate(anc, types, sets, x, y),
+        _ => return number(),
+    }
+}
+
+// Expression e: its command is in heads and slots, the entries and effects of the expressions before it in entries and effects, and
+// the entries of the variables in vars.
+pub fn result<'a>(
+    e: u16,
+    heads: &'a [u64],
+    slots: &'a [u16],
+    types: &'a [u64],
+    sets: &'a [u64],
+    entries: &'a [u16],
+    effects: &'a [u64],
+    vars: &'a [u16; 64],
+    names: &'a [u16],
+    anc: &'a [u64; 64],
+) -> Typing
+    ensures { λ r. ⌜ resultIn r
+        ≡ resultAt (opsBy (now (anc .entry)) (now (names .entry))) (λ v. getD (now (vars .entry)) v 0)
+        (entryIn (now (types .entry)) (now (sets .entry))) (λ a. getD (now (entries .entry)) a 0)
+        (λ a. getD (now (effects .entry)) a 0) (codeIn (now (heads .entry)) (now (slots .entry)) e) ⌝ }
+{
+    let w = at64(heads, e as usize);
+    let at = (e as usize) * 5;
+    let x = operand_at(slots, entries, effects, at);
+    match w % 256 {
+        0x30 => return number(),
+        0x31 => return top(),
+        0x32 => return variable(vars, low(w)),
+        0x34 => return part(anc, types, sets, x, lead(w)),
+        0x35 => return function(at16(slots, at + 1), x),
+        0x37 => return cell(anc, types, sets, at16(slots, at + 1), x),
+        0x39 => return read(anc, types, sets, x),
+        0x3C => return limit(anc, types, sets, slots, entries, effects, at, lead(w)),
+        _ => return two(w, at, x, slots, types, sets, entries, effects, names, anc),
+    }
+}
