@@ -1,0 +1,79 @@
+-- Facts on bytes and lists that the readers and the stores rest on.
+use mathlib.Core.Path.{_≡_, refl, sym, ap, _∙_}
+use Prim.Native.Nat.{ℕ, zero, suc, _+_, _-_, _*_, _≤_, _<_}
+use native.Mathlib.Omega.{arith}
+use mathlib.Core.List.{List, [], _∷_, _++_}
+use lib.ListN.{length, getD, set, take, drop, replicate, length-drop, drop-of-length-le}
+use lib.Seq.{take-all, set-out, drop-drop, take-take}
+use Rattle.syntax.specs.Commands.{little}
+use Rattle.job.specs.Bytes.{restOf, widthByte}
+
+pub little-one : (s : List ℕ) → length s ≡ 1 → getD s 0 0 ≡ little s
+unfolding little
+little-one [] h = absurd (omega arith)
+little-one (a ∷ []) h = omega arith
+little-one (a ∷ b ∷ s) h = absurd (omega arith)
+
+pub little-two : (s : List ℕ) → length s ≡ 2 → getD s 0 0 + getD s 1 0 * 256 ≡ little s
+unfolding little
+little-two [] h = absurd (omega arith)
+little-two (a ∷ []) h = absurd (omega arith)
+little-two (a ∷ b ∷ []) h = omega arith
+little-two (a ∷ b ∷ c ∷ s) h = absurd (omega arith)
+
+pub little-four : (s : List ℕ) → length s ≡ 4 → little (take 2 s) + little (take 2 (drop 2 s)) * 65536 ≡ little s
+unfolding little
+little-four [] h = absurd (omega arith)
+little-four (a ∷ []) h = absurd (omega arith)
+little-four (a ∷ b ∷ []) h = absurd (omega arith)
+little-four (a ∷ b ∷ c ∷ []) h = absurd (omega arith)
+little-four (a ∷ b ∷ c ∷ d ∷ []) h = omega arith
+little-four (a ∷ b ∷ c ∷ d ∷ e ∷ s) h = absurd (omega arith)
+
+pub little-split : (a b c d : ℕ) (s : List ℕ) → little (a ∷ b ∷ c ∷ d ∷ s) ≡ little (a ∷ b ∷ c ∷ d ∷ []) + little s * 4294967296
+unfolding little
+little-split a b c d s = omega arith
+
+pub little-eight : (s : List ℕ) → length s ≡ 8 → little (take 4 s) + little (take 4 (drop 4 s)) * 4294967296 ≡ little s
+little-eight [] h = absurd (omega arith)
+little-eight (a ∷ []) h = absurd (omega arith)
+little-eight (a ∷ b ∷ []) h = absurd (omega arith)
+little-eight (a ∷ b ∷ c ∷ []) h = absurd (omega arith)
+little-eight (a ∷ b ∷ c ∷ d ∷ s) h = let z : take 4 s ≡ s = take-all 4 s (omega arith) in ap (λ (m : List ℕ). little (a ∷ b ∷ c ∷ d ∷ []) + little m * 4294967296) z ∙ sym (little-split a b c d s)
+
+-- `&s[n..]` is take (length s - n) (drop n s)
+pub take-rest : (n : ℕ) (l : List ℕ) → take (length l - n) (drop n l) ≡ drop n l
+take-rest n l = take-all (length l - n) (drop n l) (simp length-drop (omega arith))
+
+-- a store past the end changes nothing
+pub set-past : (l : List ℕ) (i a : ℕ) → length l ≤ i → l ≡ set l i a
+set-past l i a h = sym (set-out l i a h)
+
+pub drop-past : (n : ℕ) (l : List ℕ) → length l < n → [] ≡ drop n l
+drop-past n l h = sym (drop-of-length-le l {i = n} (omega arith))
+
+-- a part of the length that it is taken with
+pub part-length : (at w : ℕ) (s : List ℕ) → at + w ≤ length s → length (take (at + w - at) (drop at s)) ≡ w
+part-length at w s h = simp (lib.ListN.length-take, length-drop) (omega arith)
+
+pub part-width : (at w : ℕ) → at + w - at ≡ w
+part-width at w = omega arith
+
+pub first-none : (s : List ℕ) → length s ≤ 0 → 0 ≡ getD s 0 0
+first-none [] h = refl
+first-none (a ∷ s) h = absurd (omega arith)
+
+-- a list filled from the front
+pub fill-length : (n : ℕ) (d : List ℕ) → n ≤ length d → length (replicate n 0 ++ drop n d) ≡ length d
+fill-length n d h = simp (lib.ListN.length-append, lib.ListN.length-replicate, length-drop) (omega arith)
+
+pub fill-all : (n : ℕ) (d s : List ℕ) → s ≡ replicate n 0 ++ drop n d → n ≤ length d → length d ≤ n → s ≡ replicate (length d) 0
+fill-all n d s e h k = let z : n ≡ length d = omega arith in e ∙ simp (z, lib.Seq.drop-length, mathlib.Core.List.append-nil)
+
+pub fill-next : (n : ℕ) (d s : List ℕ) → s ≡ replicate n 0 ++ drop n d → n < length d → set s n 0 ≡ replicate (n + 1) 0 ++ drop (n + 1) d
+fill-next n d s e h = ap (λ (l : List ℕ). set l n 0) e ∙ borrow.Author.Fill.fill-more n 0 d h
+
+-- nothing is left after a command whose operands are missing
+pub rest-short : (s : List ℕ) (b w : ℕ) → b ≡ getD s 0 0 → w ≡ widthByte b → length s < w + 1 → [] ≡ restOf s
+unfolding restOf
+rest-short s b w e f h = drop-past (w + 1) s h ∙ simp (f, e)

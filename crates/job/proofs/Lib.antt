@@ -1,0 +1,11 @@
+pub mod Leaves
+pub mod Ops
+pub mod Entered
+pub mod Exprs
+pub mod TypeLaws
+pub mod ValueLaws
+pub mod Agree
+pub mod Filling
+pub mod Going
+pub mod Whole
+pub mod Arms

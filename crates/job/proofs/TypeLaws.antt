@@ -1,0 +1,196 @@
+-- Declared types: their depths by the depths of their parts, their conditions, and what their words give back.
+use mathlib.Core.Path.{_≡_, refl, sym, ap, ap₂, _∙_, subst}
+use Prim.Native.Nat.{ℕ, zero, suc, max, _+_, _*_, _/_, _%_, _≤_, _<_}
+use native.Mathlib.Omega.{arith}
+use native.Mathlib.Numerals.{add-one}
+use mathlib.Core.Bool.{Bool, true, false, cond, not, true≢false, false≢true}
+use mathlib.Core.List.{List, [], _∷_, _++_}
+use mathlib.Core.Option.{Option, none, some}
+use lib.ListN.{length, getD, getElem?}
+use lib.Dec.{eqb, ltb, leb}
+use borrow.Author.Tests.{eq-eqb, ne-eqb, eqb-true, eqb-false, lt-ltb, le-ltb, ltb-true, ltb-false, leb-true}
+use Rattle.order.specs.Bools.{_and_, _or_, and-l, and-r}
+use Rattle.order.specs.OrderLaws.{getElem?-append, getElem?-at, getElem?-lt}
+use Rattle.syntax.specs.Types.{Ty, num, pair, cell, fn, lim, grant, TypeEntry, e-num, e-pair, e-cell, e-fn, e-lim, e-grant, grow, treeIn, tree, depth}
+use Rattle.syntax.specs.Commands.{Op, o-number, o-pair, o-cell, o-function, o-limit, o-grant, operands}
+use Rattle.syntax.specs.Job.{Name, HostValue, Job}
+use Rattle.syntax.specs.Words.{typeWord, setWord, valueWord}
+use Rattle.syntax.specs.Reading.{declared, setOk, openName, partsOk, typeOk, unkeyedNumber, hostTypeOk, hostValueOk, w-type, w-value, written}
+use Rattle.syntax.specs.ReadLaws.{TypesOk}
+use Rattle.syntax.specs.ReadFormed.{entry-parts, grow-same, tree-at}
+use Rattle.names.specs.Ancestors.{namesIn, declaredOf, ancestorsBy, setOkBy}
+use Rattle.job.specs.Bytes.{fieldAt}
+use Rattle.job.specs.Entries.{partDepth, deeperOf, twoDepths, typeBitsOf, typedOf, keyTypeOf, functionOf, typeBy, typeEntry, valuedOf, hostWordOk, valueEntry}
+use Rattle.job.specs.declared.Entry.{Entry}
+use Rattle.job.specs.declared.Entry.the-variants.{Refuse, Typed, Valued}
+use Rattle.job.proofs.Ops.{byteOf, fieldsFrom}
+use Rattle.job.proofs.Entered.{okW, newDepth, entryW, judgedW}
+
+pub getElem?-some : {A : Type 0} (l : List A) (i : ℕ) → i < length l → (a : A) × (getElem? l i ≡ some a)
+getElem?-some [] i h = absurd (omega arith)
+getElem?-some (x ∷ l) zero h = (x, refl)
+getElem?-some (x ∷ l) (suc i) h = getElem?-some l i (omega arith)
+
+-- The tree of a new last entry
+
+levels : (ds : List Name) {ts : List TypeEntry} → TypesOk ds ts → (f g i : ℕ) → i < f → i < g → treeIn f ts i ≡ treeIn g ts i
+unfolding treeIn grow
+levels ds b zero g i h k = absurd (omega arith)
+levels ds b (suc f) zero i h k = absurd (omega arith)
+levels ds {ts} b (suc f) (suc g) i h k = at (getElem? ts i) refl (λ a u v. levels ds b f g a u v)
+  where
+    at : (o : Option TypeEntry) → getElem? ts i ≡ o → ((a : ℕ) → a < f → a < g → treeIn f ts a ≡ treeIn g ts a) → grow o (treeIn f ts) ≡ grow o (treeIn g ts)
+    at none z s = refl
+    at (some e) z s = grow-same ds i e (entry-parts ds b i e z) (treeIn f ts) (treeIn g ts) (λ a u. s a (omega arith) (omega arith))
+
+longer : (ds : List Name) {ts : List TypeEntry} → TypesOk ds ts → (us : List TypeEntry) (f i : ℕ) → i < length ts → treeIn f (ts ++ us) i ≡ treeIn f ts i
+unfolding treeIn
+longer ds b us zero i h = refl
+longer ds {ts} b us (suc f) i h = at (getElem?-some ts i h) (λ a u. longer ds b us f a u)
+  where
+    at : (e : TypeEntry) × (getElem? ts i ≡ some e) → ((a : ℕ) → a < length ts → treeIn f (ts ++ us) a ≡ treeIn f ts a)
+        → grow (getElem? (ts ++ us) i) (treeIn f (ts ++ us)) ≡ grow (getElem? ts i) (treeIn f ts)
+    at (e, z) s = rw (getElem?-append ts us i e z, z) (grow-same ds i e (entry-parts ds b i e z) (treeIn f (ts ++ us)) (treeIn f ts) (λ a u. s a (omega arith)))
+
+pub tree-new : (ds : List Name) {ts : List TypeEntry} → TypesOk ds ts → (e : TypeEntry) → partsOk ds (length ts) e ≡ true → tree (ts ++ (e ∷ [])) (length ts) ≡ grow (some e) (tree ts)
+unfolding tree treeIn
+tree-new ds {ts} b e h =
+    ap (λ o. grow o (treeIn (length ts) (ts ++ (e ∷ [])))) (getElem?-at ts e (length ts) refl)
+    ∙ grow-same ds (length ts) e h (treeIn (length ts) (ts ++ (e ∷ []))) (tree ts) (λ a u. longer ds b (e ∷ []) (length ts) a u ∙ levels ds b (length ts) (suc a) a u (omega arith))
+
+-- Depths
+
+pub typed-is : (w s d : ℕ) → typedOf w s d ≡ cond (leb (suc d) 16) (Typed w s (suc d)) (Refuse 6)
+unfolding typedOf
+typed-is w s d = ap (λ (k : ℕ). cond (ltb d 16) (Typed w s k) (Refuse 6)) (add-one d)
+
+typed-deep : (w s d : ℕ) → 16 ≤ d → typedOf w s d ≡ Refuse 6
+unfolding typedOf
+typed-deep w s d h = ap (λ (b : Bool). cond b (Typed w s (d + 1)) (Refuse 6)) (le-ltb d 16 h)
+
+deeper-max : (x y : ℕ) → deeperOf x y ≡ max x y
+unfolding deeperOf
+deeper-max x y = at (ltb x y) refl
+  where
+    at : (b : Bool) → ltb x y ≡ b → cond b y x ≡ max x y
+    at true e = omega (arith, ltb-true x y e)
+    at false e = omega (arith, ltb-false x y e)
+
+module _ (J : Job) (ok : TypesOk (J .names) (J .types)) (depths : List ℕ) (deep : (i : ℕ) → i < length (J .types) → getD depths i 0 ≡ depth (tree (J .types) i)) where
+  -- an entry whose deepest part has depth d
+  judged-type : (e : TypeEntry) (p : Bool) → partsOk (J .names) (length (J .types)) e ≡ p → (d : ℕ) → (p ≡ true → depth (grow (some e) (tree (J .types))) ≡ suc d)
+      → cond p (typedOf (typeWord e) (setWord e) d) (Refuse 6) ≡ judgedW (w-type e) J
+  unfolding judgedW okW entryW newDepth typeOk _and_
+  judged-type e false h d f = sym (ap (λ (b : Bool). cond (b and leb (newDepth J e) 16) (Typed (typeWord e) (setWord e) (newDepth J e)) (Refuse 6)) h)
+  judged-type e true h d f =
+      let z : newDepth J e ≡ suc d = ap depth (tree-new (J .names) ok e h) ∙ f refl in
+      typed-is (typeWord e) (setWord e) d
+      ∙ sym (ap (λ (b : Bool). cond (b and leb (newDepth J e) 16) (Typed (typeWord e) (setWord e) (newDepth J e)) (Refuse 6)) h
+      ∙ ap (λ (k : ℕ). cond (leb k 16) (Typed (typeWord e) (setWord e) k) (Refuse 6)) z)
+
+  -- one part
+  one-part : (w s a : ℕ) (y : Bool) → ltb a (length (J .types)) ≡ y → typedOf w s (partDepth depths (length (J .types)) a) ≡ cond y (typedOf w s (depth (tree (J .types) a))) (Refuse 6)
+  unfolding partDepth
+  one-part w s a true h =
+      ap (λ (b : Bool). typedOf w s (cond b (getD depths a 0) 255)) h ∙ ap (λ (k : ℕ). typedOf w s k) (deep a (ltb-true a (length (J .types)) h))
+  one-part w s a false h = ap (λ (b : Bool). typedOf w s (cond b (getD depths a 0) 255)) h ∙ typed-deep w s 255 (omega arith)
+
+  two-parts : (w s a b : ℕ) (y z : Bool) → ltb a (length (J .types)) ≡ y → ltb b (length (J .types)) ≡ z
+      → typedOf w s (twoDepths depths (length (J .types)) a b) ≡ cond y (cond z (typedOf w s (max (depth (tree (J .types) a)) (depth (tree (J .types) b)))) (Refuse 6)) (Refuse 6)
+  unfolding partDepth twoDepths
+  two-parts w s a b true true g h =
+      ap (λ (k : ℕ). typedOf w s k)
+      (deeper-max (partDepth depths (length (J .types)) a) (partDepth depths (length (J .types)) b)
+      ∙ ap₂ max (ap (λ (c : Bool). cond c (getD depths a 0) 255) g ∙ deep a (ltb-true a (length (J .types)) g)) (ap (λ (c : Bool). cond c (getD depths b 0) 255) h ∙ deep b (ltb-true b (length (J .types)) h)))
+  two-parts w s a b true false g h =
+      let q : partDepth depths (length (J .types)) b ≡ 255 = ap (λ (c : Bool). cond c (getD depths b 0) 255) h in
+      typed-deep w s _ (omega (arith, deeper-max (partDepth depths (length (J .types)) a) (partDepth depths (length (J .types)) b)))
+  two-parts w s a b false z g h =
+      let q : partDepth depths (length (J .types)) a ≡ 255 = ap (λ (c : Bool). cond c (getD depths a 0) 255) g in
+      typed-deep w s _ (omega (arith, deeper-max (partDepth depths (length (J .types)) a) (partDepth depths (length (J .types)) b)))
+
+-- Tests joined
+join-two : (p q : Bool) (x r : Entry) → cond p (cond q x r) r ≡ cond (p and q) x r
+unfolding _and_
+join-two true q x r = refl
+join-two false q x r = refl
+
+join-three : (p q t : Bool) (x r : Entry) → cond p (cond q (cond t x r) r) r ≡ cond (p and q and t) x r
+unfolding _and_
+join-three true true t x r = refl
+join-three true false t x r = refl
+join-three false q t x r = refl
+
+join-set : (p o q t : Bool) (x r : Entry) → cond p (cond o (cond q (cond t x r) r) r) r ≡ cond (p and q and t and o) x r
+unfolding _and_
+join-set false o q t x r = refl
+join-set true true true true x r = refl
+join-set true true true false x r = refl
+join-set true true false t x r = refl
+join-set true false true true x r = refl
+join-set true false true false x r = refl
+join-set true false false t x r = refl
+
+join-key : (p z q : Bool) (x r : Entry) → cond p (cond z r (cond q x r)) r ≡ cond (p and q and not z) x r
+unfolding _and_
+join-key false z q x r = refl
+join-key true true true x r = refl
+join-key true true false x r = refl
+join-key true false true x r = refl
+join-key true false false x r = refl
+
+module _ (s : List ℕ) (J : Job) (ok : TypesOk (J .names) (J .types)) (depths : List ℕ) (deep : (i : ℕ) → i < length (J .types) → getD depths i 0 ≡ depth (tree (J .types) i))
+    (names : List ℕ) (sets : (x : ℕ) → setOkBy (ancestorsBy (namesIn names (length (J .names)))) (length (J .names)) x ≡ setOk (J .names) x) where
+  pub law-o-number : typeEntry (byteOf o-number) s names (length (J .names)) depths (length (J .types)) ≡ judgedW (written o-number (fieldsFrom (operands o-number) s 1)) J
+  unfolding typeEntry typeBy typeBitsOf byteOf written operands fieldsFrom declaredOf declared partsOk typeWord setWord grow depth
+  law-o-number = judged-type J ok depths deep (e-num (fieldAt 1 s 1)) (declared (J .names) (fieldAt 1 s 1)) refl 0 (λ h. refl)
+
+  pub law-o-pair : typeEntry (byteOf o-pair) s names (length (J .names)) depths (length (J .types)) ≡ judgedW (written o-pair (fieldsFrom (operands o-pair) s 1)) J
+  unfolding typeEntry typeBy typeBitsOf byteOf written operands fieldsFrom declaredOf declared partsOk typeWord setWord grow depth
+  law-o-pair =
+      let q = fieldAt 1 s 1 in
+      let a = fieldAt 2 s 2 in
+      let b = fieldAt 2 s 4 in
+      let n = length (J .types) in
+      ap (λ (x : Entry). cond (declared (J .names) q) x (Refuse 6)) (two-parts J ok depths deep (typeWord (e-pair q a b)) 0 a b (ltb a n) (ltb b n) refl refl)
+      ∙ join-three (declared (J .names) q) (ltb a n) (ltb b n) _ (Refuse 6)
+      ∙ judged-type J ok depths deep (e-pair q a b) (declared (J .names) q and ltb a n and ltb b n) refl (max (depth (tree (J .types) a)) (depth (tree (J .types) b))) (λ h. refl)
+
+  pub law-o-cell : typeEntry (byteOf o-cell) s names (length (J .names)) depths (length (J .types)) ≡ judgedW (written o-cell (fieldsFrom (operands o-cell) s 1)) J
+  unfolding typeEntry typeBy typeBitsOf byteOf written operands fieldsFrom declaredOf declared partsOk typeWord setWord grow depth
+  law-o-cell =
+      let q = fieldAt 1 s 1 in
+      let a = fieldAt 2 s 2 in
+      let n = length (J .types) in
+      ap (λ (x : Entry). cond (declared (J .names) q) x (Refuse 6)) (one-part J ok depths deep (typeWord (e-cell q a)) 0 a (ltb a n) refl)
+      ∙ join-two (declared (J .names) q) (ltb a n) _ (Refuse 6)
+      ∙ judged-type J ok depths deep (e-cell q a) (declared (J .names) q and ltb a n) refl (depth (tree (J .types) a)) (λ h. refl)
+
+  pub law-o-function : typeEntry (byteOf o-function) s names (length (J .names)) depths (length (J .types)) ≡ judgedW (written o-function (fieldsFrom (operands o-function) s 1)) J
+  unfolding typeEntry typeBy functionOf typeBitsOf byteOf written operands fieldsFrom declaredOf declared partsOk typeWord setWord grow depth
+  law-o-function =
+      let q = fieldAt 1 s 1 in
+      let a = fieldAt 2 s 2 in
+      let b = fieldAt 2 s 4 in
+      let x = fieldAt 8 s 6 in
+      let n = length (J .types) in
+      ap₂ (λ (o : Bool) (y : Entry). cond (declared (J .names) q) (cond o y (Refuse 6)) (Refuse 6)) (sets x)
+      (two-parts J ok depths deep (typeWord (e-fn q a b x)) x a b (ltb a n) (ltb b n) refl refl)
+      ∙ join-set (declared (J .names) q) (setOk (J .names) x) (ltb a n) (ltb b n) _ (Refuse 6)
+      ∙ judged-type J ok depths deep (e-fn q a b x) (declared (J .names) q and ltb a n and ltb b n and setOk (J .names) x) refl (max (depth (tree (J .types) a)) (depth (tree (J .types) b))) (λ h. refl)
+
+  pub law-o-limit : typeEntry (byteOf o-limit) s names (length (J .names)) depths (length (J .types)) ≡ judgedW (written o-limit (fieldsFrom (operands o-limit) s 1)) J
+  unfolding typeEntry typeBy keyTypeOf typeBitsOf byteOf written operands fieldsFrom declaredOf declared partsOk typeWord setWord grow depth
+  law-o-limit =
+      let q = fieldAt 1 s 1 in
+      let r = fieldAt 1 s 2 in
+      join-key (declared (J .names) q) (eqb r 0) (declared (J .names) r) _ (Refuse 6)
+      ∙ judged-type J ok depths deep (e-lim q r) (declared (J .names) q and declared (J .names) r and not (eqb r 0)) refl 0 (λ h. refl)
+
+  pub law-o-grant : typeEntry (byteOf o-grant) s names (length (J .names)) depths (length (J .types)) ≡ judgedW (written o-grant (fieldsFrom (operands o-grant) s 1)) J
+  unfolding typeEntry typeBy keyTypeOf typeBitsOf byteOf written operands fieldsFrom declaredOf declared partsOk typeWord setWord grow depth
+  law-o-grant =
+      let q = fieldAt 1 s 1 in
+      let r = fieldAt 1 s 2 in
+      join-key (declared (J .names) q) (eqb r 0) (declared (J .names) r) _ (Refuse 6)
+      ∙ judged-type J ok depths deep (e-grant q r) (declared (J .names) q and declared (J .names) r and not (eqb r 0)) refl 0 (λ h. refl)

@@ -1,0 +1,201 @@
+-- What one command writes into the tables, and the tables after it.
+use Prim.Native.Nat.{ℕ, zero, suc, _+_, _*_, _/_, _%_}
+use mathlib.Core.Bool.{Bool, true, false, cond}
+use mathlib.Core.List.{List, [], _∷_}
+use lib.ListN.{length, getD, set}
+use lib.Dec.{eqb, ltb, leb}
+use Rattle.syntax.specs.Job.{Name}
+use Rattle.syntax.specs.Reading.{hostName, openName, localName}
+use Rattle.names.specs.Ancestors.{namesIn, declaredOf, ancestorsBy, setOkBy, rightsOkBy}
+use Rattle.job.specs.Bytes.{fieldAt, widthByte, sectionByte, misplacedBy, fullBy, formOf, slotsOk, limitOk}
+use Rattle.job.specs.declared.Form.{Form}
+use Rattle.job.specs.declared.Shape.{Shape}
+use Rattle.job.specs.declared.Entry.{Entry}
+use Rattle.job.specs.declared.Entry.the-variants.{Refuse, Named, Typed, Valued, Rights, Formed, Last}
+
+-- the depth of part a of a new type, the n-th; 255 where it is not earlier
+unfoldable pub partDepth : List ℕ → ℕ → ℕ → ℕ
+partDepth depths n a = cond (ltb a n) (getD depths a 0) 255
+
+unfoldable pub deeperOf : ℕ → ℕ → ℕ
+deeperOf x y = cond (ltb x y) y x
+
+unfoldable pub typeBitsOf : ℕ → ℕ → ℕ → ℕ → ℕ
+typeBitsOf op q a b = op + 256 * q + 65536 * a + 4294967296 * b
+
+-- a type whose deepest part has depth d
+unfoldable pub typedOf : ℕ → ℕ → ℕ → Entry
+typedOf w s d = cond (ltb d 16) (Typed w s (d + 1)) (Refuse 6)
+
+-- the tables after an entry
+unfoldable pub namesAfter : Entry → Shape → List ℕ → List ℕ
+namesAfter (Refuse n) h t = t
+namesAfter (Named w) h t = set t (h .names + 2) w
+namesAfter (Typed w s d) h t = t
+namesAfter (Valued w) h t = t
+namesAfter (Rights s) h t = t
+namesAfter (Formed f) h t = t
+namesAfter Last h t = t
+
+unfoldable pub typesAfter : Entry → Shape → List ℕ → List ℕ
+typesAfter (Refuse n) h t = t
+typesAfter (Named w) h t = t
+typesAfter (Typed w s d) h t = set t (h .types) w
+typesAfter (Valued w) h t = t
+typesAfter (Rights s) h t = t
+typesAfter (Formed f) h t = t
+typesAfter Last h t = t
+
+unfoldable pub setsAfter : Entry → Shape → List ℕ → List ℕ
+setsAfter (Refuse n) h t = t
+setsAfter (Named w) h t = t
+setsAfter (Typed w s d) h t = set t (h .types) s
+setsAfter (Valued w) h t = t
+setsAfter (Rights s) h t = t
+setsAfter (Formed f) h t = t
+setsAfter Last h t = t
+
+unfoldable pub depthsAfter : Entry → Shape → List ℕ → List ℕ
+depthsAfter (Refuse n) h t = t
+depthsAfter (Named w) h t = t
+depthsAfter (Typed w s d) h t = set t (h .types) d
+depthsAfter (Valued w) h t = t
+depthsAfter (Rights s) h t = t
+depthsAfter (Formed f) h t = t
+depthsAfter Last h t = t
+
+unfoldable pub valuesAfter : Entry → Shape → List ℕ → List ℕ
+valuesAfter (Refuse n) h t = t
+valuesAfter (Named w) h t = t
+valuesAfter (Typed w s d) h t = t
+valuesAfter (Valued w) h t = set t (h .values) w
+valuesAfter (Rights s) h t = t
+valuesAfter (Formed f) h t = t
+valuesAfter Last h t = t
+
+unfoldable pub headsAfter : Entry → Shape → List ℕ → List ℕ
+headsAfter (Refuse n) h t = t
+headsAfter (Named w) h t = t
+headsAfter (Typed w s d) h t = t
+headsAfter (Valued w) h t = t
+headsAfter (Rights s) h t = t
+headsAfter (Formed f) h t = set t (h .cmds) (f .head)
+headsAfter Last h t = t
+
+unfoldable pub fiveAt : List ℕ → ℕ → Form → List ℕ
+fiveAt t i f = set (set (set (set (set t i (f .a)) (i + 1) (f .b)) (i + 2) (f .c)) (i + 3) (f .d)) (i + 4) (f .e)
+
+unfoldable pub slotsAfter : Entry → Shape → List ℕ → List ℕ
+slotsAfter (Refuse n) h t = t
+slotsAfter (Named w) h t = t
+slotsAfter (Typed w s d) h t = t
+slotsAfter (Valued w) h t = t
+slotsAfter (Rights s) h t = t
+slotsAfter (Formed f) h t = fiveAt t (h .cmds * 5) f
+slotsAfter Last h t = t
+
+unfoldable pub shapeAfter : Entry → Shape → Shape
+shapeAfter (Refuse n) h = h
+shapeAfter (Named w) h = record { names = h .names + 1; types = h .types; values = h .values; cmds = h .cmds; rights = h .rights }
+shapeAfter (Typed w s d) h = record { names = h .names; types = h .types + 1; values = h .values; cmds = h .cmds; rights = h .rights }
+shapeAfter (Valued w) h = record { names = h .names; types = h .types; values = h .values + 1; cmds = h .cmds; rights = h .rights }
+shapeAfter (Rights s) h = record { names = h .names; types = h .types; values = h .values; cmds = h .cmds; rights = s }
+shapeAfter (Formed f) h = record { names = h .names; types = h .types; values = h .values; cmds = h .cmds + 1; rights = h .rights }
+shapeAfter Last h = h
+
+-- What the command comes to, by section: names, types, host values, rights, expressions. `s` starts at the command byte.
+
+-- 01, 02: `d` and `h` say whether the upper name u is declared and is a host name or 1
+abbrev pub namedOf : ℕ → ℕ → Bool → Bool → Entry
+namedOf op u d h = cond (eqb u 0) (Refuse 6) (cond d (cond (eqb op 1) (cond h (Named (u + 256)) (Refuse 6)) (Named (u + 512))) (Refuse 6))
+
+unfoldable pub nameEntry : ℕ → List ℕ → List ℕ → ℕ → Entry
+nameEntry op s names n = namedOf op (fieldAt 1 s 1) (declaredOf n (fieldAt 1 s 1)) (hostName (namesIn names n) (fieldAt 1 s 1))
+
+-- 14, 15
+unfoldable pub keyTypeOf : ℕ → ℕ → ℕ → Bool → Entry
+keyTypeOf op q r d = cond (eqb r 0) (Refuse 6) (cond d (typedOf (typeBitsOf op q r 0) 0 0) (Refuse 6))
+
+-- 13
+unfoldable pub functionOf : ℕ → ℕ → ℕ → ℕ → ℕ → Bool → Entry
+functionOf q a b s d ok = cond ok (typedOf (typeBitsOf 0x13 q a b) s d) (Refuse 6)
+
+unfoldable pub twoDepths : List ℕ → ℕ → ℕ → ℕ → ℕ
+twoDepths depths t a b = deeperOf (partDepth depths t a) (partDepth depths t b)
+
+-- 10 to 15, by the key q; t types are declared
+unfoldable pub typeBy : ℕ → ℕ → List ℕ → List ℕ → ℕ → List ℕ → ℕ → Entry
+typeBy op q s names n depths t =
+    cond (eqb op 0x10) (typedOf (typeBitsOf op q 0 0) 0 0)
+    (cond (eqb op 0x11) (typedOf (typeBitsOf op q (fieldAt 2 s 2) (fieldAt 2 s 4)) 0 (twoDepths depths t (fieldAt 2 s 2) (fieldAt 2 s 4)))
+    (cond (eqb op 0x12) (typedOf (typeBitsOf op q (fieldAt 2 s 2) 0) 0 (partDepth depths t (fieldAt 2 s 2)))
+    (cond (eqb op 0x13)
+    (functionOf q (fieldAt 2 s 2) (fieldAt 2 s 4) (fieldAt 8 s 6) (twoDepths depths t (fieldAt 2 s 2) (fieldAt 2 s 4)) (setOkBy (ancestorsBy (namesIn names n)) n (fieldAt 8 s 6)))
+    (keyTypeOf op q (fieldAt 1 s 2) (declaredOf n (fieldAt 1 s 2))))))
+
+unfoldable pub typeEntry : ℕ → List ℕ → List ℕ → ℕ → List ℕ → ℕ → Entry
+typeEntry op s names n depths t = cond (declaredOf n (fieldAt 1 s 1)) (typeBy op (fieldAt 1 s 1) s names n depths t) (Refuse 6)
+
+-- 20
+abbrev pub valuedOf : Bool → ℕ → ℕ → Entry
+valuedOf ok ty n = cond ok (Valued (0x20 + 256 * ty + 16777216 * n)) (Refuse 6)
+
+-- the type's word is w: a cell of unkeyed numbers, or a key of an open name with n 0
+unfoldable pub hostWordOk : List ℕ → List Name → ℕ → ℕ → Bool
+hostWordOk types ds w n =
+    cond (eqb (w % 256) 0x12) (cond (openName ds (w / 256 % 256)) (eqb (getD types (w / 65536 % 65536) 0 % 65536) 0x10) false)
+    (cond (ltb (w % 256) 0x14) false (cond (openName ds (w / 256 % 256)) (cond (openName ds (w / 65536 % 256)) (eqb n 0) false) false))
+
+unfoldable pub valueEntry : List ℕ → List Name → List ℕ → ℕ → Entry
+valueEntry s ds types t =
+    valuedOf (cond (ltb (fieldAt 2 s 1) t) (hostWordOk types ds (getD types (fieldAt 2 s 1) 0) (fieldAt 4 s 3)) false) (fieldAt 2 s 1) (fieldAt 4 s 3)
+
+-- 21
+unfoldable pub rightsEntry : List ℕ → List Name → Entry
+rightsEntry s ds = cond (rightsOkBy (ancestorsBy ds) ds (fieldAt 8 s 1)) (Rights (fieldAt 8 s 1)) (Refuse 6)
+
+-- 30 to 3F: variables, binders, parts, after v host values
+unfoldable pub bindsOk : ℕ → ℕ → Bool
+bindsOk v x = cond (leb v x) (ltb x 64) false
+
+-- x is i or one more
+unfoldable pub eitherOf : ℕ → ℕ → Bool
+eitherOf x i = cond (eqb x i) true (eqb x (i + 1))
+
+unfoldable pub newKeyOk : List ℕ → List Name → ℕ → Bool
+newKeyOk s ds v = cond (bindsOk v (fieldAt 1 s 1)) (localName ds (fieldAt 1 s 2)) false
+
+unfoldable pub leadOk : ℕ → List ℕ → List Name → ℕ → Bool
+leadOk op s ds v =
+    cond (eqb op 0x32) (ltb (fieldAt 1 s 1) 64)
+    (cond (eqb op 0x34) (eitherOf (fieldAt 1 s 3) 1)
+    (cond (eqb op 0x35) (bindsOk v (fieldAt 1 s 1))
+    (cond (eqb op 0x3A) (eitherOf (fieldAt 1 s 1) 0)
+    (cond (eqb op 0x3E) (newKeyOk s ds v)
+    true))))
+
+unfoldable pub placesOk : ℕ → List ℕ → ℕ → ℕ → Bool
+placesOk op s n t = cond (eqb op 0x3C) (limitOk (fieldAt 1 s 1) (formOf op s) n) (slotsOk op (formOf op s) n t)
+
+unfoldable pub formEntry : ℕ → List ℕ → List Name → Shape → Entry
+formEntry op s ds h = cond (placesOk op s (h .cmds) (h .types)) (cond (leadOk op s ds (h .values)) (Formed (formOf op s)) (Refuse 6)) (Refuse 6)
+
+unfoldable pub entryOf : ℕ → List ℕ → List ℕ → List ℕ → List ℕ → Shape → Entry
+entryOf op s names types depths h =
+    cond (eqb (sectionByte op) 0) (nameEntry op s names (h .names))
+    (cond (eqb (sectionByte op) 1) (typeEntry op s names (h .names) depths (h .types))
+    (cond (eqb (sectionByte op) 2) (valueEntry s (namesIn names (h .names)) types (h .types))
+    (cond (eqb (sectionByte op) 3) (rightsEntry s (namesIn names (h .names)))
+    (cond (eqb (sectionByte op) 4) (formEntry op s (namesIn names (h .names)) h)
+    Last))))
+
+-- 4 where the input ends first, then 5
+abbrev pub inRoom : Bool → Bool → Entry → Entry
+inRoom ends full e = cond ends (Refuse 4) (cond full (Refuse 5) e)
+
+-- 2, 3, 4, 5 and 6 in this order
+unfoldable pub judgedBy : ℕ → List ℕ → ℕ → Shape → List ℕ → List ℕ → List ℕ → Entry
+judgedBy b s cur h names types depths =
+    cond (eqb (widthByte b) 255) (Refuse 2)
+    (cond (misplacedBy cur (sectionByte b) (h .cmds)) (Refuse 3)
+    (inRoom (leb (length s) (widthByte b)) (fullBy (sectionByte b) (h .names) (h .types) (h .values) (h .cmds)) (entryOf b s names types depths h)))

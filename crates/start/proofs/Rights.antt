@@ -1,0 +1,57 @@
+-- The keys of the names that the rights have, added one after another.
+use Prim.Native.Nat.{ℕ, _-_, _%_, _^_, _<_, _≤_}
+use mathlib.Core.Path.{_≡_, refl, ap, sym, _∙_}
+use mathlib.Core.Bool.{Bool, true, false, cond, _||_}
+use mathlib.Core.List.{List, map}
+use native.Mathlib.Omega.{arith}
+use borrow.Author.Tests.{lt-ltb}
+use lib.Dec.{ltb}
+use lib.Bits.{bitAnd, bitOr, or-zero-l, or-zero-r}
+use Rattle.order.specs.Sets.{bit, membersFrom, members, setOf}
+use Rattle.order.specs.SetLaws.{set-ext, bit-or}
+use Rattle.order.specs.Effects.{names}
+use Rattle.names.specs.Ancestors.{lowest, nonzero}
+use Rattle.names.specs.Walk.{members-step, names-members}
+use Rattle.store.specs.Meaning.{keysIn}
+use Rattle.store.specs.Tables.{capped}
+use Rattle.start.specs.Entries.{Within}
+
+cap-within : (k n : ℕ) → k < n → n ≤ 128 → ltb k (capped n 128) ≡ true
+cap-within k n h l = at (ltb n 128) refl
+  where
+    at : (b : Bool) → ltb n 128 ≡ b → ltb k (cond b n 128) ≡ true
+    at true e = lt-ltb k n h
+    at false e = lt-ltb k 128 (omega arith)
+
+or-swap : (a b c : ℕ) → bitOr a (bitOr b c) ≡ bitOr (bitOr b a) c
+or-swap a b c = set-ext (bitOr a (bitOr b c)) (bitOr (bitOr b a) c) (λ i. simp bit-or (at (bit a i) (bit b i) (bit c i)))
+  where
+    at : (x y z : Bool) → (x || (y || z)) ≡ ((y || x) || z)
+    at true true z = refl
+    at true false z = refl
+    at false true z = refl
+    at false false z = refl
+
+module _ (f : ℕ → ℕ) where
+  pub no-key : (s : ℕ) → setOf (map f (names s)) ≡ bitOr (keysIn (record { 0 = 0; 1 = 0 })) (setOf (map f (members (s - s % 2))))
+  unfolding keysIn nonzero
+  no-key s = ap (λ (l : List ℕ). setOf (map f l)) (names-members s) ∙ sym (or-zero-l _)
+
+  pub next-key :
+      (s n i k nkeys on next : ℕ) → Within f nkeys → 0 < s → s < 2 ^ 64 → n ≡ bitOr on (setOf (map f (members s))) → i ≡ lowest s → k ≡ f i →
+      next ≡ cond (ltb k (capped nkeys 128)) (bitOr (2 ^ k) on) on → n ≡ bitOr next (setOf (map f (members (bitAnd s (s - 1)))))
+  unfolding setOf
+  next-key s n i k nkeys on next w h b e ei ek en =
+      let l : k < nkeys = omega (arith, w .each i) in
+      let x : next ≡ bitOr (2 ^ k) on = en ∙ ap (λ (c : Bool). cond c (bitOr (2 ^ k) on) on) (cap-within k nkeys l (w .few)) in
+      let y : f (lowest s) ≡ k = ap f (sym ei) ∙ sym ek in
+      e ∙ ap (λ (m : List ℕ). bitOr on (setOf (map f m))) (members-step s h b)
+      ∙ ap (λ (j : ℕ). bitOr on (bitOr (2 ^ j) (setOf (map f (members (bitAnd s (s - 1))))))) y
+      ∙ or-swap on (2 ^ k) (setOf (map f (members (bitAnd s (s - 1)))))
+      ∙ ap (λ (j : ℕ). bitOr j (setOf (map f (members (bitAnd s (s - 1)))))) (sym x)
+
+  pub last-key : (s n on : ℕ) → s ≤ 0 → n ≡ bitOr on (setOf (map f (members s))) → on ≡ n
+  unfolding members membersFrom setOf
+  last-key s n on h e =
+      let z : s ≡ 0 = omega arith in
+      sym (e ∙ ap (λ (t : ℕ). bitOr on (setOf (map f (members t)))) z ∙ or-zero-r on)

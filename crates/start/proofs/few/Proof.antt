@@ -1,0 +1,13 @@
+use borrow.Author.Needs.{needs}
+use borrow.Author.Tests.{lt-ltb, le-ltb}
+use Rattle.start.proofs.few.Statement.{statement}
+use Rattle.start.proofs.few.Tie as tie
+
+returns : tie.Need-returns
+returns c = (simp (lt-ltb _ _ (c .if1 .taken)), search needs)
+
+returns-2 : tie.Need-returns-2
+returns-2 c = (simp (le-ltb _ _ (c .if1 .left)), search needs)
+
+pub few-spec : {M : Type 1} → statement M
+few-spec = tie.close (tie.spec returns returns-2)
