@@ -22,6 +22,7 @@ use Rattle.semantics.specs.Step as Step
 use Rattle.semantics.specs.Room as Room
 use Rattle.semantics.specs.Start as Start
 use Rattle.semantics.specs.Calls as Calls
+use Rattle.semantics.specs.Starting as Starting
 use Rattle.semantics.specs.MarkedSteps as MarkedSteps
 use Rattle.report.specs.Lines as Lines
 use Rattle.marked.specs.Jobs as Jobs
@@ -64,9 +65,13 @@ pub record Told : Type 0 where
 unfoldable pub told : Calls.Ran → Told
 told r = record { answer = r .answer; count = r .count }
 
-unfoldable pub started : ℕ → Reading.Read → Option Told
-started n (Reading.refused r) = none
-started n (Reading.read J) = some (told (Calls.run (Operands.nth (J .cmds)) n 0 (Start.startOf (Job.sourceOf J))))
+unfoldable pub ranFrom : ℕ → Reading.Read → Starting.Started → Option Told
+ranFrom n (Reading.refused r) st = none
+ranFrom n (Reading.read J) (Starting.unstarted r) = none
+ranFrom n (Reading.read J) (Starting.started m) = some (told (Calls.run (Operands.nth (J .cmds)) n 0 m))
+
+unfoldable pub started : ℕ → List ℕ → Option Told
+started n s = ranFrom n (Reading.reading s) (Starting.starting s)
 
 pub record Marked : Type 0 where
   -- {3} below {2}
@@ -94,15 +99,17 @@ pub record Marked : Type 0 where
   pub unkeyed-done : Lines.deskOf Jobs.unkeyedRead ≡ unkeyedLines
   -- a keyed read inside a limit without keys refused with 13
   pub limited-refused : Verdict.verdictOf Jobs.limitedRead ≡ Verdict.refuse (record { number = 13; place = 2 })
+  -- and denied, when it is started anyway: a limit without keys enables nothing
+  pub limited-denied : started 100000 Jobs.limitedRead ≡ some (record { answer = Calls.denied; count = 3 })
   -- the example "prints, whole"
   pub example-lines : Lines.deskOf (Jobs.example 0x04) ≡ exampleLines
   -- "With rights 00 in place of 04: `refused 14 at 1`"
   pub example-refused : Lines.deskOf (Jobs.example 0x00) ≡ refusedLine
   -- "the machine, started anyway, is denied after 2 steps"
-  pub example-denied : started 100000 (Reading.reading (Jobs.example 0x00)) ≡ some (record { answer = Calls.denied; count = 2 })
+  pub example-denied : started 100000 (Jobs.example 0x00) ≡ some (record { answer = Calls.denied; count = 2 })
 
 pub marked : Marked
-unfolding Bools._and_ Bools._or_ Order.onUpper Order.belowIn Order.below Sets.bit Sets.consIf Sets.membersFrom Sets.members Sets.setOf Sets.keep Sets.some-of Sets.all-of Effects.names Effects.touch Effects.join Effects.effBelow Effects.maximal Effects.reduced Effects.reduce Effects.drop Effects.raise Types.keyOf Types.rekey Types.depth Types.namesIn Types.grow Types.treeIn Types.tree Commands.mapCmd Commands.commands Commands.findOp Commands.opOf Commands.operands Commands.total Commands.width Commands.sectionOf Commands.little Commands.fields Operands.nth Operands.plain Operands.inner Operands.kids Operands.typesOf Operands.usesVar Operands.bindsVar Operands.bindsName Job.uppers Job.valueOf Job.sourceOf Reading.declared Reading.isHost Reading.hostName Reading.openName Reading.localName Reading.setOk Reading.nameOk Reading.partsOk Reading.typeOk Reading.unkeyedNumber Reading.hostTypeOk Reading.hostValueOk Reading.rightsOk Reading.cmdOk Reading.partOf Reading.sumOf Reading.limitOf Reading.written Reading.given Reading.enter Reading.misplaced Reading.full Reading.settle Reading.command Reading.ended Reading.onward Reading.onOp Reading.readFrom Reading.reading Tree.binds Tree.varsOf Tree.namesOf Tree.memB Tree.usesName Tree.addHost Tree.nameCtx Tree.valueCtx Tree.hostCtx Tree.past Tree.root Tree.count Tree.uses Tree.usedRight Tree.boundBy Tree.bindsNew Tree.parent Tree.scopeIn Tree.ctx Tree.nameIn Tree.inScope Tree.firstBad Tree.orElse Tree.numbered Tree.lowest Tree.treeRefusal Subtype.onNum Subtype.onPair Subtype.onCell Subtype.onFn Subtype.onLim Subtype.onGrant Subtype.sameTy Subtype.subTy Subtype.superTy Least.with Least.wantNum Least.wantPair Least.wantCell Least.wantFn Least.wantLim Least.wantGrant Least.require Least.isUpper Least.pick Least.typeIn Least.varType Least.ofVar Least.keysAt Least.typeAt Least.get Least.extend Least.typesTo Least.types Least.typeOf Least.firstUntyped Verdict.unless Verdict.within Verdict.judged Verdict.judge Verdict.judgeRead Verdict.verdictOf Keys.enabled Keys.upto Keys.narrow Keys.add Step.room Step.touch Step.onNum Step.onPair Step.onFn Step.onCell Step.onLim Step.onGrant Step.found Step.one Step.two Step.actPair Step.partOf Step.actPart Step.call Step.actApp Step.actNew Step.actAsg Step.actRead Step.sumN Step.actSum Step.branch Step.actTest Step.limitKeys Step.touchAll Step.actLim Step.actGrant Step.newKey Step.actNewkey Step.actAssoc Step.worked Step.act Step.seekIn Step.seekAt Step.seek Step.variable Step.newFn Step.push Step.enterLim Step.enterCmd Step.receive Step.handTo Step.stepOn Step.step Room.doneAt Room.isDone Room.full Room.lacksEnter Room.lacksAct Room.lacksReceive Room.lacksHand Room.lacksOn Room.lacks Start.bindTo Start.addName Start.addNames Start.named Start.hostValue Start.hostCell Start.addValues Start.keyNamed Start.valued Start.startOf Calls.turn Calls.run Calls.call Calls.calls Lines.decimalIn Lines.decimal Lines.hexDigit Lines.hex Lines.w-refused Lines.w-at Lines.w-accepted Lines.w-done Lines.w-spent Lines.w-no-room Lines.w-number Lines.w-pair Lines.w-cell Lines.w-function Lines.w-limit Lines.w-grant Lines.space Lines.line Lines.typeKind Lines.valueKind Lines.handed Lines.refusedLine Lines.acceptedLine Lines.ranLine Lines.ranOf Lines.runLine Lines.runRead Lines.reported Lines.deskOf Lines.printed flatMap Jobs.example Jobs.cellsFrom Jobs.nested Jobs.unkeyedRead Jobs.limitedRead isRead told started
+unfolding Bools._and_ Bools._or_ Order.onUpper Order.belowIn Order.below Sets.bit Sets.consIf Sets.membersFrom Sets.members Sets.setOf Sets.keep Sets.some-of Sets.all-of Effects.names Effects.touch Effects.join Effects.effBelow Effects.maximal Effects.reduced Effects.reduce Effects.drop Effects.raise Types.keyOf Types.rekey Types.depth Types.namesIn Types.grow Types.treeIn Types.tree Commands.mapCmd Commands.commands Commands.findOp Commands.opOf Commands.operands Commands.total Commands.width Commands.sectionOf Commands.little Commands.fields Operands.nth Operands.plain Operands.inner Operands.kids Operands.typesOf Operands.usesVar Operands.bindsVar Operands.bindsName Job.uppers Job.valueOf Job.sourceOf Reading.declared Reading.isHost Reading.hostName Reading.openName Reading.localName Reading.setOk Reading.nameOk Reading.partsOk Reading.typeOk Reading.unkeyedNumber Reading.hostTypeOk Reading.hostValueOk Reading.rightsOk Reading.cmdOk Reading.partOf Reading.sumOf Reading.limitOf Reading.written Reading.given Reading.enter Reading.misplaced Reading.full Reading.settle Reading.command Reading.ended Reading.onward Reading.onOp Reading.readFrom Reading.reading Tree.binds Tree.varsOf Tree.namesOf Tree.memB Tree.usesName Tree.addHost Tree.nameCtx Tree.valueCtx Tree.hostCtx Tree.past Tree.root Tree.count Tree.uses Tree.usedRight Tree.boundBy Tree.bindsNew Tree.parent Tree.scopeIn Tree.ctx Tree.nameIn Tree.inScope Tree.firstBad Tree.orElse Tree.numbered Tree.lowest Tree.treeRefusal Subtype.onNum Subtype.onPair Subtype.onCell Subtype.onFn Subtype.onLim Subtype.onGrant Subtype.sameTy Subtype.subTy Subtype.superTy Least.with Least.wantNum Least.wantPair Least.wantCell Least.wantFn Least.wantLim Least.wantGrant Least.require Least.isUpper Least.pick Least.typeIn Least.varType Least.ofVar Least.keysAt Least.typeAt Least.get Least.extend Least.typesTo Least.types Least.typeOf Least.firstUntyped Verdict.unless Verdict.within Verdict.judged Verdict.judge Verdict.judgeRead Verdict.verdictOf Keys.enabled Keys.upto Keys.narrow Keys.add Step.room Step.touch Step.onNum Step.onPair Step.onFn Step.onCell Step.onLim Step.onGrant Step.found Step.one Step.two Step.actPair Step.partOf Step.actPart Step.call Step.actApp Step.actNew Step.actAsg Step.actRead Step.sumN Step.actSum Step.branch Step.actTest Step.limitKeys Step.touchAll Step.actLim Step.actGrant Step.newKey Step.actNewkey Step.actAssoc Step.worked Step.act Step.seekIn Step.seekAt Step.seek Step.variable Step.newFn Step.push Step.enterLim Step.enterCmd Step.receive Step.handTo Step.stepOn Step.step Room.doneAt Room.isDone Room.full Room.lacksEnter Room.lacksAct Room.lacksReceive Room.lacksHand Room.lacksOn Room.lacks Start.bindTo Start.addName Start.addNames Start.named Start.hostValue Start.hostCell Start.addValues Start.keyNamed Start.valued Start.startOf Calls.turn Calls.run Calls.call Calls.calls Lines.decimalIn Lines.decimal Lines.hexDigit Lines.hex Lines.w-refused Lines.w-at Lines.w-accepted Lines.w-done Lines.w-spent Lines.w-no-room Lines.w-number Lines.w-pair Lines.w-cell Lines.w-function Lines.w-limit Lines.w-grant Lines.space Lines.line Lines.typeKind Lines.valueKind Lines.handed Lines.refusedLine Lines.acceptedLine Lines.ranLine Lines.ranOf Lines.runLine Lines.runRead Lines.reported Lines.deskOf Lines.printed flatMap Jobs.example Jobs.cellsFrom Jobs.nested Jobs.unkeyedRead Jobs.limitedRead isRead told ranFrom started Starting.unless Starting.startRead Starting.starting
 marked =
     record {
       below = refl;
@@ -118,6 +125,7 @@ marked =
       difference-wraps = MarkedSteps.difference-wraps;
       unkeyed-done = refl;
       limited-refused = refl;
+      limited-denied = refl;
       example-lines = refl;
       example-refused = refl;
       example-denied = refl;

@@ -17,6 +17,7 @@ use Rattle.typing.specs.Rules.{codeOf}
 use Rattle.semantics.specs.Start.{startOf}
 use Rattle.semantics.specs.Calls.{Call, Ran, calls, AllGive}
 use Rattle.semantics.specs.TypeFree.{calls-same, all-same}
+use Rattle.semantics.specs.Only.{all-one}
 use Rattle.semantics.specs.Safety.{safety}
 
 -- the expressions of a job as it is read
@@ -45,3 +46,7 @@ demand3 s h =
     from J cs g =
         subst (λ l. Allowed J cs l) (calls-same (tree (J .types)) (exprOf J) (codeOf (sourceOf J)) (same-code J) cs (startOf (sourceOf J)))
         (all-same (tree (J .types)) (exprOf J) (codeOf (sourceOf J)) (same-code J) g)
+
+-- and nothing else is allowed: what a list of calls may give is what it gives
+pub demand3-one : (J : Job) (cs : List Call) (l : List Ran) → Allowed J cs l → Allowed J cs (callsOf J cs) → callsOf J cs ≡ l
+demand3-one J cs l g h = all-one (exprOf J) h g

@@ -3,6 +3,7 @@ pub mod Keys
 pub mod Step
 pub mod Room
 pub mod Start
+pub mod Starting
 pub mod Calls
 pub mod MarkedSteps
 pub mod TypeFree

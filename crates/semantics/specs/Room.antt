@@ -1,4 +1,4 @@
--- "finished" and "needs a place that is not there", each defined apart from the step.
+-- "finished" and "needs a place that is not there", each defined apart from the step function; they share with it only which operands are worked out before an act.
 use Prim.Native.Nat.{ℕ, suc}
 use mathlib.Core.Bool.{Bool, true, false}
 use mathlib.Core.List.{List, [], _∷_}

@@ -1,4 +1,4 @@
--- What the operands of an expression are: expressions, variables, types. Uses, binders, scopes and the order of steps all go through these.
+-- What the operands of an expression are: expressions, variables, types. Uses, references and scopes go through these.
 use Prim.Native.Nat.{ℕ, zero, suc}
 use mathlib.Core.List.{List, [], _∷_, _++_}
 use Rattle.syntax.specs.Commands.{Cmd, c-num, c-top, c-var, c-pair, c-part, c-fn, c-app, c-new, c-asg, c-read, c-sum, c-test, c-lim, c-grant, c-newkey, c-assoc}

@@ -5,8 +5,7 @@ use mathlib.Core.List.{List, [], _∷_, _++_}
 use mathlib.Core.Option.{Option, none, some}
 use lib.ListN.{length, getElem?}
 use lib.Dec.{eqb}
-use Rattle.order.specs.Sets.{setOf}
-use Rattle.order.specs.Effects.{Effect, pure, touch, join, drop, raise, reduce, effBelow}
+use Rattle.order.specs.Effects.{Effect, pure, ofNames, touch, join, drop, raise, reduce, effBelow}
 use Rattle.syntax.specs.Types.{Ty, num, pair, cell, fn, lim, grant, keyOf, rekey}
 use Rattle.syntax.specs.Commands.{Cmd, c-num, c-top, c-var, c-pair, c-part, c-fn, c-app, c-new, c-asg, c-read, c-sum, c-test, c-lim, c-grant, c-newkey, c-assoc}
 use Rattle.syntax.specs.Operands.{nth}
@@ -124,7 +123,7 @@ typeAt S tab (c-sum i a b) =
 typeAt S tab (c-test a b c T) =
     with (tab a) (λ A s. with (tab b) (λ B t. with (tab c) (λ C u.
     wantNum A (λ q. require 12 (subTy (upOf S) B T) (require 12 (subTy (upOf S) C T) (typed T (reduce (upOf S) (touch q (join s (join t u))))))))))
-typeAt S tab (c-lim ks b) = keysAt tab ks (λ rs s. with (tab b) (λ T t. require 13 (effBelow (upOf S) t (setOf rs)) (typed T (reduce (upOf S) (join s t)))))
+typeAt S tab (c-lim ks b) = keysAt tab ks (λ rs s. with (tab b) (λ T t. require 13 (effBelow (upOf S) t (ofNames rs)) (typed T (reduce (upOf S) (join s t)))))
 typeAt S tab (c-grant a b) =
     with (tab a) (λ A s. with (tab b) (λ T t. wantGrant A (λ q r. typed T (reduce (upOf S) (touch q (join s (drop (upOf S) r t)))))))
 typeAt S tab (c-newkey x r a b T) =
@@ -133,7 +132,7 @@ typeAt S tab (c-newkey x r a b T) =
 typeAt S tab (c-assoc a b) =
     with (tab a) (λ A s. with (tab b) (λ B t. wantLim B (λ q r. typed (rekey r A) (reduce (upOf S) (touch (keyOf A) (touch q (join s t)))))))
 
--- what is written in a list of results; past its end nothing
+-- what is written in a list of results; past its end there is none, and 0 is no refusal's number
 unfoldable pub get : List Typed → ℕ → Typed
 get [] e = untyped 0
 get (x ∷ l) zero = x

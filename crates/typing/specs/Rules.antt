@@ -1,5 +1,5 @@
 -- The rules of document 01 ("Types of expressions"), to be held against Figure 2 of document 000: `Has S Γ e T s` says that in the context Γ expression e of
--- the job S has type T and effect s. One rule a command, and subsumption.
+-- the job S has type T and effect s. A rule for each command (two for 34, by its part), and subsumption.
 use mathlib.Core.Path.{_≡_}
 use Prim.Native.Nat.{ℕ, _<_}
 use mathlib.Core.Bool.{Bool, true, false}
@@ -8,8 +8,7 @@ use mathlib.Core.Option.{some}
 use mathlib.Core.Logic.{_≢_}
 use lib.ListN.{getElem?}
 use Rattle.order.specs.Order.{Below}
-use Rattle.order.specs.Sets.{setOf}
-use Rattle.order.specs.Effects.{Effect, pure, touch, join, drop, raise, EffBelow}
+use Rattle.order.specs.Effects.{Effect, pure, ofNames, touch, join, drop, raise, EffBelow}
 use Rattle.syntax.specs.Types.{Ty, num, pair, cell, fn, lim, grant, keyOf, rekey, namesIn}
 use Rattle.syntax.specs.Commands.{Cmd, c-num, c-top, c-var, c-pair, c-part, c-fn, c-app, c-new, c-asg, c-read, c-sum, c-test, c-lim, c-grant, c-newkey, c-assoc}
 use Rattle.syntax.specs.Operands.{nth}
@@ -33,7 +32,7 @@ pub data Absent (a : ℕ) : List Entry → Type 0 where
   a-var : {x : ℕ} {T : Ty} {Γ : List Entry} → Absent a Γ → Absent a (e-var x T ∷ Γ)
   a-name : {r : ℕ} {Γ : List Entry} → a ≢ r → Absent a Γ → Absent a (e-name r ∷ Γ)
 
--- r may be put into the context: it is a local name that neither the context nor a type in it has
+-- r may be put into the context: it is neither 0 nor 1, not its own upper name, and neither the context (which has the host's names) nor a type in it has it
 pub record Fresh (up : List ℕ) (Γ : List Entry) (r : ℕ) : Type 0 where
   pub free : (x : ℕ) (T : Ty) → Lookup Γ x T → Free r T
   pub local : 1 < r
@@ -87,7 +86,7 @@ mutual
         → Has S Γ a (num q) s → Has S Γ b B t → Has S Γ c C u → Sub (upOf S) B T → Sub (upOf S) C T → Has S Γ e T (touch q (join s (join t u)))
     -- 3C: every key is touched; "needs the body's effect below the set of its keys' names, and keeps that effect"
     h-lim : {Γ : List Entry} {e b : ℕ} {ks rs : List ℕ} {T : Ty} {s t : Effect} → codeOf S e ≡ c-lim ks b
-        → HasKeys S Γ ks rs s → Has S Γ b T t → EffBelow (upOf S) t (setOf rs) → Has S Γ e T (join s t)
+        → HasKeys S Γ ks rs s → Has S Γ b T t → EffBelow (upOf S) t (ofNames rs) → Has S Γ e T (join s t)
     -- 3D: the key is touched; "drops from the body's effect all names below the granted name"
     h-grant : {Γ : List Entry} {e a b q r : ℕ} {T : Ty} {s t : Effect} → codeOf S e ≡ c-grant a b
         → Has S Γ a (grant q r) s → Has S Γ b T t → Has S Γ e T (touch q (join s (drop (upOf S) r t)))

@@ -5,7 +5,7 @@ use mathlib.Core.List.{List, [], _∷_, map}
 use lib.ListN.{length, replicate}
 use lib.Dec.{ltb}
 use Rattle.order.specs.Bools.{_or_}
-use Rattle.order.specs.Effects.{Effect}
+use Rattle.order.specs.Effects.{Effect, pure}
 use Rattle.syntax.specs.Job.{Job, sourceOf}
 use Rattle.syntax.specs.Reading.{Refusal, Read, refused, read, reading}
 use Rattle.syntax.specs.Words.{filled, nameWords, typeWords, setWords, valueWords, headWords, slotWords}
@@ -24,11 +24,11 @@ pub record Tables : Type 0 where
   pub entries : List ℕ
   pub effects : List ℕ
 
--- "type table: 2,304 entries"; an expression has five places for operands of two bytes
+-- "type table: 2,304 entries"
 abbrev pub most-entries : ℕ
 most-entries = 2304
 
--- 1: "a lent work table is shorter than its limit"
+-- 1: "a lent work table is shorter than its limit". An expression has five places for operands of two bytes, so 512 have 2,560
 unfoldable pub short : Tables → Bool
 short w =
     ltb (length (w .names)) 64
@@ -59,7 +59,7 @@ cleared w =
 
 unfoldable pub effectOf : Typed → Effect
 effectOf (typed T s) = s
-effectOf (untyped n) = 0
+effectOf (untyped n) = pure
 
 unfoldable pub effectIn : Job → ℕ → Effect
 effectIn J e = effectOf (typeOf (sourceOf J) e)
