@@ -135,15 +135,15 @@ kept {J = J} {n = n} {kn = kn} {kt = kt} o a =
 -- The tables after an entry
 
 module _ (J : Job) (g g' : Shape) (d n t s v h p d' n' t' s' v' h' p' : List ℕ) (kn kt ks kv kh kp : ℕ) (long : Long kn kt ks kv kh kp) (a : Tables J g d n t s v h p kn kt ks kv kh kp) where
-  grow-name : (x : Name) → 2 + length (J .names ++ (x ∷ [])) ≤ 64 → Put (Named (nameWord x)) g g' d n t s v h p d' n' t' s' v' h' p' → Tables (grown (w-name x) J) g' d' n' t' s' v' h' p' kn kt ks kv kh kp
+  grow-name : (x : Name) → 2 + length (J .names ++ (x ∷ [])) ≤ 64 → g' ≡ shapeAfter (Named (nameWord x)) g → Put (Named (nameWord x)) g d n t s v h p d' n' t' s' v' h' p' → Tables (grown (w-name x) J) g' d' n' t' s' v' h' p' kn kt ks kv kh kp
   unfolding grown shapeOf shapeAfter namesAfter typesAfter setsAfter depthsAfter valuesAfter headsAfter slotsAfter
-  grow-name x r q =
+  grow-name x r w' q =
       let w : length (map nameWord (J .names)) ≡ length (J .names) = length-map (J .names) nameWord in
       let y = length-snoc (J .names) x in
       let e : g .names ≡ length (J .names) = ap (λ (k : Shape). k .names) (a .shape) in
       record {
         shape =
-            q .shape ∙ ap (λ (k : Shape). shapeAfter (Named (nameWord x)) k) (a .shape)
+            w' ∙ ap (λ (k : Shape). shapeAfter (Named (nameWord x)) k) (a .shape)
             ∙ ap (λ (k : ℕ). record { names = k; types = length (J .types); values = length (J .values); cmds = length (J .cmds); rights = J .rights }) (add-one (length (J .names)) ∙ sym y);
         holds =
             record {
@@ -159,17 +159,17 @@ module _ (J : Job) (g g' : Shape) (d n t s v h p d' n' t' s' v' h' p' : List ℕ
         five = a .five;
       }
 
-  grow-type : (x : TypeEntry) → TypesOk (J .names) (J .types) → length (J .types ++ (x ∷ [])) ≤ 256 → Put (Typed (typeWord x) (setWord x) (newDepth J x)) g g' d n t s v h p d' n' t' s' v' h' p'
+  grow-type : (x : TypeEntry) → TypesOk (J .names) (J .types) → length (J .types ++ (x ∷ [])) ≤ 256 → g' ≡ shapeAfter (Typed (typeWord x) (setWord x) (newDepth J x)) g → Put (Typed (typeWord x) (setWord x) (newDepth J x)) g d n t s v h p d' n' t' s' v' h' p'
       → Tables (grown (w-type x) J) g' d' n' t' s' v' h' p' kn kt ks kv kh kp
   unfolding grown shapeOf shapeAfter namesAfter typesAfter setsAfter depthsAfter valuesAfter headsAfter slotsAfter newDepth
-  grow-type x ok r q =
+  grow-type x ok r w' q =
       let w : length (map typeWord (J .types)) ≡ length (J .types) = length-map (J .types) typeWord in
       let u : length (map setWord (J .types)) ≡ length (J .types) = length-map (J .types) setWord in
       let y = length-snoc (J .types) x in
       let e : g .types ≡ length (J .types) = ap (λ (k : Shape). k .types) (a .shape) in
       record {
         shape =
-            q .shape ∙ ap (λ (k : Shape). shapeAfter (Typed (typeWord x) (setWord x) (newDepth J x)) k) (a .shape)
+            w' ∙ ap (λ (k : Shape). shapeAfter (Typed (typeWord x) (setWord x) (newDepth J x)) k) (a .shape)
             ∙ ap (λ (k : ℕ). record { names = length (J .names); types = k; values = length (J .values); cmds = length (J .cmds); rights = J .rights }) (add-one (length (J .types)) ∙ sym y);
         holds =
             record {
@@ -196,15 +196,15 @@ module _ (J : Job) (g g' : Shape) (d n t s v h p d' n' t' s' v' h' p' : List ℕ
           ap (λ (o : ℕ). getD (set d (g .types) (newDepth J x)) o 0) j ∙ getD-set-same d (g .types) (newDepth J x) 0 (omega (arith, a .depths-long, length-snoc (J .types) x))
           ∙ sym (ap (λ (o : ℕ). depth (tree (J .types ++ (x ∷ [])) o)) k)
 
-  grow-value : (x : HostValue ℕ) → length (J .values ++ (x ∷ [])) ≤ 64 → Put (Valued (valueWord x)) g g' d n t s v h p d' n' t' s' v' h' p' → Tables (grown (w-value x) J) g' d' n' t' s' v' h' p' kn kt ks kv kh kp
+  grow-value : (x : HostValue ℕ) → length (J .values ++ (x ∷ [])) ≤ 64 → g' ≡ shapeAfter (Valued (valueWord x)) g → Put (Valued (valueWord x)) g d n t s v h p d' n' t' s' v' h' p' → Tables (grown (w-value x) J) g' d' n' t' s' v' h' p' kn kt ks kv kh kp
   unfolding grown shapeOf shapeAfter namesAfter typesAfter setsAfter depthsAfter valuesAfter headsAfter slotsAfter
-  grow-value x r q =
+  grow-value x r w' q =
       let w : length (map valueWord (J .values)) ≡ length (J .values) = length-map (J .values) valueWord in
       let y = length-snoc (J .values) x in
       let e : g .values ≡ length (J .values) = ap (λ (k : Shape). k .values) (a .shape) in
       record {
         shape =
-            q .shape ∙ ap (λ (k : Shape). shapeAfter (Valued (valueWord x)) k) (a .shape)
+            w' ∙ ap (λ (k : Shape). shapeAfter (Valued (valueWord x)) k) (a .shape)
             ∙ ap (λ (k : ℕ). record { names = length (J .names); types = length (J .types); values = k; cmds = length (J .cmds); rights = J .rights }) (add-one (length (J .values)) ∙ sym y);
         holds =
             record {
@@ -220,11 +220,11 @@ module _ (J : Job) (g g' : Shape) (d n t s v h p d' n' t' s' v' h' p' : List ℕ
         five = a .five;
       }
 
-  grow-rights : (x : ℕ) → Put (Rights x) g g' d n t s v h p d' n' t' s' v' h' p' → Tables (grown (w-rights x) J) g' d' n' t' s' v' h' p' kn kt ks kv kh kp
+  grow-rights : (x : ℕ) → g' ≡ shapeAfter (Rights x) g → Put (Rights x) g d n t s v h p d' n' t' s' v' h' p' → Tables (grown (w-rights x) J) g' d' n' t' s' v' h' p' kn kt ks kv kh kp
   unfolding grown shapeOf shapeAfter namesAfter typesAfter setsAfter depthsAfter valuesAfter headsAfter slotsAfter
-  grow-rights x q =
+  grow-rights x w' q =
       record {
-        shape = q .shape ∙ ap (λ (k : Shape). shapeAfter (Rights x) k) (a .shape);
+        shape = w' ∙ ap (λ (k : Shape). shapeAfter (Rights x) k) (a .shape);
         holds =
             record {
               names = q .names ∙ a .holds .names;
@@ -239,16 +239,16 @@ module _ (J : Job) (g g' : Shape) (d n t s v h p d' n' t' s' v' h' p' : List ℕ
         five = a .five;
       }
 
-  grow-cmd : (x : Cmd ℕ) → length (slots x) ≡ 5 → length (J .cmds ++ (x ∷ [])) ≤ 512 → Put (Formed (wordsOf x)) g g' d n t s v h p d' n' t' s' v' h' p' → Tables (grown (w-cmd x) J) g' d' n' t' s' v' h' p' kn kt ks kv kh kp
+  grow-cmd : (x : Cmd ℕ) → length (slots x) ≡ 5 → length (J .cmds ++ (x ∷ [])) ≤ 512 → g' ≡ shapeAfter (Formed (wordsOf x)) g → Put (Formed (wordsOf x)) g d n t s v h p d' n' t' s' v' h' p' → Tables (grown (w-cmd x) J) g' d' n' t' s' v' h' p' kn kt ks kv kh kp
   unfolding grown shapeOf shapeAfter namesAfter typesAfter setsAfter depthsAfter valuesAfter headsAfter slotsAfter wordsOf
-  grow-cmd x l r q =
+  grow-cmd x l r w' q =
       let w : length (map headWord (J .cmds)) ≡ length (J .cmds) = length-map (J .cmds) headWord in
       let y = length-snoc (J .cmds) x in
       let e : g .cmds ≡ length (J .cmds) = ap (λ (k : Shape). k .cmds) (a .shape) in
       let f : slotWords J ++ (wordsOf x .a ∷ wordsOf x .b ∷ wordsOf x .c ∷ wordsOf x .d ∷ wordsOf x .e ∷ []) ≡ flatMap slots (J .cmds ++ (x ∷ [])) = ap (λ (m : List ℕ). slotWords J ++ m) (sym (five-entries (slots x) l)) ∙ sym (flat-snoc slots (J .cmds) x) in
       record {
         shape =
-            q .shape ∙ ap (λ (k : Shape). shapeAfter (Formed (wordsOf x)) k) (a .shape)
+            w' ∙ ap (λ (k : Shape). shapeAfter (Formed (wordsOf x)) k) (a .shape)
             ∙ ap (λ (k : ℕ). record { names = length (J .names); types = length (J .types); values = length (J .values); cmds = k; rights = J .rights }) (add-one (length (J .cmds)) ∙ sym y);
         holds =
             record {
@@ -267,14 +267,14 @@ module _ (J : Job) (g g' : Shape) (d n t s v h p d' n' t' s' v' h' p' : List ℕ
         five = ap length (flat-snoc slots (J .cmds) x) ∙ length-append (slotWords J) (slots x) ∙ omega (arith, a .five);
       }
 
-  grow-tables : (x : Written) → Adds x → TypesOk (J .names) (J .types) → (sec : ℕ) → Sofar sec (grown x J) → Put (entryW x J) g g' d n t s v h p d' n' t' s' v' h' p'
+  grow-tables : (x : Written) → Adds x → TypesOk (J .names) (J .types) → (sec : ℕ) → Sofar sec (grown x J) → g' ≡ shapeAfter (entryW x J) g → Put (entryW x J) g d n t s v h p d' n' t' s' v' h' p'
       → Tables (grown x J) g' d' n' t' s' v' h' p' kn kt ks kv kh kp
   unfolding entryW grown
-  grow-tables x (adds-name y) ok sec o q = grow-name y (o .few-names) q
-  grow-tables x (adds-type y) ok sec o q = grow-type y ok (o .few-types) q
-  grow-tables x (adds-value y) ok sec o q = grow-value y (o .few-values) q
-  grow-tables x (adds-rights y) ok sec o q = grow-rights y q
-  grow-tables x (adds-cmd y l) ok sec o q = grow-cmd y l (o .few-cmds) q
+  grow-tables x (adds-name y) ok sec o w' q = grow-name y (o .few-names) w' q
+  grow-tables x (adds-type y) ok sec o w' q = grow-type y ok (o .few-types) w' q
+  grow-tables x (adds-value y) ok sec o w' q = grow-value y (o .few-values) w' q
+  grow-tables x (adds-rights y) ok sec o w' q = grow-rights y w' q
+  grow-tables x (adds-cmd y l) ok sec o w' q = grow-cmd y l (o .few-cmds) w' q
 
 -- One command
 
@@ -323,11 +323,11 @@ read-none f pos st b s e = ap (λ (y : Option Op). onOp y pos (λ op. onward (co
 step-on : (bytes : List ℕ) (b : ℕ) (s : List ℕ) (cur : ℕ) (g g' : Shape) (d n t u v h p d' n' t' u' v' h' p' : List ℕ) (kn kt ks kv kh kp : ℕ) → Long kn kt ks kv kh kp
     → (k : Going bytes (b ∷ s) cur g d n t u v h p kn kt ks kv kh kp) (o : Op) → opOf b ≡ some o
     → {x : Step} {e : Entry} → Agrees (k .J) (sectionOf o) (width o) (length s) x e → command o s (record { section = cur; job = k .J }) ≡ x → StepOk x → stopsOf e ≡ false
-    → Put e g g' d n t u v h p d' n' t' u' v' h' p' → Going bytes (drop (width o) s) (sectionOf o) g' d' n' t' u' v' h' p' kn kt ks kv kh kp
+    → g' ≡ shapeAfter e g → Put e g d n t u v h p d' n' t' u' v' h' p' → Going bytes (drop (width o) s) (sectionOf o) g' d' n' t' u' v' h' p' kn kt ks kv kh kp
 unfolding stopsOf onward
-step-on bytes b s cur g g' d n t u v h p d' n' t' u' v' h' p' kn kt ks kv kh kp long k o eo (ag-refuse m) ex ok es q = absurd (true≢false es)
-step-on bytes b s cur g g' d n t u v h p d' n' t' u' v' h' p' kn kt ks kv kh kp long k o eo ag-last ex ok es q = absurd (true≢false es)
-step-on bytes b s cur g g' d n t u v h p d' n' t' u' v' h' p' kn kt ks kv kh kp long k o eo (ag-on x a okay l) ex ok es q = at (k .fuel) (k .enough) (k .same)
+step-on bytes b s cur g g' d n t u v h p d' n' t' u' v' h' p' kn kt ks kv kh kp long k o eo (ag-refuse m) ex ok es w' q = absurd (true≢false es)
+step-on bytes b s cur g g' d n t u v h p d' n' t' u' v' h' p' kn kt ks kv kh kp long k o eo ag-last ex ok es w' q = absurd (true≢false es)
+step-on bytes b s cur g g' d n t u v h p d' n' t' u' v' h' p' kn kt ks kv kh kp long k o eo (ag-on x a okay l) ex ok es w' q = at (k .fuel) (k .enough) (k .same)
   where
     st : State
     st = record { section = cur; job = k .J }
@@ -347,7 +347,7 @@ step-on bytes b s cur g g' d n t u v h p d' n' t' u' v' h' p' kn kt ks kv kh kp 
         record {
           J = grown x (k .J);
           sofar = more;
-          tables = grow-tables (k .J) g g' d n t u v h p d' n' t' u' v' h' p' kn kt ks kv kh kp long (k .tables) x a (k .sofar .types) (sectionOf o) more q;
+          tables = grow-tables (k .J) g g' d n t u v h p d' n' t' u' v' h' p' kn kt ks kv kh kp long (k .tables) x a (k .sofar .types) (sectionOf o) more w' q;
           fuel = f;
           enough = omega arith;
           within = omega arith;
@@ -359,10 +359,10 @@ step-on bytes b s cur g g' d n t u v h p d' n' t' u' v' h' p' kn kt ks kv kh kp 
 -- a turn of the loop
 pub turn : (bytes left : List ℕ) (cur : ℕ) (g g' : Shape) (d n t u v h p d' n' t' u' v' h' p' : List ℕ) (kn kt ks kv kh kp : ℕ) → Long kn kt ks kv kh kp
     → Going bytes left cur g d n t u v h p kn kt ks kv kh kp → 0 < length left
-    → (e : Entry) → e ≡ judgedBy (getD left 0 0) left cur g n t d → stopsOf e ≡ false → Put e g g' d n t u v h p d' n' t' u' v' h' p'
+    → (e : Entry) → e ≡ judgedBy (getD left 0 0) left cur g n t d → stopsOf e ≡ false → g' ≡ shapeAfter e g → Put e g d n t u v h p d' n' t' u' v' h' p'
     → (b cur' : ℕ) → b ≡ getD left 0 0 → cur' ≡ sectionByte b → (left' : List ℕ) → left' ≡ restOf left → Going bytes left' cur' g' d' n' t' u' v' h' p' kn kt ks kv kh kp
-turn bytes [] cur g g' d n t u v h p d' n' t' u' v' h' p' kn kt ks kv kh kp long k z e ee es q b cur' eb ec left' el = absurd (omega arith)
-turn bytes (a ∷ s) cur g g' d n t u v h p d' n' t' u' v' h' p' kn kt ks kv kh kp long k z e ee es q b cur' eb ec left' el = at (opOf a) refl
+turn bytes [] cur g g' d n t u v h p d' n' t' u' v' h' p' kn kt ks kv kh kp long k z e ee es w' q b cur' eb ec left' el = absurd (omega arith)
+turn bytes (a ∷ s) cur g g' d n t u v h p d' n' t' u' v' h' p' kn kt ks kv kh kp long k z e ee es w' q b cur' eb ec left' el = at (opOf a) refl
   where
     st : State
     st = record { section = cur; job = k .J }
@@ -375,7 +375,7 @@ turn bytes (a ∷ s) cur g g' d n t u v h p d' n' t' u' v' h' p' kn kt ks kv kh 
     at (some o) eo =
         let x = agrees (k .J) n t d (kept (k .sofar) (k .tables)) cur a o s eo in
         let y = step-on bytes a s cur g g' d n t u v h p d' n' t' u' v' h' p' kn kt ks kv kh kp long k o eo x refl (step-ok o s st (k .sofar)) (ap stopsOf (sym ej) ∙ es)
-        (subst (λ (w : Entry). Put w g g' d n t u v h p d' n' t' u' v' h' p') ej q) in
+        (w' ∙ ap (λ (w : Entry). shapeAfter w g) ej) (subst (λ (w : Entry). Put w g d n t u v h p d' n' t' u' v' h' p') ej q) in
         let l : drop (width o) s ≡ left' = sym (el ∙ rest-is a s o eo) in
         let c : sectionOf o ≡ cur' = sym (ec ∙ ap sectionByte (eb ∙ op-byte a o eo) ∙ section-is o) in
         subst (λ (i : ℕ). Going bytes left' i g' d' n' t' u' v' h' p' kn kt ks kv kh kp) c
@@ -523,11 +523,11 @@ loop-first bytes n t u v h p e z =
 
 module _ (bytes left : List ℕ) (cur : ℕ) (g : Shape) (d n t u v h p n₀ t₀ u₀ v₀ h₀ p₀ : List ℕ) (k : Loop bytes left cur g d n t u v h p n₀ t₀ u₀ v₀ h₀ p₀) where
   pub loop-turn : 0 < length left → (e : Entry) → e ≡ judgedBy (getD left 0 0) left cur g n t d → (o : Bool) → o ≡ stopsOf e → o ≡ false
-      → (g' : Shape) (d' n' t' u' v' h' p' : List ℕ) → Put e g g' d n t u v h p d' n' t' u' v' h' p'
+      → (g' : Shape) (d' n' t' u' v' h' p' : List ℕ) → g' ≡ shapeAfter e g → Put e g d n t u v h p d' n' t' u' v' h' p'
       → (b cur' : ℕ) → b ≡ getD left 0 0 → cur' ≡ sectionByte b → (left' : List ℕ) → left' ≡ restOf left → Loop bytes left' cur' g' d' n' t' u' v' h' p' n₀ t₀ u₀ v₀ h₀ p₀
-  loop-turn z e ee o eo fo g' d' n' t' u' v' h' p' q b cur' eb ec left' el =
+  loop-turn z e ee o eo fo g' d' n' t' u' v' h' p' w' q b cur' eb ec left' el =
       loop-of bytes left' cur' g' d' n' t' u' v' h' p' n₀ t₀ u₀ v₀ h₀ p₀ (k .long)
-      (turn bytes left cur g g' d n t u v h p d' n' t' u' v' h' p' (length n₀) (length t₀) (length u₀) (length v₀) (length h₀) (length p₀) (k .long) (k .going) z e ee (sym eo ∙ fo) q b cur' eb ec left' el)
+      (turn bytes left cur g g' d n t u v h p d' n' t' u' v' h' p' (length n₀) (length t₀) (length u₀) (length v₀) (length h₀) (length p₀) (k .long) (k .going) z e ee (sym eo ∙ fo) w' q b cur' eb ec left' el)
 
   pub loop-stop : 0 < length left → (e : Entry) → e ≡ judgedBy (getD left 0 0) left cur g n t d → (o : Bool) → o ≡ stopsOf e → o ≡ true
       → (r : Answer) → r ≡ stoppedOf e g (length bytes - length left) (length left) → Filled bytes r n t u v h p (length n₀) (length t₀) (length u₀) (length v₀) (length h₀) (length p₀)

@@ -8,7 +8,7 @@ use lib.Dec.{eqb, leb}
 use Rattle.syntax.specs.Job.{Job}
 use Rattle.syntax.specs.Words.{filled, nameWords, typeWords, setWords, valueWords, headWords, slotWords}
 use Rattle.syntax.specs.Reading.{Read, refused, read, reading}
-use Rattle.job.specs.Entries.{namesAfter, typesAfter, setsAfter, depthsAfter, valuesAfter, headsAfter, slotsAfter, shapeAfter}
+use Rattle.job.specs.Entries.{namesAfter, typesAfter, setsAfter, depthsAfter, valuesAfter, headsAfter, slotsAfter}
 use Rattle.job.specs.declared.Shape.{Shape}
 use Rattle.job.specs.declared.Answer.{Answer}
 use Rattle.job.specs.declared.Answer.the-variants as answers
@@ -84,8 +84,7 @@ pub record Zeroed (n t s v h p n' t' s' v' h' p' : List ℕ) : Type 0 where
   pub slots : p' ≡ replicate (length p) 0
 
 -- an entry is put into the tables
-pub record Put (e : Entry) (g r : Shape) (d n t s v h p d' n' t' s' v' h' p' : List ℕ) : Type 0 where
-  pub shape : r ≡ shapeAfter e g
+pub record Put (e : Entry) (g : Shape) (d n t s v h p d' n' t' s' v' h' p' : List ℕ) : Type 0 where
   pub depths : d' ≡ depthsAfter e g d
   pub names : n' ≡ namesAfter e g n
   pub types : t' ≡ typesAfter e g t
@@ -93,6 +92,9 @@ pub record Put (e : Entry) (g r : Shape) (d n t s v h p d' n' t' s' v' h' p' : L
   pub values : v' ≡ valuesAfter e g v
   pub heads : h' ≡ headsAfter e g h
   pub slots : p' ≡ slotsAfter e g p
+
+abbrev pub shapeOver : ℕ → ℕ → ℕ → ℕ → ℕ → Shape
+shapeOver n t v e s = record { names = n; types = t; values = v; cmds = e; rights = s }
 
 -- counts that an entry more does not wrap
 pub record Small (h : Shape) : Type 0 where

@@ -1,5 +1,5 @@
 -- What the reader takes from the bytes of a job: operands, widths, sections, the rest.
-use Prim.Native.Nat.{ℕ, zero, suc, _+_, _*_, _%_}
+use Prim.Native.Nat.{ℕ, zero, suc, _+_, _*_, _/_, _%_, _^_}
 use mathlib.Core.Bool.{Bool, true, false, cond}
 use mathlib.Core.List.{List, [], _∷_}
 use mathlib.Core.Option.{Option, none, some}
@@ -36,23 +36,23 @@ misplacedBy cur sec n = cond (ltb sec cur) true (cond (eqb sec 3) (eqb cur 3) (c
 unfoldable pub fullBy : ℕ → ℕ → ℕ → ℕ → ℕ → Bool
 fullBy sec n t v e = cond (eqb sec 0) (leb 62 n) (cond (eqb sec 1) (leb 256 t) (cond (eqb sec 2) (leb 64 v) (cond (eqb sec 4) (leb 512 e) false)))
 
--- where the five places of an expression stand, by the last digit of its command byte; 0 for a place that is not used
+-- where the five places of an expression stand: one word for each last digit of the command byte, with place 0 in its last digit; 0 for a place that is not used
 abbrev pub offsets : List ℕ
-offsets =
-    0 ∷ 0 ∷ 0 ∷ 0 ∷ 0 ∷ 0 ∷ 0 ∷ 0 ∷ 0 ∷ 0 ∷ 0 ∷ 0 ∷ 0 ∷ 0 ∷ 0 ∷ 1 ∷ 3 ∷ 0 ∷ 0 ∷ 0 ∷ 1 ∷ 0 ∷ 0 ∷ 0 ∷ 0 ∷ 4 ∷ 2 ∷ 0 ∷ 0 ∷ 0 ∷ 1 ∷ 3 ∷ 0 ∷ 0 ∷ 0 ∷ 3 ∷ 1 ∷ 0 ∷ 0 ∷ 0
-    ∷ 1 ∷ 3 ∷ 0 ∷ 0 ∷ 0 ∷ 1 ∷ 0 ∷ 0 ∷ 0 ∷ 0 ∷ 2 ∷ 4 ∷ 0 ∷ 0 ∷ 0 ∷ 1 ∷ 3 ∷ 5 ∷ 7 ∷ 0 ∷ 2 ∷ 4 ∷ 6 ∷ 8 ∷ 10 ∷ 1 ∷ 3 ∷ 0 ∷ 0 ∷ 0 ∷ 3 ∷ 5 ∷ 7 ∷ 0 ∷ 0 ∷ 1 ∷ 3 ∷ 0 ∷ 0 ∷ 0 ∷ []
+offsets = 0x00000 ∷ 0x00000 ∷ 0x00000 ∷ 0x00031 ∷ 0x00001 ∷ 0x00024 ∷ 0x00031 ∷ 0x00013 ∷ 0x00031 ∷ 0x00001 ∷ 0x00042 ∷ 0x07531 ∷ 0xA8642 ∷ 0x00031 ∷ 0x00753 ∷ 0x00031 ∷ []
 
 -- what stands there: 1 an expression, 2 a type, 0 nothing
 abbrev pub kinds : List ℕ
-kinds =
-    0 ∷ 0 ∷ 0 ∷ 0 ∷ 0 ∷ 0 ∷ 0 ∷ 0 ∷ 0 ∷ 0 ∷ 0 ∷ 0 ∷ 0 ∷ 0 ∷ 0 ∷ 1 ∷ 1 ∷ 0 ∷ 0 ∷ 0 ∷ 1 ∷ 0 ∷ 0 ∷ 0 ∷ 0 ∷ 1 ∷ 2 ∷ 0 ∷ 0 ∷ 0 ∷ 1 ∷ 1 ∷ 0 ∷ 0 ∷ 0 ∷ 1 ∷ 2 ∷ 0 ∷ 0 ∷ 0
-    ∷ 1 ∷ 1 ∷ 0 ∷ 0 ∷ 0 ∷ 1 ∷ 0 ∷ 0 ∷ 0 ∷ 0 ∷ 1 ∷ 1 ∷ 0 ∷ 0 ∷ 0 ∷ 1 ∷ 1 ∷ 1 ∷ 2 ∷ 0 ∷ 1 ∷ 1 ∷ 1 ∷ 1 ∷ 1 ∷ 1 ∷ 1 ∷ 0 ∷ 0 ∷ 0 ∷ 1 ∷ 1 ∷ 2 ∷ 0 ∷ 0 ∷ 1 ∷ 1 ∷ 0 ∷ 0 ∷ 0 ∷ []
+kinds = 0x00000 ∷ 0x00000 ∷ 0x00000 ∷ 0x00011 ∷ 0x00001 ∷ 0x00021 ∷ 0x00011 ∷ 0x00021 ∷ 0x00011 ∷ 0x00001 ∷ 0x00011 ∷ 0x02111 ∷ 0x11111 ∷ 0x00011 ∷ 0x00211 ∷ 0x00011 ∷ []
+
+-- digit i of a word, from the right
+unfoldable pub digitOf : ℕ → ℕ → ℕ
+digitOf w i = w / 2 ^ (4 * i) % 16
 
 unfoldable pub offsetOf : ℕ → ℕ → ℕ
-offsetOf op i = getD offsets (op % 16 * 5 + i) 0
+offsetOf op i = digitOf (getD offsets (op % 16) 0) i
 
 unfoldable pub kindOf : ℕ → ℕ → ℕ
-kindOf op i = getD kinds (op % 16 * 5 + i) 0
+kindOf op i = digitOf (getD kinds (op % 16) 0) i
 
 -- place i of an expression
 unfoldable pub slotOf : List ℕ → ℕ → ℕ → ℕ

@@ -6,11 +6,11 @@ ghost use mathlib.Core.Bool.{true};
 ghost use lib.Dec.{ltb};
 ghost use Rattle.syntax.specs.Commands.{little};
 ghost use Rattle.job.specs.Bytes.{fieldAt, widthByte, sectionByte, restOf, misplacedBy, fullBy};
-ghost use Rattle.job.specs.Bytes.{offsetOf, kindOf, slotOf, leadOf, formOf, slotOk, slotsOk, keyOk, limitOk};
+ghost use Rattle.job.specs.Bytes.{digitOf, offsetOf, kindOf, slotOf, leadOf, formOf, slotOk, slotsOk, keyOk, limitOk};
 ghost use Rattle.names.specs.Ancestors.{namesIn, declaredOf, ancestorsBy, setOkBy};
-ghost use Rattle.job.specs.Entries.{partDepth, deeperOf, twoDepths, typeBitsOf, typedOf, fiveAt};
+ghost use Rattle.job.specs.Entries.{partDepth, deeperOf, twoDepths, typeBitsOf, typedOf, fiveAt, shapeAfter};
 ghost use Rattle.job.specs.Entries.{nameEntry, keyTypeOf, functionOf, typeBy, typeEntry, hostWordOk, valueEntry, rightsEntry};
-ghost use Rattle.job.specs.Answer.{refusedBy, stopsOf, stoppedOf, isJob, longEnough, longTables, Small, Put, Zeroed, Cleared, Filled, ReadTo};
+ghost use Rattle.job.specs.Answer.{refusedBy, stopsOf, stoppedOf, isJob, longEnough, longTables, Small, shapeOver, Put, Zeroed, Cleared, Filled, ReadTo};
 ghost use Rattle.job.specs.Entries.{bindsOk, eitherOf, newKeyOk, leadOk, placesOk, formEntry, entryOf, judgedBy};
 
 // An expression's number.
@@ -251,188 +251,69 @@ fn full(sec: u8, h: Shape) -> bool
     false
 }
 
-// Where the five places of an expression stand, by the last digit of its command byte; 0 for a place that is not used.
-const OFFSETS: [u8; 80] = [
-    0,
-    0,
-    0,
-    0,
-    0,
-    0,
-    0,
-    0,
-    0,
-    0,
-    0,
-    0,
-    0,
-    0,
-    0,
-    1,
-    3,
-    0,
-    0,
-    0,
-    1,
-    0,
-    0,
-    0,
-    0,
-    4,
-    2,
-    0,
-    0,
-    0,
-    1,
-    3,
-    0,
-    0,
-    0,
-    3,
-    1,
-    0,
-    0,
-    0,
-    1,
-    3,
-    0,
-    0,
-    0,
-    1,
-    0,
-    0,
-    0,
-    0,
-    2,
-    4,
-    0,
-    0,
-    0,
-    1,
-    3,
-    5,
-    7,
-    0,
-    2,
-    4,
-    6,
-    8,
-    10,
-    1,
-    3,
-    0,
-    0,
-    0,
-    3,
-    5,
-    7,
-    0,
-    0,
-    1,
-    3,
-    0,
-    0,
-    0,
+// Where the five places of an expression stand: one word for each last digit of the command byte, with place 0 in its last digit; 0 for a place that is not used.
+const OFFSETS: [u32; 16] = [
+    0x00000,
+    0x00000,
+    0x00000,
+    0x00031,
+    0x00001,
+    0x00024,
+    0x00031,
+    0x00013,
+    0x00031,
+    0x00001,
+    0x00042,
+    0x07531,
+    0xA8642,
+    0x00031,
+    0x00753,
+    0x00031,
 ];
 
 // What stands there: 1 an expression, 2 a type, 0 nothing.
-const KINDS: [u8; 80] = [
-    0,
-    0,
-    0,
-    0,
-    0,
-    0,
-    0,
-    0,
-    0,
-    0,
-    0,
-    0,
-    0,
-    0,
-    0,
-    1,
-    1,
-    0,
-    0,
-    0,
-    1,
-    0,
-    0,
-    0,
-    0,
-    1,
-    2,
-    0,
-    0,
-    0,
-    1,
-    1,
-    0,
-    0,
-    0,
-    1,
-    2,
-    0,
-    0,
-    0,
-    1,
-    1,
-    0,
-    0,
-    0,
-    1,
-    0,
-    0,
-    0,
-    0,
-    1,
-    1,
-    0,
-    0,
-    0,
-    1,
-    1,
-    1,
-    2,
-    0,
-    1,
-    1,
-    1,
-    1,
-    1,
-    1,
-    1,
-    0,
-    0,
-    0,
-    1,
-    1,
-    2,
-    0,
-    0,
-    1,
-    1,
-    0,
-    0,
-    0,
+const KINDS: [u32; 16] = [
+    0x00000,
+    0x00000,
+    0x00000,
+    0x00011,
+    0x00001,
+    0x00021,
+    0x00011,
+    0x00021,
+    0x00011,
+    0x00001,
+    0x00011,
+    0x02111,
+    0x11111,
+    0x00011,
+    0x00211,
+    0x00011,
 ];
+
+// Digit i of a word, from the right.
+fn digit(w: u32, i: u8) -> u8
+    requires { ⌜ i < 5 ⌝ }
+    ensures { λ r. ⌜ r ≡ digitOf w i ⌝ }
+{
+    let d = (w >> (4 * i)) % 16;
+    d as u8
+}
 
 fn offset(op: u8, i: u8) -> u8
     requires { ⌜ i < 5 ⌝ }
     ensures { λ r. ⌜ r ≡ offsetOf op i ⌝ }
 {
-    let k = (op % 16 * 5 + i) as usize;
-    OFFSETS[k]
+    let k = (op % 16) as usize;
+    digit(OFFSETS[k], i)
 }
 
 fn kind(op: u8, i: u8) -> u8
     requires { ⌜ i < 5 ⌝ }
     ensures { λ r. ⌜ r ≡ kindOf op i ⌝ }
 {
-    let k = (op % 16 * 5 + i) as usize;
-    KINDS[k]
+    let k = (op % 16) as usize;
+    digit(KINDS[k], i)
 }
 
 // Place i of an expression.
@@ -960,7 +841,88 @@ fn stopped(e: Entry, h: Shape, place: usize, left: usize) -> Answer
     }
 }
 
-// The tables and the counts with an entry more.
+// One name, type, host value or expression more.
+fn more_names(g: Shape) -> Shape
+    requires { ⌜ Small g ⌝ }
+    ensures { λ r. ⌜ r ≡ shapeOver (g .names + 1) (g .types) (g .values) (g .cmds) (g .rights) ⌝ }
+{
+    Shape {
+        names: g.names + 1,
+        types: g.types,
+        values: g.values,
+        cmds: g.cmds,
+        rights: g.rights,
+    }
+}
+
+fn more_types(g: Shape) -> Shape
+    requires { ⌜ Small g ⌝ }
+    ensures { λ r. ⌜ r ≡ shapeOver (g .names) (g .types + 1) (g .values) (g .cmds) (g .rights) ⌝ }
+{
+    Shape {
+        names: g.names,
+        types: g.types + 1,
+        values: g.values,
+        cmds: g.cmds,
+        rights: g.rights,
+    }
+}
+
+fn more_values(g: Shape) -> Shape
+    requires { ⌜ Small g ⌝ }
+    ensures { λ r. ⌜ r ≡ shapeOver (g .names) (g .types) (g .values + 1) (g .cmds) (g .rights) ⌝ }
+{
+    Shape {
+        names: g.names,
+        types: g.types,
+        values: g.values + 1,
+        cmds: g.cmds,
+        rights: g.rights,
+    }
+}
+
+fn more_cmds(g: Shape) -> Shape
+    requires { ⌜ Small g ⌝ }
+    ensures { λ r. ⌜ r ≡ shapeOver (g .names) (g .types) (g .values) (g .cmds + 1) (g .rights) ⌝ }
+{
+    Shape {
+        names: g.names,
+        types: g.types,
+        values: g.values,
+        cmds: g.cmds + 1,
+        rights: g.rights,
+    }
+}
+
+fn with_rights(g: Shape, s: u64) -> Shape
+    ensures { λ r. ⌜ r ≡ shapeOver (g .names) (g .types) (g .values) (g .cmds) s ⌝ }
+{
+    Shape {
+        names: g.names,
+        types: g.types,
+        values: g.values,
+        cmds: g.cmds,
+        rights: s,
+    }
+}
+
+// The counts with an entry more.
+fn counted(e: Entry, g: Shape) -> Shape
+    requires { ⌜ Small g ⌝ }
+    ensures { λ r. ⌜ r ≡ shapeAfter e g ⌝ }
+{
+    match e {
+        Entry::Refuse(_) => g,
+        Entry::Named(_) => more_names(g),
+        Entry::Typed(_, _, _) => more_types(g),
+        Entry::Valued(_) => more_values(g),
+        Entry::Rights(s) => with_rights(g, s),
+        Entry::Formed(_) => more_cmds(g),
+        Entry::Last => g,
+    }
+}
+
+// The tables with an entry more.
 fn put(
     e: Entry,
     g: Shape,
@@ -971,63 +933,25 @@ fn put(
     values: &mut [u64],
     heads: &mut [u64],
     slots: &mut [u16],
-) -> Shape
+)
     requires { ⌜ Small g ⌝ }
-    ensures { λ r. ⌜ Put e g r (now (depths .entry)) (now (names .entry)) (now (types .entry)) (now (sets .entry)) (now (values .entry)) (now (heads .entry)) (now (slots .entry)) (now (depths .exit)) (now (names .exit)) (now (types .exit)) (now (sets .exit)) (now (values .exit)) (now (heads .exit)) (now (slots .exit)) ⌝ }
+    ensures { λ _. ⌜ Put e g (now (depths .entry)) (now (names .entry)) (now (types .entry)) (now (sets .entry)) (now (values .entry)) (now (heads .entry)) (now (slots .entry)) (now (depths .exit)) (now (names .exit)) (now (types .exit)) (now (sets .exit)) (now (values .exit)) (now (heads .exit)) (now (slots .exit)) ⌝ }
 {
     match e {
-        Entry::Refuse(_) => g,
-        Entry::Named(w) => {
-            put16(names, g.names + 2, w);
-            Shape {
-                names: g.names + 1,
-                types: g.types,
-                values: g.values,
-                cmds: g.cmds,
-                rights: g.rights,
-            }
-        }
+        Entry::Refuse(_) => {}
+        Entry::Named(w) => put16(names, g.names + 2, w),
         Entry::Typed(w, s, d) => {
             put64(types, g.types, w);
             put64(sets, g.types, s);
-            put8(depths, g.types, d);
-            Shape {
-                names: g.names,
-                types: g.types + 1,
-                values: g.values,
-                cmds: g.cmds,
-                rights: g.rights,
-            }
+            put8(depths, g.types, d)
         }
-        Entry::Valued(w) => {
-            put64(values, g.values, w);
-            Shape {
-                names: g.names,
-                types: g.types,
-                values: g.values + 1,
-                cmds: g.cmds,
-                rights: g.rights,
-            }
-        }
-        Entry::Rights(s) => Shape {
-            names: g.names,
-            types: g.types,
-            values: g.values,
-            cmds: g.cmds,
-            rights: s,
-        },
+        Entry::Valued(w) => put64(values, g.values, w),
+        Entry::Rights(_) => {}
         Entry::Formed(f) => {
             put64(heads, g.cmds, f.head);
-            put_five(slots, g.cmds * 5, f);
-            Shape {
-                names: g.names,
-                types: g.types,
-                values: g.values,
-                cmds: g.cmds + 1,
-                rights: g.rights,
-            }
+            put_five(slots, g.cmds * 5, f)
         }
-        Entry::Last => g,
+        Entry::Last => {}
     }
 }
 
@@ -1106,7 +1030,8 @@ fn fill(
         if stops(e) {
             return stopped(e, g, job.len() - left.len(), left.len());
         }
-        let more = put(e, g, &mut depths, names, types, sets, values, heads, slots);
+        put(e, g, &mut depths, names, types, sets, values, heads, slots);
+        let more = counted(e, g);
         g = more;
         cur = section(first(left));
         let next = rest(left);

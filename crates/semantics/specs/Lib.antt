@@ -24,3 +24,5 @@ pub mod Only
 pub mod Begin
 pub mod Safety
 pub mod Demand3
+pub mod KeyLaws
+pub mod RunLaws

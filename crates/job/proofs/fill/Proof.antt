@@ -5,6 +5,7 @@ use Rattle.job.proofs.fill.Statement.{statement}
 use Rattle.job.proofs.fill.Tie as tie
 use Rattle.job.proofs.fill.Reads as reads
 use Rattle.job.proofs.fill.Lts as lts
+use Rattle.job.proofs.counted.Reads as counted-reads
 use Rattle.job.proofs.first.Reads as first-reads
 use Rattle.job.proofs.judged.Reads as judged-reads
 use Rattle.job.proofs.put.Reads as put-reads
@@ -22,115 +23,119 @@ abbrev μ-loop : tie.MeasureT-loop
 μ-loop job names₀ types₀ sets₀ values₀ heads₀ slots₀ left₀ cur₀ g₀ depths₀ names types sets values heads slots left cur g depths =
     length left
 
--- src/lib.rt:858:5
+-- src/lib.rt:998:5
 loop-holds : tie.Need-loop-holds Inv-loop μ-loop
 loop-holds c = loop-first _ _ _ _ _ _ _ (c .before .before .before .before .before .before .before .pre .0) (c .before .before .before .before .before .before .before .pre .1)
 
--- src/lib.rt:859:52
+-- src/lib.rt:999:52
 slice-aggregate-judged : tie.Need-slice-aggregate-judged Inv-loop μ-loop
 slice-aggregate-judged c = search needs
 
--- src/lib.rt:859:13
+-- src/lib.rt:999:13
 judged-requires : tie.Need-judged-requires Inv-loop μ-loop
 judged-requires c κs = search needs
 
--- src/lib.rt:860:12
+-- src/lib.rt:1000:12
 stops-requires : tie.Need-stops-requires Inv-loop μ-loop
 stops-requires c κs = search needs
 
--- src/lib.rt:861:34
+-- src/lib.rt:1001:34
 sub-stopped : tie.Need-sub-stopped Inv-loop μ-loop
 sub-stopped c = search needs
 
--- src/lib.rt:861:13
+-- src/lib.rt:1001:13
 stopped-requires : tie.Need-stopped-requires Inv-loop μ-loop
 stopped-requires c κs = search needs
 
--- src/lib.rt:861:13
+-- src/lib.rt:1001:13
 same-length : tie.Need-same-length Inv-loop μ-loop
 same-length c = c .before .before .before .before .before .before .before .before .loop .inv .names
 
--- src/lib.rt:861:13
+-- src/lib.rt:1001:13
 same-length-2 : tie.Need-same-length-2 Inv-loop μ-loop
 same-length-2 c = c .before .before .before .before .before .before .before .before .loop .inv .types
 
--- src/lib.rt:861:13
+-- src/lib.rt:1001:13
 same-length-3 : tie.Need-same-length-3 Inv-loop μ-loop
 same-length-3 c = c .before .before .before .before .before .before .before .before .loop .inv .sets
 
--- src/lib.rt:861:13
+-- src/lib.rt:1001:13
 same-length-4 : tie.Need-same-length-4 Inv-loop μ-loop
 same-length-4 c = c .before .before .before .before .before .before .before .before .loop .inv .values
 
--- src/lib.rt:861:13
+-- src/lib.rt:1001:13
 same-length-5 : tie.Need-same-length-5 Inv-loop μ-loop
 same-length-5 c = c .before .before .before .before .before .before .before .before .loop .inv .heads
 
--- src/lib.rt:861:13
+-- src/lib.rt:1001:13
 same-length-6 : tie.Need-same-length-6 Inv-loop μ-loop
 same-length-6 c = c .before .before .before .before .before .before .before .before .loop .inv .slots
 
--- src/lib.rt:861:13
+-- src/lib.rt:1001:13
 returns : tie.Need-returns Inv-loop μ-loop
 returns c = loop-stop _ _ _ _ _ _ _ _ _ _ _ _ _ _ _ _ _ (c .before .before .before .before .before .before .before .before .loop .inv) (c .before .before .before .before .before .before .before .loop-test .taken) _ (c .before .before .before .judged .ensures) _ (c .before .before .stops .ensures) (c .before .if1 .taken) _ (c .stopped .ensures)
 
--- src/lib.rt:863:30
+-- src/lib.rt:1003:19
 slice-aggregate-put : tie.Need-slice-aggregate-put Inv-loop μ-loop
 slice-aggregate-put c = search needs
 
--- src/lib.rt:863:13
+-- src/lib.rt:1003:9
 put-requires : tie.Need-put-requires Inv-loop μ-loop
 put-requires c κs = small-counts (c .before .before .before .before .before .before .before .before .before .before .before .before .before .before .loop .inv .going)
 
--- src/lib.rt:865:23
+-- src/lib.rt:1004:13
+counted-requires : tie.Need-counted-requires Inv-loop μ-loop
+counted-requires c κs = small-counts (c .before .before .before .before .before .before .before .before .before .before .before .before .before .before .before .before .before .before .before .before .before .before .before .before .before .before .before .before .loop .inv .going)
+
+-- src/lib.rt:1006:23
 first-requires : tie.Need-first-requires Inv-loop μ-loop
 first-requires c κs = search needs
 
--- src/lib.rt:865:9
+-- src/lib.rt:1006:9
 section-requires : tie.Need-section-requires Inv-loop μ-loop
 section-requires c κs = search needs
 
--- src/lib.rt:866:13
+-- src/lib.rt:1007:13
 rest-requires : tie.Need-rest-requires Inv-loop μ-loop
 rest-requires c κs = search needs
 
--- src/lib.rt:858:5
+-- src/lib.rt:998:5
 loop-less : tie.Need-loop-less Inv-loop μ-loop
-loop-less c = rest-less _ _ (c .rest .ensures) (c .before .before .before .before .before .before .before .before .before .before .before .before .before .before .before .before .before .before .before .before .before .before .before .before .before .before .before .before .before .before .loop-test .taken)
+loop-less c = rest-less _ _ (c .rest .ensures) (c .before .before .before .before .before .before .before .before .before .before .before .before .before .before .before .before .before .before .before .before .before .before .before .before .before .before .before .before .before .before .before .loop-test .taken)
 
--- src/lib.rt:858:5
+-- src/lib.rt:998:5
 loop-again : tie.Need-loop-again Inv-loop μ-loop
-loop-again c = loop-turn _ _ _ _ _ _ _ _ _ _ _ _ _ _ _ _ _ (c .before .before .before .before .before .before .before .before .before .before .before .before .before .before .before .before .before .before .before .before .before .before .before .before .before .before .before .before .before .before .before .loop .inv) (c .before .before .before .before .before .before .before .before .before .before .before .before .before .before .before .before .before .before .before .before .before .before .before .before .before .before .before .before .before .before .loop-test .taken) _ (c .before .before .before .before .before .before .before .before .before .before .before .before .before .before .before .before .before .before .before .before .before .before .before .before .before .before .judged .ensures) _ (c .before .before .before .before .before .before .before .before .before .before .before .before .before .before .before .before .before .before .before .before .before .before .before .before .before .stops .ensures) (c .before .before .before .before .before .before .before .before .before .before .before .before .before .before .before .before .before .before .before .before .before .before .before .before .if1 .left) _ _ _ _ _ _ _ _ (c .before .before .before .before .before .before .before .before .before .before .before .before .before .before .before .before .put .ensures) _ _ (c .before .before .first .ensures) (c .before .section .ensures) _ (c .rest .ensures)
+loop-again c = loop-turn _ _ _ _ _ _ _ _ _ _ _ _ _ _ _ _ _ (c .before .before .before .before .before .before .before .before .before .before .before .before .before .before .before .before .before .before .before .before .before .before .before .before .before .before .before .before .before .before .before .before .loop .inv) (c .before .before .before .before .before .before .before .before .before .before .before .before .before .before .before .before .before .before .before .before .before .before .before .before .before .before .before .before .before .before .before .loop-test .taken) _ (c .before .before .before .before .before .before .before .before .before .before .before .before .before .before .before .before .before .before .before .before .before .before .before .before .before .before .before .judged .ensures) _ (c .before .before .before .before .before .before .before .before .before .before .before .before .before .before .before .before .before .before .before .before .before .before .before .before .before .before .stops .ensures) (c .before .before .before .before .before .before .before .before .before .before .before .before .before .before .before .before .before .before .before .before .before .before .before .before .before .if1 .left) _ _ _ _ _ _ _ _ (c .before .before .before .counted .ensures) (c .before .before .before .before .before .before .before .before .before .before .before .before .before .before .before .before .before .put .ensures) _ _ (c .before .before .first .ensures) (c .before .section .ensures) _ (c .rest .ensures)
 
--- src/lib.rt:869:5
+-- src/lib.rt:1010:5
 refused-requires : tie.Need-refused-requires Inv-loop μ-loop
 refused-requires c κs = search needs
 
--- src/lib.rt:849:1
+-- src/lib.rt:975:1
 same-length-7 : tie.Need-same-length-7 Inv-loop μ-loop
 same-length-7 c = c .before .before .loop .inv .names
 
--- src/lib.rt:849:1
+-- src/lib.rt:975:1
 same-length-8 : tie.Need-same-length-8 Inv-loop μ-loop
 same-length-8 c = c .before .before .loop .inv .types
 
--- src/lib.rt:849:1
+-- src/lib.rt:975:1
 same-length-9 : tie.Need-same-length-9 Inv-loop μ-loop
 same-length-9 c = c .before .before .loop .inv .sets
 
--- src/lib.rt:849:1
+-- src/lib.rt:975:1
 same-length-10 : tie.Need-same-length-10 Inv-loop μ-loop
 same-length-10 c = c .before .before .loop .inv .values
 
--- src/lib.rt:849:1
+-- src/lib.rt:975:1
 same-length-11 : tie.Need-same-length-11 Inv-loop μ-loop
 same-length-11 c = c .before .before .loop .inv .heads
 
--- src/lib.rt:849:1
+-- src/lib.rt:975:1
 same-length-12 : tie.Need-same-length-12 Inv-loop μ-loop
 same-length-12 c = c .before .before .loop .inv .slots
 
--- src/lib.rt:849:1
+-- src/lib.rt:975:1
 returns-2 : tie.Need-returns-2 Inv-loop μ-loop
 returns-2 c = loop-short _ _ _ _ _ _ _ _ _ _ _ _ _ _ _ _ _ (c .before .before .loop .inv) (c .before .loop-test .left) _ (c .refused .ensures)
 
@@ -155,6 +160,7 @@ fill-spec =
     returns
     slice-aggregate-put
     put-requires
+    counted-requires
     first-requires
     section-requires
     rest-requires

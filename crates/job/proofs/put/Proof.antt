@@ -9,141 +9,122 @@ use Rattle.job.proofs.put64.Reads as put64-reads
 use Rattle.job.proofs.put8.Reads as put8-reads
 use Rattle.job.proofs.put_five.Reads as put-five-reads
 
--- src/lib.rt:784:29
 enum-told : tie.Need-enum-told
 enum-told c = search needs
 
--- src/lib.rt:785:22
+-- src/lib.rt:912:22
 enum-known-e : tie.Need-enum-known-e
 enum-known-e c = search needs
 
--- src/lib.rt:786:26
+-- src/lib.rt:912:41
 add-put16 : tie.Need-add-put16
 add-put16 c = search needs
 
--- src/lib.rt:786:13
+-- src/lib.rt:912:28
 put16-requires : tie.Need-put16-requires
 put16-requires c κs = search needs
 
--- src/lib.rt:787:28
-add-t21 : tie.Need-add-t21
-add-t21 c = search needs
-
--- src/lib.rt:789:22
+-- src/lib.rt:913:22
 enum-known-e-2 : tie.Need-enum-known-e-2
 enum-known-e-2 c = search needs
 
--- src/lib.rt:790:13
+-- src/lib.rt:914:13
 put64-requires : tie.Need-put64-requires
 put64-requires c κs = search needs
 
--- src/lib.rt:791:13
+-- src/lib.rt:915:13
 put64-requires-2 : tie.Need-put64-requires-2
 put64-requires-2 c κs = search needs
 
--- src/lib.rt:792:13
+-- src/lib.rt:916:13
 put8-requires : tie.Need-put8-requires
 put8-requires c κs = search needs
 
--- src/lib.rt:793:44
-add-t29 : tie.Need-add-t29
-add-t29 c = search needs
-
--- src/lib.rt:795:23
+-- src/lib.rt:918:23
 enum-known-e-3 : tie.Need-enum-known-e-3
 enum-known-e-3 c = search needs
 
--- src/lib.rt:796:13
+-- src/lib.rt:918:29
 put64-requires-3 : tie.Need-put64-requires-3
 put64-requires-3 c κs = search needs
 
--- src/lib.rt:797:61
-add-t33 : tie.Need-add-t33
-add-t33 c = search needs
-
--- src/lib.rt:799:23
-enum-known-e-4 : tie.Need-enum-known-e-4
-enum-known-e-4 c = search needs
-
--- src/lib.rt:800:23
-enum-known-e-5 : tie.Need-enum-known-e-5
-enum-known-e-5 c = search needs
-
--- src/lib.rt:801:13
-put64-requires-4 : tie.Need-put64-requires-4
-put64-requires-4 c κs = search needs
-
--- src/lib.rt:802:29
-mul-put-five : tie.Need-mul-put-five
-mul-put-five c = search needs
-
--- src/lib.rt:802:13
-put-five-requires : tie.Need-put-five-requires
-put-five-requires c κs = search needs
-
--- src/lib.rt:803:77
-add-t39 : tie.Need-add-t39
-add-t39 c = search needs
-
--- src/lib.rt:805:24
 enum-told-2 : tie.Need-enum-told-2
 enum-told-2 c = search needs
 
--- src/lib.rt:769:1
+-- src/lib.rt:920:23
+enum-known-e-4 : tie.Need-enum-known-e-4
+enum-known-e-4 c = search needs
+
+-- src/lib.rt:921:13
+put64-requires-4 : tie.Need-put64-requires-4
+put64-requires-4 c κs = search needs
+
+-- src/lib.rt:922:29
+mul-put-five : tie.Need-mul-put-five
+mul-put-five c = search needs
+
+-- src/lib.rt:922:13
+put-five-requires : tie.Need-put-five-requires
+put-five-requires c κs = search needs
+
+enum-told-3 : tie.Need-enum-told-3
+enum-told-3 c = search needs
+
+-- src/lib.rt:896:1
 returns : tie.Need-returns
 returns c = put-refuse _ _ _ _ _ _ _ _ _ _ (c .enum-told .given .1)
 
--- src/lib.rt:769:1
+-- src/lib.rt:896:1
 same-length : tie.Need-same-length
 same-length c = search needs
 
--- src/lib.rt:769:1
+-- src/lib.rt:896:1
 returns-2 : tie.Need-returns-2
-returns-2 c = put-named _ _ _ _ _ _ _ _ _ _ _ (c .before .before .before .before .before .before .before .e .given .1) (c .before .before .before .put16 .ensures)
+returns-2 c = put-named _ _ _ _ _ _ _ _ _ _ _ (c .before .before .before .before .before .before .e .given .1) (c .before .before .put16 .ensures)
 
--- src/lib.rt:769:1
+-- src/lib.rt:896:1
 same-length-2 : tie.Need-same-length-2
 same-length-2 c = search needs
 
--- src/lib.rt:769:1
+-- src/lib.rt:896:1
 same-length-3 : tie.Need-same-length-3
 same-length-3 c = search needs
 
--- src/lib.rt:769:1
+-- src/lib.rt:896:1
 same-length-4 : tie.Need-same-length-4
 same-length-4 c = search needs
 
--- src/lib.rt:769:1
+-- src/lib.rt:896:1
 returns-3 : tie.Need-returns-3
-returns-3 c = put-typed _ _ _ _ _ _ _ _ _ _ _ _ _ _ _ (c .before .before .before .before .before .before .before .before .before .before .before .before .before .before .e2 .given .1) (c .before .before .before .put8 .ensures) (c .before .before .before .before .before .before .before .before .before .before .before .put64 .ensures) (c .before .before .before .before .before .before .before .put642 .ensures)
+returns-3 c = put-typed _ _ _ _ _ _ _ _ _ _ _ _ _ _ _ (c .before .before .before .before .before .before .before .before .before .before .before .before .before .e2 .given .1) (c .before .before .put8 .ensures) (c .before .before .before .before .before .before .before .before .before .before .put64 .ensures) (c .before .before .before .before .before .before .put642 .ensures)
 
--- src/lib.rt:769:1
+-- src/lib.rt:896:1
 same-length-5 : tie.Need-same-length-5
 same-length-5 c = search needs
 
--- src/lib.rt:769:1
+-- src/lib.rt:896:1
 returns-4 : tie.Need-returns-4
-returns-4 c = put-valued _ _ _ _ _ _ _ _ _ _ _ (c .before .before .before .before .before .before .e3 .given .1) (c .before .before .before .put643 .ensures)
+returns-4 c = put-valued _ _ _ _ _ _ _ _ _ _ _ (c .before .before .before .before .before .e3 .given .1) (c .before .before .put643 .ensures)
 
--- src/lib.rt:769:1
+-- src/lib.rt:896:1
 returns-5 : tie.Need-returns-5
-returns-5 c = put-rights _ _ _ _ _ _ _ _ _ _ (c .before .e4 .given .1)
+returns-5 c = put-rights _ _ _ _ _ _ _ _ _ _ (c .enum-told2 .given .1)
 
--- src/lib.rt:769:1
+-- src/lib.rt:896:1
 same-length-6 : tie.Need-same-length-6
 same-length-6 c = search needs
 
--- src/lib.rt:769:1
+-- src/lib.rt:896:1
 same-length-7 : tie.Need-same-length-7
 same-length-7 c = search needs
 
--- src/lib.rt:769:1
+-- src/lib.rt:896:1
 returns-6 : tie.Need-returns-6
-returns-6 c = put-formed _ _ _ _ _ _ _ _ _ _ _ _ (c .before .before .before .before .before .before .before .before .before .before .before .e5 .given .1) (c .before .before .before .before .before .before .before .before .put644 .ensures) (c .before .before .before .put-five .ensures)
+returns-6 c = put-formed _ _ _ _ _ _ _ _ _ _ _ _ (c .before .before .before .before .before .before .before .before .before .before .e4 .given .1) (c .before .before .before .before .before .before .before .put644 .ensures) (c .before .before .put-five .ensures)
 
--- src/lib.rt:769:1
+-- src/lib.rt:896:1
 returns-7 : tie.Need-returns-7
-returns-7 c = put-last _ _ _ _ _ _ _ _ _ (c .enum-told2 .given .1)
+returns-7 c = put-last _ _ _ _ _ _ _ _ _ (c .enum-told3 .given .1)
 
 pub put-spec : {M : Type 1} → statement M
 put-spec =
@@ -153,22 +134,18 @@ put-spec =
     enum-known-e
     add-put16
     put16-requires
-    add-t21
     enum-known-e-2
     put64-requires
     put64-requires-2
     put8-requires
-    add-t29
     enum-known-e-3
     put64-requires-3
-    add-t33
+    enum-told-2
     enum-known-e-4
-    enum-known-e-5
     put64-requires-4
     mul-put-five
     put-five-requires
-    add-t39
-    enum-told-2
+    enum-told-3
     returns
     same-length
     returns-2

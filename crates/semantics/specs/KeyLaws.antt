@@ -1,0 +1,256 @@
+-- What is enabled, exactly: no less than document 01's machine enables, and no more. Safety alone would not notice a machine that enables too much.
+use mathlib.Core.Path.{_≡_, refl, sym, _∙_, subst}
+use Prim.Native.Nat.{ℕ, zero, suc, _^_, _<_}
+use native.Mathlib.Omega.{arith}
+use mathlib.Core.Bool.{Bool, true, false, false≢true}
+use mathlib.Core.List.{List, [], _∷_, _++_, map, List·Memᴰ, List·Memᴰ·head, List·Memᴰ·tail, Memᴰ·map, Memᴰ·of-map}
+use mathlib.Core.Option.{none, some}
+use mathlib.Core.Logic.{_↔_, _≢_, _⊎_, inl, inr}
+use lib.ListN.{length, getElem?, set}
+use lib.Dec.{eqb, ltb}
+use lib.Bits.{bitOr}
+use borrow.Author.Tests.{eq-eqb, eqb-true, eqb-false, lt-ltb}
+use Rattle.order.specs.Bools.{_and_, _or_, and-l, and-r, and3, or-cases}
+use Rattle.order.specs.Order.{Below, here, below}
+use Rattle.order.specs.OrderLaws.{Proper, below-trans, below-zero, below→, →below}
+use Rattle.order.specs.Sets.{bit, members, setOf, keep, some-of}
+use Rattle.order.specs.SetLaws.{or→, →or-l, →or-r, bit-or, bit-pow, bit-zero, mem-bit, bit-mem, keep-mem, mem-keep, some-of→, →some-of, mem-setOf, setOf-mem}
+use Rattle.order.specs.Effects.{names}
+use Rattle.order.specs.EffectLaws.{eff-pure}
+use Rattle.syntax.specs.Commands.{Cmd, c-num, c-app, c-asg, c-test, c-lim, c-grant}
+use Rattle.syntax.specs.Operands.{nth}
+use Rattle.syntax.specs.Job.{Src}
+use Rattle.syntax.specs.Tree.{root, past}
+use Rattle.syntax.specs.WellRead.{WellRead}
+use Rattle.typing.specs.Rules.{h-num}
+use Rattle.semantics.specs.Machine.{k-num, k-fn, k-cell, k-lim, k-grant, Value, b-var, Closure, Frame, enter, hand, Machine, most-bindings}
+use Rattle.semantics.specs.Keys.{enabled, upto, narrow, add}
+use Rattle.semantics.specs.Step
+use Rattle.semantics.specs.Step.{Out, give, go, withCells, withBindings, withFrames, room, onNum, onFn, onCell, onLim, onGrant, found, one, two, branch, actApp, actAsg, actTest, limitKeys, touchAll, actLim, actGrant, worked, act, enterLim, enterCmd, resume, receive, handTo, stepOn, step}
+use Rattle.semantics.specs.Start.{named, keyNamed, startOf}
+use Rattle.semantics.specs.Begin.{start-ok}
+
+-- Sets of keys
+
+-- k is below a key of the list
+abbrev pub BelowOne : List ℕ → ℕ → List ℕ → Type 0
+BelowOne up k l = (a : ℕ) × List·Memᴰ a l × Below up k a
+
+zero-enabled : (up : List ℕ) (on k : ℕ) → k ≡ 0 → enabled up on k ≡ true
+unfolding enabled _or_
+zero-enabled up on k e = rw (eq-eqb k 0 e)
+
+some-enabled : {up : List ℕ} → Proper up → (on k : ℕ) → BelowOne up k (members on) → enabled up on k ≡ true
+unfolding enabled _or_
+some-enabled {up} ok on k z = at (eqb k 0) (→some-of (λ a. below up k a) (z .1) (→below ok (z .2)))
+  where
+    at : (b : Bool) → some-of (λ a. below up k a) (members on) ≡ true → (b or some-of (λ a. below up k a) (members on)) ≡ true
+    at true h = refl
+    at false h = h
+
+enabled-from : (up : List ℕ) (on k : ℕ) → enabled up on k ≡ true → (k ≡ 0) ⊎ BelowOne up k (members on)
+unfolding enabled
+enabled-from up on k e = at (or-cases (eqb k 0) (some-of (λ a. below up k a) (members on)) e)
+  where
+    at : (eqb k 0 ≡ true) ⊎ (some-of (λ a. below up k a) (members on) ≡ true) → (k ≡ 0) ⊎ BelowOne up k (members on)
+    at (inl h) = inl (eqb-true k 0 h)
+    at (inr h) = let z = some-of→ (λ a. below up k a) (members on) h in inr (z .0, z .1, below→ up k (z .0) (z .2))
+
+-- "A key is enabled when it is below an enabled one in the tree of keys"; "key 0, always enabled"
+pub enabled-exactly : {up : List ℕ} → Proper up → (on k : ℕ) → (enabled up on k ≡ true) ↔ ((k ≡ 0) ⊎ BelowOne up k (members on))
+enabled-exactly {up} ok on k = (enabled-from up on k, back)
+  where
+    back : (k ≡ 0) ⊎ BelowOne up k (members on) → enabled up on k ≡ true
+    back (inl e) = zero-enabled up on k e
+    back (inr z) = some-enabled ok on k z
+
+-- what is below an enabled key is enabled
+enabled-below : {up : List ℕ} → Proper up → (on : ℕ) {k a : ℕ} → enabled up on a ≡ true → Below up k a → enabled up on k ≡ true
+enabled-below {up} ok on {k} {a} e b = at (enabled-from up on a e)
+  where
+    at : (a ≡ 0) ⊎ BelowOne up a (members on) → enabled up on k ≡ true
+    at (inl z) = zero-enabled up on k (below-zero ok (subst (λ t. Below up k t) z b))
+    at (inr z) = some-enabled ok on k (z .0, z .1, below-trans b (z .2))
+
+mem-upto : (n k : ℕ) → k < n → List·Memᴰ k (upto n)
+unfolding upto
+mem-upto zero k h = absurd (omega arith)
+mem-upto (suc n) k h = at (eqb k n) refl (mem-upto n k)
+  where
+    at : (b : Bool) → eqb k n ≡ b → (k < n → List·Memᴰ k (upto n)) → List·Memᴰ k (n ∷ upto n)
+    at true e f = List·Memᴰ·head (eqb-true k n e)
+    at false e f = let z : k ≢ n = eqb-false k n e in List·Memᴰ·tail (f (omega arith))
+
+-- after a limit: "what is below both an old enabled key and one of its own"
+pub limit-exactly : {up : List ℕ} → Proper up → (on : ℕ) (own : List ℕ) (k : ℕ) → k < length up
+    → (enabled up (narrow up on own) k ≡ true) ↔ ((k ≡ 0) ⊎ ((enabled up on k ≡ true) × BelowOne up k own))
+unfolding narrow
+limit-exactly {up} ok on own k h = (λ e. to (enabled-from up (narrow up on own) k e), from)
+  where
+    test : ℕ → Bool
+    test i = ltb 0 i and enabled up on i and some-of (λ a. below up i a) own
+
+    kept : (a : ℕ) → Below up k a → test a ≡ true → (enabled up on k ≡ true) × BelowOne up k own
+    kept a b t =
+        let z = some-of→ (λ c. below up a c) own (and-r _ _ t) in
+        (enabled-below ok on (and-r _ _ (and-l _ _ t)) b, (z .0, z .1, below-trans b (below→ up a (z .0) (z .2))))
+
+    to : (k ≡ 0) ⊎ BelowOne up k (members (setOf (keep test (upto (length up))))) → (k ≡ 0) ⊎ ((enabled up on k ≡ true) × BelowOne up k own)
+    to (inl e) = inl e
+    to (inr z) = inr (kept (z .0) (z .2) (keep-mem test (upto (length up)) (mem-setOf (keep test (upto (length up))) (z .1)) .1))
+
+    from : (k ≡ 0) ⊎ ((enabled up on k ≡ true) × BelowOne up k own) → enabled up (setOf (keep test (upto (length up)))) k ≡ true
+    from (inl e) = zero-enabled up _ k e
+    from (inr z) = at (eqb k 0) refl (z .0) (z .1)
+      where
+        at : (b : Bool) → eqb k 0 ≡ b → enabled up on k ≡ true → BelowOne up k own → enabled up (setOf (keep test (upto (length up)))) k ≡ true
+        at true q e w = zero-enabled up _ k (eqb-true k 0 q)
+        at false q e w =
+            let n : k ≢ 0 = eqb-false k 0 q in
+            let t : test k ≡ true = and3 (ltb 0 k) (enabled up on k) (some-of (λ a. below up k a) own) (lt-ltb 0 k (omega arith)) e (→some-of (λ a. below up k a) (w .1) (→below ok (w .2))) in
+            some-enabled ok _ k (k, setOf-mem (mem-keep test (mem-upto (length up) k h) t), here)
+
+-- after a grant: what was enabled, and what is below the granted key
+pub grant-exactly : {up : List ℕ} → Proper up → (j on k : ℕ) → j < length up → (enabled up (add up j on) k ≡ true) ↔ ((enabled up on k ≡ true) ⊎ Below up k j)
+unfolding add
+grant-exactly {up} ok j on k h = rw (lt-ltb j (length up) h) (λ e. to (enabled-from up (bitOr (2 ^ j) on) k e), from)
+  where
+    one-of : (a : ℕ) → bit (bitOr (2 ^ j) on) a ≡ true → (a ≡ j) ⊎ List·Memᴰ a (members on)
+    one-of a e = at (or→ (bit (2 ^ j) a) (bit on a) (sym (bit-or a (2 ^ j) on) ∙ e))
+      where
+        at : (bit (2 ^ j) a ≡ true) ⊎ (bit on a ≡ true) → (a ≡ j) ⊎ List·Memᴰ a (members on)
+        at (inl z) = inl (eqb-true a j (sym (bit-pow j a) ∙ z))
+        at (inr z) = inr (bit-mem on z)
+
+    new : (a : ℕ) → Below up k a → (a ≡ j) ⊎ List·Memᴰ a (members on) → (enabled up on k ≡ true) ⊎ Below up k j
+    new a b (inl e) = inr (subst (λ t. Below up k t) e b)
+    new a b (inr m) = inl (some-enabled ok on k (a, m, b))
+
+    to : (k ≡ 0) ⊎ BelowOne up k (members (bitOr (2 ^ j) on)) → (enabled up on k ≡ true) ⊎ Below up k j
+    to (inl e) = inl (zero-enabled up on k e)
+    to (inr z) = new (z .0) (z .2) (one-of (z .0) (mem-bit (bitOr (2 ^ j) on) (z .1)))
+
+    old : (k ≡ 0) ⊎ BelowOne up k (members on) → enabled up (bitOr (2 ^ j) on) k ≡ true
+    old (inl e) = zero-enabled up _ k e
+    old (inr z) = some-enabled ok (bitOr (2 ^ j) on) k (z .0, bit-mem (bitOr (2 ^ j) on) (bit-or (z .0) (2 ^ j) on ∙ →or-r (bit (2 ^ j) (z .0)) (bit on (z .0)) (mem-bit on (z .1))), z .2)
+
+    from : (enabled up on k ≡ true) ⊎ Below up k j → enabled up (bitOr (2 ^ j) on) k ≡ true
+    from (inl e) = old (enabled-from up on k e)
+    from (inr b) = some-enabled ok (bitOr (2 ^ j) on) k (j, bit-mem (bitOr (2 ^ j) on) (bit-or j (2 ^ j) on ∙ →or-l (bit (2 ^ j) j) (bit on j) (bit-pow j j ∙ eq-eqb j j refl)), b)
+
+-- "with no key enabled": key 0 alone
+pub nothing-exactly : (up : List ℕ) (k : ℕ) → (enabled up 0 k ≡ true) ↔ (k ≡ 0)
+nothing-exactly up k = (λ e. to (enabled-from up 0 k e), zero-enabled up 0 k)
+  where
+    to : (k ≡ 0) ⊎ BelowOne up k (members 0) → k ≡ 0
+    to (inl e) = e
+    to (inr z) = absurd (false≢true (sym (bit-zero (z .0)) ∙ mem-bit 0 (z .1)))
+
+-- at the start: what is below the key of a right. The tree of keys depends on the names alone, so that its form is that of a job with the same names that does nothing
+idle : Src → Src
+idle S = record { names = S .names; values = S .values; rights = 0; cmds = c-num 0 ∷ [] }
+
+pub start-proper : (S : Src) → WellRead S → Proper (named S .keys)
+unfolding idle startOf named nth root past
+start-proper S wr = start-ok (idle S) quiet (h-num {n = 0} last) eff-pure .keys .proper
+  where
+    quiet : WellRead (idle S)
+    quiet = record { proper = wr .proper; upper = wr .upper; value = wr .value; few-names = wr .few-names; few-values = wr .few-values }
+
+    last : nth (idle S .cmds) (root (idle S)) ≡ c-num 0
+    last = refl
+
+pub start-exactly : (S : Src) → WellRead S → (k : ℕ)
+    → (enabled (named S .keys) (startOf S .thread .on) k ≡ true) ↔ ((k ≡ 0) ⊎ ((n : ℕ) × List·Memᴰ n (names (S .rights)) × Below (named S .keys) k (keyNamed S n)))
+unfolding startOf
+start-exactly S wr k = (λ e. to (enabled-from (named S .keys) on k e), from)
+  where
+    on : ℕ
+    on = setOf (map (keyNamed S) (names (S .rights)))
+
+    Right : Type 0
+    Right = (n : ℕ) × List·Memᴰ n (names (S .rights)) × Below (named S .keys) k (keyNamed S n)
+
+    to : (k ≡ 0) ⊎ BelowOne (named S .keys) k (members on) → (k ≡ 0) ⊎ Right
+    to (inl e) = inl e
+    to (inr z) = let y = Memᴰ·of-map (keyNamed S) (names (S .rights)) (mem-setOf (map (keyNamed S) (names (S .rights))) (z .1)) in inr (y .0, y .1, subst (λ t. Below (named S .keys) k t) (sym (y .2)) (z .2))
+
+    from : (k ≡ 0) ⊎ Right → enabled (named S .keys) on k ≡ true
+    from (inl e) = zero-enabled (named S .keys) on k e
+    from (inr z) = some-enabled (start-proper S wr) on k (keyNamed S (z .0), setOf-mem (Memᴰ·map (keyNamed S) (z .1)), z .2)
+
+-- Steps
+
+-- values that are limit keys, and the keys that they stand for
+pub data Stand : List Value → List ℕ → Type 0 where
+  st-nil : Stand [] []
+  st-cons : {v : Value} {j : ℕ} {vs : List Value} {js : List ℕ} → v .kind ≡ k-lim j → Stand vs js → Stand (v ∷ vs) (j ∷ js)
+
+stand-keys : {vs : List Value} {js : List ℕ} → Stand vs js → (g : List ℕ → Out) → limitKeys vs g ≡ g js
+unfolding limitKeys onLim
+stand-keys st-nil g = refl
+stand-keys (st-cons {j = j} {vs = vs} e s) g = rw e (stand-keys s (λ js. g (j ∷ js)))
+
+touch-all : (m : Machine) (vs : List Value) (o : Out) → ((v : Value) → List·Memᴰ v vs → enabled (m .store .keys) (m .thread .on) (v .key) ≡ true) → touchAll vs m o ≡ o
+unfolding touchAll Step.touch
+touch-all m [] o h = refl
+touch-all m (v ∷ vs) o h = rw (h v (List·Memᴰ·head refl)) (touch-all m vs o (λ w n. h w (List·Memᴰ·tail n)))
+
+module _ {T : Type 0} (code : ℕ → Cmd T) where
+  -- the next step of m is the act of the command k of the newest frame f, with the values vs, all in hand; fs are the frames below it
+  pub record Acting (m : Machine) (k : Cmd T) (vs : List Value) (f : Frame) (fs : List Frame) : Type 0 where
+    pub last : Value
+    pub control : m .thread .control ≡ hand last
+    pub frames : m .thread .frames ≡ (f ∷ fs)
+    pub command : code (f .at) ≡ k
+    pub whole : getElem? (worked k) (suc (length (f .hand))) ≡ none
+    pub values : (f .hand ++ (last ∷ [])) ≡ vs
+
+  -- "brings back its own bindings and enabled keys and .., all in hand, is popped and acts"
+  pub acting : {m : Machine} {k : Cmd T} {vs : List Value} {f : Frame} {fs : List Frame} → Acting m k vs f fs → step code m ≡ act k vs (resume f fs m)
+  unfolding step stepOn handTo receive
+  acting {m} {k} {vs} {f} {fs} a = rw (a .control, a .frames, a .command, a .whole, a .values, a .command)
+
+  -- "3C with no keys pushes none and enters its body with no key enabled"
+  pub limit-none : (m : Machine) {e b : ℕ} → m .thread .control ≡ enter e → code e ≡ c-lim [] b → step code m ≡ go b (m .thread .env) 0 m
+  unfolding step stepOn enterCmd enterLim
+  limit-none m h c = rw (h, c)
+
+  -- 3C: the body is entered with exactly what the limit leaves of the frame's own enabled keys
+  pub limit-body : {m : Machine} {b : ℕ} {ks js : List ℕ} {vs : List Value} {f : Frame} {fs : List Frame} → Acting m (c-lim ks b) vs f fs → Stand vs js
+      → ((v : Value) → List·Memᴰ v vs → enabled (m .store .keys) (f .on) (v .key) ≡ true)
+      → step code m ≡ go b (f .env) (narrow (m .store .keys) (f .on) js) (withFrames m fs)
+  unfolding act actLim
+  limit-body {m} {vs = vs} {f = f} {fs = fs} a s h = acting a ∙ stand-keys s _ ∙ touch-all (resume f fs m) vs _ h
+
+  -- 3D: with exactly what the frame had and the granted key
+  pub grant-body : {m : Machine} {a b j : ℕ} {v : Value} {f : Frame} {fs : List Frame} → Acting m (c-grant a b) (v ∷ []) f fs → v .kind ≡ k-grant j
+      → enabled (m .store .keys) (f .on) (v .key) ≡ true
+      → step code m ≡ go b (f .env) (add (m .store .keys) j (f .on)) (withFrames m fs)
+  unfolding act one actGrant onGrant Step.touch
+  grant-body a e h = acting a ∙ rw (e, h)
+
+  -- 36: "a call uses the caller's enabled keys", the frame's own, and not those where the function was made
+  pub call-body : {m : Machine} {a b i : ℕ} {v w : Value} {c : Closure} {f : Frame} {fs : List Frame} → Acting m (c-app a b) (v ∷ w ∷ []) f fs → v .kind ≡ k-fn i
+      → enabled (m .store .keys) (f .on) (v .key) ≡ true → getElem? (m .store .functions) i ≡ some c → length (m .store .bindings) < most-bindings
+      → step code m ≡ go (c .body) (suc (length (m .store .bindings))) (f .on) (withBindings (withFrames m fs) (m .store .bindings ++ (record { bind = b-var (c .var) w; next = c .env } ∷ [])))
+  unfolding act two actApp onFn Step.touch found Step.call room
+  call-body {m} a e h g r = acting a ∙ rw (e, h, g, lt-ltb (length (m .store .bindings)) most-bindings r)
+
+  -- 38 "hands on the assigned value"
+  pub assign-hands : {m : Machine} {a b c : ℕ} {v w old : Value} {f : Frame} {fs : List Frame} → Acting m (c-asg a b) (v ∷ w ∷ []) f fs → v .kind ≡ k-cell c
+      → enabled (m .store .keys) (f .on) (v .key) ≡ true → getElem? (m .store .cells) c ≡ some old
+      → step code m ≡ give w (withCells (resume f fs m) (set (m .store .cells) c w))
+  unfolding act two actAsg onCell Step.touch found
+  assign-hands a e h g = acting a ∙ rw (e, h, g)
+
+  -- 3B: the second operand for a number above 0, the third for 0, each with the frame's own enabled keys
+  pub test-above : {m : Machine} {a b c n : ℕ} {t : T} {v : Value} {f : Frame} {fs : List Frame} → Acting m (c-test a b c t) (v ∷ []) f fs → v .kind ≡ k-num (suc n)
+      → enabled (m .store .keys) (f .on) (v .key) ≡ true → step code m ≡ go b (f .env) (f .on) (withFrames m fs)
+  unfolding act one actTest onNum Step.touch branch
+  test-above a e h = acting a ∙ rw (e, h)
+
+  pub test-zero : {m : Machine} {a b c : ℕ} {t : T} {v : Value} {f : Frame} {fs : List Frame} → Acting m (c-test a b c t) (v ∷ []) f fs → v .kind ≡ k-num 0
+      → enabled (m .store .keys) (f .on) (v .key) ≡ true → step code m ≡ go c (f .env) (f .on) (withFrames m fs)
+  unfolding act one actTest onNum Step.touch branch
+  test-zero a e h = acting a ∙ rw (e, h)

@@ -1,0 +1,166 @@
+-- What the head and the places of an expression say of its operands.
+use mathlib.Core.Path.{_≡_, refl, sym, ap, _∙_}
+use Prim.Native.Nat.{ℕ, _+_, _-_, _*_, _/_, _%_, _^_, _≤_, _<_}
+use native.Mathlib.Omega.{arith}
+use native.Mathlib.Nat.{mod-eq-of-lt}
+use mathlib.Core.Bool.{Bool, true, false, cond}
+use mathlib.Core.List.{List, [], _∷_, _++_}
+use lib.ListN.{length, getD, replicate, length-append}
+use lib.Dec.{eqb, ltb}
+use borrow.Author.Tests.{lt-ltb, le-ltb, ltb-true, ltb-false, ne-eqb, eqb-true}
+use Rattle.order.specs.Sets.{bit}
+use Rattle.order.specs.SetLaws.{bit-pow, bit-zero, lt-bit, lt-pow}
+use Rattle.syntax.specs.Commands.{Cmd, c-num, c-top, c-var, c-pair, c-part, c-fn, c-app, c-new, c-asg, c-read, c-sum, c-test, c-lim, c-grant, c-newkey, c-assoc}
+use Rattle.syntax.specs.Operands.{plain, inner, kids}
+use Rattle.syntax.specs.Words.{headWord, slots, filled}
+use Rattle.syntax.specs.Tree.{count}
+use Rattle.tree.specs.Passes.{oneOf, arityOf, isOperand}
+
+-- the set of one number
+
+pub pow-fits : (b : ℕ) → b < 64 → 1 * 2 ^ b % 2 ^ 64 ≡ 2 ^ b
+pow-fits b h =
+    let k : 2 ^ b < 2 ^ 64 = lt-bit 64 (2 ^ b) (λ i e. omega (arith, eqb-true i b (sym (bit-pow b i) ∙ e))) in
+    let z : 1 * 2 ^ b ≡ 2 ^ b = omega arith in
+    ap (λ (x : ℕ). x % 2 ^ 64) z ∙ mod-eq-of-lt k
+
+pub some-pow : (b : ℕ) → b < 64 → 1 ≤ 1 * 2 ^ b % 2 ^ 64
+some-pow b h = omega (arith, pow-fits b h, lt-pow b 0 (omega arith))
+
+pub one-is : (b : ℕ) → b < 64 → oneOf b ≡ 2 ^ b
+unfolding oneOf
+one-is b h = ap (λ (c : Bool). cond c (1 * 2 ^ b % 2 ^ 64) 0) (lt-ltb b 64 h) ∙ pow-fits b h
+
+pub one-none : (b : ℕ) → 64 ≤ b → oneOf b ≡ 0
+unfolding oneOf
+one-none b h = ap (λ (c : Bool). cond c (1 * 2 ^ b % 2 ^ 64) 0) (le-ltb b 64 h)
+
+pub one-bit : (b n : ℕ) → n < 64 → bit (oneOf b) n ≡ eqb n b
+one-bit b n h = at (ltb b 64) refl
+  where
+    at : (c : Bool) → ltb b 64 ≡ c → bit (oneOf b) n ≡ eqb n b
+    at true e = ap (λ (x : ℕ). bit x n) (one-is b (ltb-true b 64 e)) ∙ bit-pow b n
+    at false e = let k : 64 ≤ b = ltb-false b 64 e in ap (λ (x : ℕ). bit x n) (one-none b k) ∙ bit-zero n ∙ sym (ne-eqb n b (λ z. omega arith))
+
+pub one-past : (b n : ℕ) → 64 ≤ n → bit (oneOf b) n ≡ false
+one-past b n h = at (ltb b 64) refl
+  where
+    at : (c : Bool) → ltb b 64 ≡ c → bit (oneOf b) n ≡ false
+    at true e = let k : b < 64 = ltb-true b 64 e in ap (λ (x : ℕ). bit x n) (one-is b k) ∙ bit-pow b n ∙ ne-eqb n b (λ z. omega arith)
+    at false e = ap (λ (x : ℕ). bit x n) (one-none b (ltb-false b 64 e)) ∙ bit-zero n
+
+-- a command's byte, and the rest of its head
+unfoldable pub byteOf : Cmd ℕ → ℕ
+byteOf (c-num n) = 0x30
+byteOf c-top = 0x31
+byteOf (c-var v) = 0x32
+byteOf (c-pair a b) = 0x33
+byteOf (c-part a i) = 0x34
+byteOf (c-fn v t b) = 0x35
+byteOf (c-app a b) = 0x36
+byteOf (c-new t a) = 0x37
+byteOf (c-asg a b) = 0x38
+byteOf (c-read a) = 0x39
+byteOf (c-sum i a b) = 0x3A
+byteOf (c-test a b c t) = 0x3B
+byteOf (c-lim ks b) = 0x3C
+byteOf (c-grant a b) = 0x3D
+byteOf (c-newkey v r a b t) = 0x3E
+byteOf (c-assoc a b) = 0x3F
+
+pub byte-is : (k : Cmd ℕ) → headWord k % 256 ≡ byteOf k
+unfolding headWord byteOf
+byte-is (c-num n) = omega arith
+byte-is c-top = omega arith
+byte-is (c-var v) = omega arith
+byte-is (c-pair a b) = omega arith
+byte-is (c-part a i) = omega arith
+byte-is (c-fn v t b) = omega arith
+byte-is (c-app a b) = omega arith
+byte-is (c-new t a) = omega arith
+byte-is (c-asg a b) = omega arith
+byte-is (c-read a) = omega arith
+byte-is (c-sum i a b) = omega arith
+byte-is (c-test a b c t) = omega arith
+byte-is (c-lim ks b) = omega arith
+byte-is (c-grant a b) = omega arith
+byte-is (c-newkey v r a b t) = omega arith
+byte-is (c-assoc a b) = omega arith
+
+-- place i is an expression, by the byte and the number of keys
+unfoldable pub opAt : ℕ → ℕ → ℕ → Bool
+opAt b q i = cond (eqb b 0x3C) (cond (ltb i q) true (eqb i 4)) (ltb i (arityOf b))
+
+unfoldable pub keysOf : Cmd ℕ → ℕ
+keysOf (c-num n) = 0
+keysOf c-top = 0
+keysOf (c-var v) = 0
+keysOf (c-pair a b) = 0
+keysOf (c-part a i) = 0
+keysOf (c-fn v t b) = 0
+keysOf (c-app a b) = 0
+keysOf (c-new t a) = 0
+keysOf (c-asg a b) = 0
+keysOf (c-read a) = 0
+keysOf (c-sum i a b) = 0
+keysOf (c-test a b c t) = 0
+keysOf (c-lim ks b) = length ks
+keysOf (c-grant a b) = 0
+keysOf (c-newkey v r a b t) = 0
+keysOf (c-assoc a b) = 0
+
+keys-is : (k : Cmd ℕ) (i : ℕ) → opAt (byteOf k) (headWord k / 256) i ≡ opAt (byteOf k) (keysOf k) i
+unfolding opAt byteOf keysOf headWord
+keys-is (c-num n) i = refl
+keys-is c-top i = refl
+keys-is (c-var v) i = refl
+keys-is (c-pair a b) i = refl
+keys-is (c-part a j) i = refl
+keys-is (c-fn v t b) i = refl
+keys-is (c-app a b) i = refl
+keys-is (c-new t a) i = refl
+keys-is (c-asg a b) i = refl
+keys-is (c-read a) i = refl
+keys-is (c-sum j a b) i = refl
+keys-is (c-test a b c t) i = refl
+keys-is (c-lim ks b) i = let z : (0x3C + 256 * length ks) / 256 ≡ length ks = omega arith in ap (λ (q : ℕ). cond (ltb i q) true (eqb i 4)) z
+keys-is (c-grant a b) i = refl
+keys-is (c-newkey v r a b t) i = refl
+keys-is (c-assoc a b) i = refl
+
+pub operand-is : (k : Cmd ℕ) (i : ℕ) → isOperand (headWord k) i ≡ opAt (byteOf k) (keysOf k) i
+unfolding isOperand opAt
+operand-is k i = ap (λ (b : ℕ). opAt b (headWord k / 256) i) (byte-is k) ∙ keys-is k i
+
+-- a use of c in place i, where the place holds s
+unfoldable pub useAt : Bool → ℕ → ℕ → ℕ
+useAt o s c = cond o (cond (eqb c s) 1 0) 0
+
+unfoldable pub uses5 : ℕ → ℕ → List ℕ → ℕ → ℕ
+uses5 b q s c =
+    useAt (opAt b q 4) (getD s 4 0) c
+    + (useAt (opAt b q 3) (getD s 3 0) c + (useAt (opAt b q 2) (getD s 2 0) c + (useAt (opAt b q 1) (getD s 1 0) c + useAt (opAt b q 0) (getD s 0 0) c)))
+
+pub kids-count : (k : Cmd ℕ) → length (slots k) ≡ 5 → (c : ℕ) → count c (kids k) ≡ uses5 (byteOf k) (keysOf k) (slots k) c
+unfolding kids plain inner count uses5 useAt opAt arityOf byteOf keysOf slots filled
+kids-count (c-num n) h c = refl
+kids-count c-top h c = refl
+kids-count (c-var v) h c = refl
+kids-count (c-pair a b) h c = omega arith
+kids-count (c-part a i) h c = omega arith
+kids-count (c-fn v t b) h c = omega arith
+kids-count (c-app a b) h c = omega arith
+kids-count (c-new t a) h c = omega arith
+kids-count (c-asg a b) h c = omega arith
+kids-count (c-read a) h c = omega arith
+kids-count (c-sum i a b) h c = omega arith
+kids-count (c-test x y z t) h c = omega arith
+kids-count (c-lim [] b) h c = omega arith
+kids-count (c-lim (w ∷ []) b) h c = omega arith
+kids-count (c-lim (w ∷ x ∷ []) b) h c = omega arith
+kids-count (c-lim (w ∷ x ∷ y ∷ []) b) h c = omega arith
+kids-count (c-lim (w ∷ x ∷ y ∷ z ∷ []) b) h c = omega arith
+kids-count (c-lim (w ∷ x ∷ y ∷ z ∷ u ∷ l) b) h c = absurd (omega (arith, h, length-append (l ++ replicate (4 - length (w ∷ x ∷ y ∷ z ∷ u ∷ l)) 0xFFFF) (b ∷ [])))
+kids-count (c-grant a b) h c = omega arith
+kids-count (c-newkey v r a b t) h c = omega arith
+kids-count (c-assoc a b) h c = omega arith

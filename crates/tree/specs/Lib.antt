@@ -1,0 +1,11 @@
+pub mod Answer
+pub mod Passes
+pub mod Holds
+pub mod Heads
+pub mod Uses
+pub mod Binders
+pub mod Masks
+pub mod Host
+pub mod Scopes
+pub mod Right
+pub mod Filled

@@ -1,0 +1,165 @@
+-- The passes over a job's tables for numbers 8, 9 and 10, step by step. `Holds` says which tables hold a job, and `Right` that the passes then find the job's refusal.
+use Prim.Native.Nat.{ℕ, zero, suc, _+_, _-_, _*_, _/_, _%_, _^_}
+use mathlib.Core.Bool.{Bool, true, false, cond, not}
+use mathlib.Core.List.{List}
+use mathlib.Core.Option.{Option, none}
+use lib.ListN.{getD, set, replicate}
+use lib.Dec.{eqb, ltb}
+use lib.Bits.{bitOr}
+use Rattle.order.specs.Sets.{bit}
+use Rattle.syntax.specs.Reading.{Refusal}
+use Rattle.syntax.specs.Tree.{firstBad, orElse, numbered}
+
+-- the set of one number below 64; 64 and more stand for none
+unfoldable pub oneOf : ℕ → ℕ
+oneOf n = cond (ltb n 64) (1 * 2 ^ n % 2 ^ 64) 0
+
+-- how many of the first places of a command's operands are expressions; 3C has its own rule
+unfoldable pub arityOf : ℕ → ℕ
+arityOf b =
+    cond (eqb b 0x33) 2
+    (cond (eqb b 0x34) 1
+    (cond (eqb b 0x35) 1
+    (cond (eqb b 0x36) 2
+    (cond (eqb b 0x37) 1
+    (cond (eqb b 0x38) 2
+    (cond (eqb b 0x39) 1
+    (cond (eqb b 0x3A) 2
+    (cond (eqb b 0x3B) 3
+    (cond (eqb b 0x3D) 2
+    (cond (eqb b 0x3E) 2
+    (cond (eqb b 0x3F) 2
+    0)))))))))))
+
+-- place i of the command with this head is an expression; of 3C the keys that are used, and the body
+unfoldable pub isOperand : ℕ → ℕ → Bool
+isOperand w i = cond (eqb (w % 256) 0x3C) (cond (ltb i (w / 256)) true (eqb i 4)) (ltb i (arityOf (w % 256)))
+
+-- place i is the body of a binder: of 35 and 3E
+unfoldable pub isBody : ℕ → ℕ → Bool
+isBody w i = cond (eqb (w % 256) 0x35) (eqb i 0) (cond (eqb (w % 256) 0x3E) (eqb i 1) false)
+
+-- the variable or the local name that the command binds; 64 for none
+unfoldable pub boundVar : ℕ → ℕ
+boundVar w = cond (eqb (w % 256) 0x35) (w / 256 % 256) (cond (eqb (w % 256) 0x3E) (w / 256 % 256) 64)
+
+unfoldable pub boundName : ℕ → ℕ
+boundName w = cond (eqb (w % 256) 0x3E) (w / 65536 % 256) 64
+
+unfoldable pub boundOf : Bool → ℕ → ℕ
+boundOf isName w = cond isName (boundName w) (boundVar w)
+
+-- 8: the uses of each expression, no more than 2 told apart; the places from the last down
+unfoldable pub oneMore : ℕ → ℕ
+oneMore x = cond (ltb x 2) (x + 1) 2
+
+unfoldable pub tallied : List ℕ → ℕ → List ℕ
+tallied l c = cond (ltb c 512) (set l c (oneMore (getD l c 0))) l
+
+unfoldable pub countStep : List ℕ → ℕ → ℕ → ℕ → List ℕ
+countStep l w i c = cond (isOperand w i) (tallied l c) l
+
+unfoldable pub counted : List ℕ → List ℕ → ℕ → List ℕ → List ℕ
+counted heads slots zero l = l
+counted heads slots (suc j) l = counted heads slots j (countStep l (getD heads (j / 5) 0) (j % 5) (getD slots j 0))
+
+unfoldable pub countsBy : List ℕ → List ℕ → ℕ → List ℕ
+countsBy heads slots n = counted heads slots (n * 5) (replicate 512 0)
+
+-- once, and the last not at all
+unfoldable pub rightCount : List ℕ → ℕ → ℕ → Bool
+rightCount counts n e = eqb (getD counts e 0) (cond (eqb (e + 1) n) 0 1)
+
+-- 9: what the expressions before e bind
+unfoldable pub before : Bool → List ℕ → ℕ → ℕ
+before isName heads zero = 0
+before isName heads (suc e) = bitOr (before isName heads e) (oneOf (boundOf isName (getD heads e 0)))
+
+unfoldable pub isNew : List ℕ → ℕ → Bool
+isNew heads e = cond (bit (before false heads e) (boundVar (getD heads e 0))) false (not (bit (before true heads e) (boundName (getD heads e 0))))
+
+-- 10: the host's variables; its names with 0 and 1
+unfoldable pub hostVars : ℕ → ℕ
+hostVars n = cond (ltb n 64) (1 * 2 ^ n % 2 ^ 64 - 1) 0xFFFFFFFFFFFFFFFF
+
+unfoldable pub hostName : ℕ → ℕ → ℕ
+hostName w n = cond (eqb (w / 256) 1) (oneOf n) 0
+
+unfoldable pub hostNames : List ℕ → ℕ → ℕ
+hostNames names zero = 3
+hostNames names (suc n) = bitOr (hostNames names n) (hostName (getD names (n + 2) 0) (n + 2))
+
+-- the names in a type, by those in its parts
+unfoldable pub typeNames : ℕ → ℕ → List ℕ → ℕ
+typeNames w s m =
+    cond (eqb (w % 256) 0x11) (bitOr (oneOf (w / 256 % 256)) (bitOr (getD m (w / 65536 % 65536) 0) (getD m (w / 4294967296 % 65536) 0)))
+    (cond (eqb (w % 256) 0x12) (bitOr (oneOf (w / 256 % 256)) (getD m (w / 65536 % 65536) 0))
+    (cond (eqb (w % 256) 0x13) (bitOr (oneOf (w / 256 % 256)) (bitOr (bitOr (getD m (w / 65536 % 65536) 0) (getD m (w / 4294967296 % 65536) 0)) s))
+    (cond (eqb (w % 256) 0x14) (bitOr (oneOf (w / 256 % 256)) (oneOf (w / 65536 % 256)))
+    (cond (eqb (w % 256) 0x15) (bitOr (oneOf (w / 256 % 256)) (oneOf (w / 65536 % 256)))
+    (oneOf (w / 256 % 256))))))
+
+unfoldable pub masksFrom : List ℕ → List ℕ → ℕ → ℕ → List ℕ → List ℕ
+masksFrom types sets i zero m = m
+masksFrom types sets i (suc f) m = masksFrom types sets (i + 1) f (set m i (typeNames (getD types i 0) (getD sets i 0) m))
+
+unfoldable pub masksBy : List ℕ → List ℕ → ℕ → List ℕ
+masksBy types sets n = masksFrom types sets 0 n (replicate 256 0)
+
+-- expression e hands its scope x to the operand c in place i, with what it binds where that is its body
+unfoldable pub handedTo : Bool → ℕ → ℕ → ℕ → ℕ
+handedTo isName w i x = cond (isBody w i) (bitOr x (oneOf (boundOf isName w))) x
+
+unfoldable pub putIn : List ℕ → ℕ → ℕ → List ℕ
+putIn sc c x = cond (ltb c 512) (set sc c x) sc
+
+unfoldable pub handStep : Bool → List ℕ → ℕ → ℕ → ℕ → ℕ → List ℕ
+handStep isName sc w i e c = cond (isOperand w i) (putIn sc c (handedTo isName w i (getD sc e 0))) sc
+
+-- the places from the last down
+unfoldable pub handedDown : Bool → List ℕ → List ℕ → ℕ → List ℕ → List ℕ
+handedDown isName heads slots zero sc = sc
+handedDown isName heads slots (suc j) sc = handedDown isName heads slots j (handStep isName sc (getD heads (j / 5) 0) (j % 5) (j / 5) (getD slots j 0))
+
+-- the last expression stands in the host's scope
+unfoldable pub scopesBy : Bool → List ℕ → List ℕ → ℕ → ℕ → List ℕ
+scopesBy isName heads slots n host = handedDown isName heads slots (n * 5) (putIn (replicate 512 0) (n - 1) host)
+
+-- the place of a command's type operand; 5 for none
+unfoldable pub typePlace : ℕ → ℕ
+typePlace b = cond (eqb b 0x35) 1 (cond (eqb b 0x37) 1 (cond (eqb b 0x3B) 3 (cond (eqb b 0x3E) 2 5)))
+
+-- the names in the type operand of the expression with this head
+unfoldable pub operandNames : List ℕ → List ℕ → ℕ → ℕ → ℕ
+operandNames masks slots e w = cond (ltb (typePlace (w % 256)) 5) (getD masks (getD slots (e * 5 + typePlace (w % 256)) 0) 0) 0
+
+-- the variable that it uses is in scope
+unfoldable pub varFits : ℕ → ℕ → Bool
+varFits w x = cond (eqb (w % 256) 0x32) (bit x (w / 256 % 256)) true
+
+unfoldable pub isScoped : List ℕ → List ℕ → List ℕ → List ℕ → List ℕ → ℕ → Bool
+isScoped heads slots masks vars names e =
+    cond (varFits (getD heads e 0) (getD vars e 0)) (eqb (bitOr (operandNames masks slots e (getD heads e 0)) (getD names e 0)) (getD names e 0)) false
+
+-- 8 before 9 before 10
+unfoldable pub scopeRefusal : List ℕ → List ℕ → ℕ → List ℕ → ℕ → List ℕ → List ℕ → ℕ → ℕ → Option Refusal
+scopeRefusal heads slots n names nnames types sets ntypes nvalues =
+    numbered 10
+    (firstBad
+    (isScoped heads slots (masksBy types sets ntypes) (scopesBy false heads slots n (hostVars nvalues)) (scopesBy true heads slots n (hostNames names nnames)))
+    0
+    n)
+
+unfoldable pub tableRefusal : List ℕ → List ℕ → ℕ → List ℕ → ℕ → List ℕ → List ℕ → ℕ → ℕ → Option Refusal
+tableRefusal heads slots n names nnames types sets ntypes nvalues =
+    orElse (numbered 8 (firstBad (rightCount (countsBy heads slots n) n) 0 n))
+    (orElse (numbered 9 (firstBad (isNew heads) 0 n))
+    (scopeRefusal heads slots n names nnames types sets ntypes nvalues))
+
+-- a job has an expression, and no more entries than the limits
+unfoldable pub inLimits : ℕ → ℕ → ℕ → Bool
+inLimits n nnames ntypes = cond (eqb n 0) false (cond (ltb 512 n) false (cond (ltb 62 nnames) false (cond (ltb 256 ntypes) false true)))
+
+-- for tables of any size; those that are not in the limits hold no job, and nothing is found
+unfoldable pub treeBy : List ℕ → List ℕ → ℕ → List ℕ → ℕ → List ℕ → List ℕ → ℕ → ℕ → Option Refusal
+treeBy heads slots n names nnames types sets ntypes nvalues = cond (inLimits n nnames ntypes) (tableRefusal heads slots n names nnames types sets ntypes nvalues) none

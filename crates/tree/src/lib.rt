@@ -1,0 +1,516 @@
+// The tree checks: numbers 8, 9 and 10 of document 01, by passes over a job's tables.
+use names::at16;
+use names::at64;
+use names::has;
+ghost use mathlib.Core.Path.{_≡_};
+ghost use Prim.Native.Nat.{_+_, _≤_, _<_};
+ghost use mathlib.Core.Bool.{false, cond, not};
+ghost use lib.ListN.{getD};
+ghost use lib.Bits.{bitOr};
+ghost use lib.Dec.{eqb};
+ghost use Rattle.order.specs.Sets.{bit};
+ghost use Rattle.syntax.specs.Job.{Job, sourceOf};
+ghost use Rattle.syntax.specs.ReadLaws.{JobOk};
+ghost use Rattle.syntax.specs.Tree.{firstBad, numbered, treeRefusal};
+ghost use Rattle.tree.specs.Answer.{refusalOf};
+ghost use Rattle.tree.specs.Holds.{Holds};
+ghost use Rattle.tree.specs.Passes.{arityOf, boundName, boundOf, boundVar, countStep, countsBy, handStep, handedTo, hostName, hostNames, hostVars, inLimits, isBody, isNew, isOperand, isScoped, masksBy, oneMore, oneOf, operandNames, rightCount, scopeRefusal, scopesBy, tableRefusal, treeBy, typeNames, typePlace, varFits};
+
+// An expression's number.
+pub struct Expr(pub u16);
+
+// The expressions are a tree in scope, or the first refusal: 8, 9 or 10, and its expression.
+pub enum Answer {
+    Tree,
+    Refused(u8, Expr),
+}
+
+// The set of n alone; 64 and more stand for none.
+fn one(n: u8) -> u64
+    ensures { λ r. ⌜ r ≡ oneOf n ⌝ }
+{
+    if n < 64 {
+        return 1u64 << n;
+    }
+    0
+}
+
+// How many of the first places of a command's operands are expressions; 3C has its own rule.
+fn arity(byte: u64) -> u64
+    ensures { λ r. ⌜ r ≡ arityOf byte ⌝ }
+{
+    match byte {
+        0x33 => 2,
+        0x34 => 1,
+        0x35 => 1,
+        0x36 => 2,
+        0x37 => 1,
+        0x38 => 2,
+        0x39 => 1,
+        0x3A => 2,
+        0x3B => 3,
+        0x3D => 2,
+        0x3E => 2,
+        0x3F => 2,
+        _ => 0,
+    }
+}
+
+// Whether place i of the command with this head is an expression. Of 3C these are the keys that are used, and the body.
+fn is_operand(head: u64, i: u64) -> bool
+    ensures { λ r. ⌜ r ≡ isOperand head i ⌝ }
+{
+    let byte = head % 256;
+    if byte == 0x3C {
+        if i < head / 256 {
+            return true;
+        }
+        return i == 4;
+    }
+    i < arity(byte)
+}
+
+// Whether place i is the body of a binder: of 35 and 3E.
+fn is_body(head: u64, i: u64) -> bool
+    ensures { λ r. ⌜ r ≡ isBody head i ⌝ }
+{
+    let byte = head % 256;
+    if byte == 0x35 {
+        return i == 0;
+    }
+    if byte == 0x3E {
+        return i == 1;
+    }
+    false
+}
+
+// The variable that the command binds; 64 for none.
+fn bound_var(head: u64) -> u8
+    ensures { λ r. ⌜ r ≡ boundVar head ⌝ }
+{
+    let byte = head % 256;
+    if byte == 0x35 {
+        return (head / 256 % 256) as u8;
+    }
+    if byte == 0x3E {
+        return (head / 256 % 256) as u8;
+    }
+    64
+}
+
+// The local name that it binds; 64 for none.
+fn bound_name(head: u64) -> u8
+    ensures { λ r. ⌜ r ≡ boundName head ⌝ }
+{
+    let byte = head % 256;
+    if byte == 0x3E {
+        return (head / 65536 % 256) as u8;
+    }
+    64
+}
+
+// The one or the other.
+fn bound(named: bool, head: u64) -> u8
+    ensures { λ r. ⌜ r ≡ boundOf named head ⌝ }
+{
+    if named {
+        return bound_name(head);
+    }
+    bound_var(head)
+}
+
+// One use more; two and more are the same.
+fn one_more(x: u8) -> u8
+    ensures { λ r. ⌜ r ≡ oneMore x ⌝ }
+{
+    if x < 2 {
+        return x + 1;
+    }
+    2
+}
+
+// Counts the use of c in place i of the command with this head.
+fn tally(counts: &mut [u8; 512], head: u64, i: u64, c: usize)
+    ensures { λ r. ⌜ now (counts .exit) ≡ countStep (now (counts .entry)) head i c ⌝ }
+{
+    if is_operand(head, i) {
+        if c < 512 {
+            counts[c] = one_more(counts[c]);
+        }
+    }
+}
+
+// The uses of each expression.
+fn count(heads: &[u64], slots: &[u16], cmds: usize) -> [u8; 512]
+    requires { ⌜ cmds ≤ 512 ⌝ }
+    ensures { λ r. ⌜ r ≡ countsBy (now (heads .entry)) (now (slots .entry)) cmds ⌝ }
+{
+    let mut counts = [0u8; 512];
+    let mut j = cmds * 5;
+    while 0 < j {
+        j = j - 1;
+        tally(
+            &mut counts,
+            at64(heads, j / 5),
+            (j % 5) as u64,
+            at16(slots, j) as usize,
+        );
+    }
+    counts
+}
+
+// Whether expression e is used x times rightly: once, and the last of n not at all.
+fn right_count(x: u8, e: usize, n: usize) -> bool
+    requires { ⌜ e < 512 ⌝ }
+    ensures { λ r. ⌜ r ≡ eqb x (cond (eqb (e + 1) n) 0 1) ⌝ }
+{
+    if e + 1 == n {
+        return x == 0;
+    }
+    x == 1
+}
+
+// 8: the lowest expression that is not used once; the last is not used at all.
+fn misused(counts: &[u8; 512], cmds: usize) -> Answer
+    requires { ⌜ cmds ≤ 512 ⌝ }
+    ensures { λ r. ⌜ refusalOf r ≡ numbered 8 (firstBad (rightCount (now (counts .entry)) cmds) 0 cmds) ⌝ }
+{
+    let mut e: usize = 0;
+    while e < cmds {
+        if right_count(counts[e], e, cmds) {} else {
+            return Answer::Refused(8, Expr(e as u16));
+        }
+        e = e + 1;
+    }
+    Answer::Tree
+}
+
+// Whether the command binds nothing that is bound already.
+fn is_new(vars: u64, locals: u64, head: u64) -> bool
+    ensures { λ r. ⌜ r ≡ cond (bit vars (boundVar head)) false (not (bit locals (boundName head))) ⌝ }
+{
+    if has(vars, bound_var(head)) {
+        return false;
+    }
+    if has(locals, bound_name(head)) {
+        return false;
+    }
+    true
+}
+
+// 9: the lowest expression that binds a variable or a name bound before.
+fn rebound(heads: &[u64], cmds: usize) -> Answer
+    requires { ⌜ cmds ≤ 512 ⌝ }
+    ensures { λ r. ⌜ refusalOf r ≡ numbered 9 (firstBad (isNew (now (heads .entry))) 0 cmds) ⌝ }
+{
+    let mut vars: u64 = 0;
+    let mut locals: u64 = 0;
+    let mut e: usize = 0;
+    while e < cmds {
+        let head = at64(heads, e);
+        if is_new(vars, locals, head) {} else {
+            return Answer::Refused(9, Expr(e as u16));
+        }
+        vars = vars | one(bound(false, head));
+        locals = locals | one(bound(true, head));
+        e = e + 1;
+    }
+    Answer::Tree
+}
+
+// The host's variables: the first n.
+fn host_vars(n: usize) -> u64
+    ensures { λ r. ⌜ r ≡ hostVars n ⌝ }
+{
+    if n < 64 {
+        return (1u64 << n) - 1;
+    }
+    0xFFFF_FFFF_FFFF_FFFF
+}
+
+// The set of name n where this word of the names table is a host name's.
+fn host_name(word: u16, n: u8) -> u64
+    ensures { λ r. ⌜ r ≡ hostName word n ⌝ }
+{
+    if word / 256 == 1 {
+        return one(n);
+    }
+    0
+}
+
+// 0, 1 and the host's names.
+fn host_names(names: &[u16], n: usize) -> u64
+    requires { ⌜ n ≤ 62 ⌝ }
+    ensures { λ r. ⌜ r ≡ hostNames (now (names .entry)) n ⌝ }
+{
+    let mut s: u64 = 3;
+    let mut i: usize = 0;
+    while i < n {
+        let a = i + 2;
+        s = s | host_name(at16(names, a), a as u8);
+        i = i + 1;
+    }
+    s
+}
+
+// The names in the type of this word and set, by the names in the types before it.
+fn names_of(word: u64, set: u64, masks: &[u64; 256]) -> u64
+    ensures { λ r. ⌜ r ≡ typeNames word set (now (masks .entry)) ⌝ }
+{
+    let byte = word % 256;
+    let own = one((word / 256 % 256) as u8);
+    let a = at64(masks, (word / 65536 % 65536) as usize);
+    let b = at64(masks, (word / 4294967296 % 65536) as usize);
+    let r = one((word / 65536 % 256) as u8);
+    match byte {
+        0x11 => own | (a | b),
+        0x12 => own | a,
+        0x13 => own | ((a | b) | set),
+        0x14 => own | r,
+        0x15 => own | r,
+        _ => own,
+    }
+}
+
+// The names in each declared type. Its parts are earlier types, so one pass finds them.
+fn type_masks(types: &[u64], sets: &[u64], n: usize) -> [u64; 256]
+    requires { ⌜ n ≤ 256 ⌝ }
+    ensures { λ r. ⌜ r ≡ masksBy (now (types .entry)) (now (sets .entry)) n ⌝ }
+{
+    let mut masks = [0u64; 256];
+    let mut i: usize = 0;
+    while i < n {
+        let m = names_of(at64(types, i), at64(sets, i), &masks);
+        masks[i] = m;
+        i = i + 1;
+    }
+    masks
+}
+
+// What an operand in place i sees where its expression sees the scope x.
+fn handed(named: bool, head: u64, i: u64, x: u64) -> u64
+    ensures { λ r. ⌜ r ≡ handedTo named head i x ⌝ }
+{
+    if is_body(head, i) {
+        return x | one(bound(named, head));
+    }
+    x
+}
+
+// Expression e hands its scope on to c, where c is the operand in place i.
+fn hand(named: bool, scopes: &mut [u64; 512], head: u64, i: u64, e: usize, c: usize)
+    requires { ⌜ e < 512 ⌝ }
+    ensures { λ r. ⌜ now (scopes .exit) ≡ handStep named (now (scopes .entry)) head i e c ⌝ }
+{
+    if is_operand(head, i) {
+        if c < 512 {
+            scopes[c] = handed(named, head, i, scopes[e]);
+        }
+    }
+}
+
+// The variables or the names in scope at each expression, from the last one down.
+fn scopes<'a>(named: bool, heads: &'a [u64], slots: &'a [u16], cmds: usize, host: u64) -> [u64; 512]
+    requires { ⌜ (0 < cmds) × (cmds ≤ 512) ⌝ }
+    ensures { λ r. ⌜ r ≡ scopesBy named (now (heads .entry)) (now (slots .entry)) cmds host ⌝ }
+{
+    let mut found = [0u64; 512];
+    found[cmds - 1] = host;
+    let mut j = cmds * 5;
+    while 0 < j {
+        j = j - 1;
+        hand(
+            named,
+            &mut found,
+            at64(heads, j / 5),
+            (j % 5) as u64,
+            j / 5,
+            at16(slots, j) as usize,
+        );
+    }
+    found
+}
+
+// The place of a command's type operand; 5 for none.
+fn type_place(byte: u64) -> usize
+    ensures { λ r. ⌜ r ≡ typePlace byte ⌝ }
+{
+    match byte {
+        0x35 => 1,
+        0x37 => 1,
+        0x3B => 3,
+        0x3E => 2,
+        _ => 5,
+    }
+}
+
+// The names in the type operand of expression e.
+fn operand_names<'a>(masks: &'a [u64; 256], slots: &'a [u16], e: usize, head: u64) -> u64
+    requires { ⌜ e < 512 ⌝ }
+    ensures { λ r. ⌜ r ≡ operandNames (now (masks .entry)) (now (slots .entry)) e head ⌝ }
+{
+    let place = type_place(head % 256);
+    if place < 5 {
+        return at64(masks, at16(slots, e * 5 + place) as usize);
+    }
+    0
+}
+
+// Whether the variable that the command uses is in scope.
+fn var_fits(head: u64, vars: u64) -> bool
+    ensures { λ r. ⌜ r ≡ varFits head vars ⌝ }
+{
+    if head % 256 == 0x32 {
+        return has(vars, (head / 256 % 256) as u8);
+    }
+    true
+}
+
+// Whether all names of m are in s.
+fn within(m: u64, s: u64) -> bool
+    ensures { λ r. ⌜ r ≡ eqb (bitOr m s) s ⌝ }
+{
+    let both = m | s;
+    both == s
+}
+
+// 10: the lowest expression with a variable, or a name in its type operand, out of scope.
+fn unscoped<'a>(
+    heads: &'a [u64],
+    slots: &'a [u16],
+    cmds: usize,
+    masks: &'a [u64; 256],
+    vars: &'a [u64; 512],
+    locals: &'a [u64; 512],
+) -> Answer
+    requires { ⌜ cmds ≤ 512 ⌝ }
+    ensures { λ r. ⌜ refusalOf r
+        ≡ numbered 10
+        (firstBad (isScoped (now (heads .entry)) (now (slots .entry)) (now (masks .entry)) (now (vars .entry)) (now (locals .entry))) 0 cmds) ⌝ }
+{
+    let mut e: usize = 0;
+    while e < cmds {
+        let head = at64(heads, e);
+        if var_fits(head, vars[e]) {} else {
+            return Answer::Refused(10, Expr(e as u16));
+        }
+        if within(operand_names(masks, slots, e, head), locals[e]) {} else {
+            return Answer::Refused(10, Expr(e as u16));
+        }
+        e = e + 1;
+    }
+    Answer::Tree
+}
+
+// 10, with the scopes.
+fn scope_check<'a>(
+    heads: &'a [u64],
+    slots: &'a [u16],
+    cmds: usize,
+    names: &'a [u16],
+    nnames: usize,
+    types: &'a [u64],
+    sets: &'a [u64],
+    ntypes: usize,
+    nvalues: usize,
+) -> Answer
+    requires { ⌜ (0 < cmds) × (cmds ≤ 512) × (nnames ≤ 62) × (ntypes ≤ 256) ⌝ }
+    ensures { λ r. ⌜ refusalOf r
+        ≡ scopeRefusal (now (heads .entry)) (now (slots .entry)) cmds (now (names .entry)) nnames (now (types .entry)) (now (sets .entry)) ntypes nvalues ⌝ }
+{
+    let masks = type_masks(types, sets, ntypes);
+    let vars = scopes(false, heads, slots, cmds, host_vars(nvalues));
+    let locals = scopes(true, heads, slots, cmds, host_names(names, nnames));
+    unscoped(heads, slots, cmds, &masks, &vars, &locals)
+}
+
+// Whether there is an expression, and no more entries than the limits.
+fn in_limits(cmds: usize, nnames: usize, ntypes: usize) -> bool
+    ensures { λ r. ⌜ r ≡ inLimits cmds nnames ntypes ⌝ }
+{
+    if cmds == 0 {
+        return false;
+    }
+    if 512 < cmds {
+        return false;
+    }
+    if 62 < nnames {
+        return false;
+    }
+    if 256 < ntypes {
+        return false;
+    }
+    true
+}
+
+// 8 before 9 before 10.
+fn table_check<'a>(
+    heads: &'a [u64],
+    slots: &'a [u16],
+    cmds: usize,
+    names: &'a [u16],
+    nnames: usize,
+    types: &'a [u64],
+    sets: &'a [u64],
+    ntypes: usize,
+    nvalues: usize,
+) -> Answer
+    requires { ⌜ (0 < cmds) × (cmds ≤ 512) × (nnames ≤ 62) × (ntypes ≤ 256) ⌝ }
+    ensures { λ r. ⌜ refusalOf r
+        ≡ tableRefusal (now (heads .entry)) (now (slots .entry)) cmds (now (names .entry)) nnames (now (types .entry)) (now (sets .entry)) ntypes nvalues ⌝ }
+{
+    let counts = count(heads, slots, cmds);
+    match misused(&counts, cmds) {
+        Answer::Refused(n, e) => Answer::Refused(n, e),
+        Answer::Tree => match rebound(heads, cmds) {
+            Answer::Refused(n, e) => Answer::Refused(n, e),
+            Answer::Tree => scope_check(
+                heads,
+                slots,
+                cmds,
+                names,
+                nnames,
+                types,
+                sets,
+                ntypes,
+                nvalues,
+            ),
+        },
+    }
+}
+
+// The first refusal of the job that the tables hold: cmds heads with five places each, nnames names from entry 2 on, ntypes types with
+// their sets, nvalues host values. Document 01 asks for an answer only of a job that is read: for tables that hold none it is free.
+// Every answer is the one that the same passes give, and Tree where there is no expression or a count is past its limit.
+pub fn tree<'a>(
+    heads: &'a [u64],
+    slots: &'a [u16],
+    cmds: usize,
+    names: &'a [u16],
+    nnames: usize,
+    types: &'a [u64],
+    sets: &'a [u64],
+    ntypes: usize,
+    nvalues: usize,
+) -> Answer
+    ensures job { λ r. ⌜ ((J : Job) → JobOk J
+        → Holds J (now (heads .entry)) (now (slots .entry)) cmds (now (names .entry)) nnames (now (types .entry)) (now (sets .entry)) ntypes nvalues
+        → refusalOf r ≡ treeRefusal (sourceOf J)) ⌝ }
+    ensures always { λ r. ⌜ refusalOf r
+        ≡ treeBy (now (heads .entry)) (now (slots .entry)) cmds (now (names .entry)) nnames (now (types .entry)) (now (sets .entry)) ntypes nvalues ⌝ }
+{
+    if in_limits(cmds, nnames, ntypes) {
+        return table_check(
+            heads,
+            slots,
+            cmds,
+            names,
+            nnames,
+            types,
+            sets,
+            ntypes,
+            nvalues,
+        );
+    }
+    Answer::Tree
+}
