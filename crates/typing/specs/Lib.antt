@@ -21,3 +21,4 @@ pub mod NumberedLaws
 pub mod NumberedWords
 pub mod NumberedVerdict
 pub mod EntryLaws
+pub mod Reported
