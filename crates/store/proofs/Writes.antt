@@ -4,16 +4,16 @@ use mathlib.Core.Path.{_≡_, refl, ap, sym, _∙_}
 use mathlib.Core.Bool.{Bool, true, false, cond}
 use mathlib.Core.List.{List, [], _∷_, _++_}
 use native.Mathlib.Omega.{arith}
-use borrow.Author.Tests.{ltb-true, ltb-false, lt-ltb, eq-eqb, ne-eqb}
-use lib.Dec.{ltb, eqb}
-use lib.ListN.{length, getD, set, length-set}
+use borrow.Author.Tests.{lt-ltb}
+use lib.Dec.{ltb}
+use lib.ListN.{length, getD, length-set}
 use lib.Seq.{getD-set-same, getD-set-other, set-out}
-use Rattle.semantics.specs.Machine.{Kind as SKind, Value as SValue, Two as STwo, Closure as SClosure, Link, b-var, b-name}
+use Rattle.semantics.specs.Machine.{Kind as SKind, Value as SValue, Two as STwo, Closure as SClosure, b-var, b-name}
 use Rattle.store.specs.declared.Key.{Key}
 use Rattle.store.specs.declared.Expr.{Expr}
 use Rattle.store.specs.declared.Keys.{Keys}
 use Rattle.store.specs.declared.Value.{Value}
-use Rattle.store.specs.Meaning.{keysIn, kindIn, valueIn}
+use Rattle.store.specs.Meaning.{kindIn, valueIn}
 use Rattle.store.specs.Words.{kindAt, wordIn, cellIn, pairIn, functionIn, linkIn, upIn}
 use Rattle.store.specs.Frames.{headAt, heldIn, heldOf, handOf, frameIn, freshOf, holdOf, Held}
 use Rattle.store.specs.Tables.{Stored, Wrote, Put}

@@ -2,56 +2,40 @@ use Rattle.store.specs.Frames.{headAt}
 use borrow.Author.Needs.{needs}
 use Rattle.store.proofs.head_at.Statement.{statement}
 use Rattle.store.proofs.head_at.Tie as tie
-use Rattle.store.proofs.head_at.Reads as reads
-use Rattle.store.proofs.head_at.Lts as lts
-use Rattle.store.proofs.at64.Reads as at64-reads
-use Rattle.store.proofs.held.Reads as held-reads
 
--- src/lib.rt:288:21
 mul-at64 : tie.Need-mul-at64
 mul-at64 c = search needs
 
--- src/lib.rt:288:9
 at64-requires : tie.Need-at64-requires
 at64-requires c κs = search needs
 
--- src/lib.rt:289:9
 held-requires : tie.Need-held-requires
 held-requires c κs = search needs
 
--- src/lib.rt:291:18
 cast-t11 : tie.Need-cast-t11
 cast-t11 c = search needs
 
--- src/lib.rt:293:14
 cast-t15 : tie.Need-cast-t15
 cast-t15 c = search needs
 
--- src/lib.rt:294:26
 mul-at64-2 : tie.Need-mul-at64-2
 mul-at64-2 c = search needs
 
--- src/lib.rt:294:26
 add-at64 : tie.Need-add-at64
 add-at64 c = search needs
 
--- src/lib.rt:294:18
 at64-requires-2 : tie.Need-at64-requires-2
 at64-requires-2 c κs = search needs
 
--- src/lib.rt:294:46
 mul-at64-3 : tie.Need-mul-at64-3
 mul-at64-3 c = search needs
 
--- src/lib.rt:294:46
 add-at64-2 : tie.Need-add-at64-2
 add-at64-2 c = search needs
 
--- src/lib.rt:294:38
 at64-requires-3 : tie.Need-at64-requires-3
 at64-requires-3 c κs = search needs
 
--- src/lib.rt:284:1
 returns : tie.Need-returns
 unfolding headAt
 returns c = simp (c .at643 .ensures, c .before .before .at642 .ensures, c .before .before .before .before .held .ensures, c .before .before .before .before .before .at64 .ensures)

@@ -2,18 +2,13 @@ use borrow.Author.Tests.{le-ltb, lt-ltb}
 use borrow.Author.Needs.{needs}
 use Rattle.store.proofs.held.Statement.{statement}
 use Rattle.store.proofs.held.Tie as tie
-use Rattle.store.proofs.held.Reads as reads
-use Rattle.store.proofs.held.Lts as lts
 
--- src/lib.rt:281:16
 cast-result : tie.Need-cast-result
 cast-result c = search needs
 
--- src/lib.rt:278:1
 returns : tie.Need-returns
 returns c = simp (lt-ltb _ _ (c .if1 .taken))
 
--- src/lib.rt:278:1
 returns-2 : tie.Need-returns-2
 returns-2 c = simp (le-ltb _ _ (c .if1 .left))
 

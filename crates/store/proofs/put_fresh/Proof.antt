@@ -2,48 +2,34 @@ use Rattle.store.proofs.Writes.{fresh-put}
 use borrow.Author.Needs.{needs}
 use Rattle.store.proofs.put_fresh.Statement.{statement}
 use Rattle.store.proofs.put_fresh.Tie as tie
-use Rattle.store.proofs.put_fresh.Reads as reads
-use Rattle.store.proofs.put_fresh.Lts as lts
-use Rattle.store.proofs.put64.Reads as put64-reads
-use Rattle.store.proofs.triple.Reads as triple-reads
 
--- src/lib.rt:309:9
 triple-requires : tie.Need-triple-requires
 triple-requires c κs = search needs
 
--- src/lib.rt:311:23
 mul-put64 : tie.Need-mul-put64
 mul-put64 c = search needs
 
--- src/lib.rt:311:5
 put64-requires : tie.Need-put64-requires
 put64-requires c κs = search needs
 
--- src/lib.rt:312:23
 mul-put64-2 : tie.Need-mul-put64-2
 mul-put64-2 c = search needs
 
--- src/lib.rt:312:23
 add-put64 : tie.Need-add-put64
 add-put64 c = search needs
 
--- src/lib.rt:312:5
 put64-requires-2 : tie.Need-put64-requires-2
 put64-requires-2 c κs = search needs
 
--- src/lib.rt:313:23
 mul-put64-3 : tie.Need-mul-put64-3
 mul-put64-3 c = search needs
 
--- src/lib.rt:313:23
 add-put64-2 : tie.Need-add-put64-2
 add-put64-2 c = search needs
 
--- src/lib.rt:313:5
 put64-requires-3 : tie.Need-put64-requires-3
 put64-requires-3 c κs = search needs
 
--- src/lib.rt:306:1
 returns : tie.Need-returns
 returns c = fresh-put _ _ _ _ _ _ 256 _ _ _ (search needs) (c .before .before .before .before .before .before .triple .ensures) (search needs) (search needs) (c .before .before .before .before .put64 .ensures) (c .before .before .put642 .ensures) (c .put643 .ensures)
 

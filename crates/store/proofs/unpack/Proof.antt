@@ -3,52 +3,39 @@ use borrow.Author.Tests.{ne-eqb}
 use borrow.Author.Needs.{needs}
 use Rattle.store.proofs.unpack.Statement.{statement}
 use Rattle.store.proofs.unpack.Tie as tie
-use Rattle.store.proofs.unpack.Reads as reads
-use Rattle.store.proofs.unpack.Lts as lts
-use Rattle.store.proofs.small.Reads as small-reads
 
--- src/lib.rt:85:13
 cast-n : tie.Need-cast-n
 cast-n c = search needs
 
--- src/lib.rt:87:19
 cast-t7 : tie.Need-cast-t7
 cast-t7 c = search needs
 
--- src/lib.rt:93:54
 small-requires : tie.Need-small-requires
 small-requires c κs = search needs
 
--- src/lib.rt:94:54
 small-requires-2 : tie.Need-small-requires-2
 small-requires-2 c κs = search needs
 
--- src/lib.rt:82:1
 returns : tie.Need-returns
 unfolding wordIn
 returns c = simp (c .match .keys1)
 
--- src/lib.rt:82:1
 returns-2 : tie.Need-returns-2
 unfolding wordIn
 returns-2 c = simp (c .match .keys2)
 
--- src/lib.rt:82:1
 returns-3 : tie.Need-returns-3
 unfolding wordIn
 returns-3 c = simp (c .match .keys3)
 
--- src/lib.rt:82:1
 returns-4 : tie.Need-returns-4
 unfolding wordIn
 returns-4 c = simp (c .match .keys4)
 
--- src/lib.rt:82:1
 returns-5 : tie.Need-returns-5
 unfolding wordIn
 returns-5 c = simp (c .before .match .keys5, ← c .small .ensures)
 
--- src/lib.rt:82:1
 returns-6 : tie.Need-returns-6
 unfolding wordIn
 returns-6 c = simp (ne-eqb _ _ (c .before .match .rest .1), ne-eqb _ _ (c .before .match .rest .0 .1), ne-eqb _ _ (c .before .match .rest .0 .0 .1), ne-eqb _ _ (c .before .match .rest .0 .0 .0 .1), ne-eqb _ _ (c .before .match .rest .0 .0 .0 .0 .1), ← c .small2 .ensures)

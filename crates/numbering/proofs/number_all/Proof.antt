@@ -1,0 +1,41 @@
+use borrow.Author.Needs.{needs}
+use Rattle.numbering.proofs.Laws.{begun}
+use Rattle.numbering.proofs.number_all.Statement.{statement}
+use Rattle.numbering.proofs.number_all.Tie as tie
+
+hosts-requires : tie.Need-hosts-requires
+hosts-requires c κs = search needs
+
+bind-requires : tie.Need-bind-requires
+bind-requires c κs = search needs
+
+type-all-requires : tie.Need-type-all-requires
+type-all-requires c κs = (c .before .before .before .before .before .before .before .bind .ensures .0)
+
+same-length : tie.Need-same-length
+same-length c = search needs
+
+same-length-2 : tie.Need-same-length-2
+same-length-2 c = search needs
+
+same-length-3 : tie.Need-same-length-3
+same-length-3 c = search needs
+
+same-length-4 : tie.Need-same-length-4
+same-length-4 c = search needs
+
+returns : tie.Need-returns
+returns c = begun (c .before .before .before .before .before .before .before .before .before .before .before .before .before .before .before .before .before .before .before .before .before .before .before .before .before .before .before .before .before .args .anc .now) (c .before .before .before .before .before .before .before .before .before .before .before .before .before .before .before .before .before .before .before .before .before .before .before .before .before .before .before .before .before .args .names .now) (c .before .before .before .before .before .before .before .before .before .before .before .before .before .before .before .before .before .before .before .before .before .before .before .before .before .before .before .before .before .args .values .now) (c .before .before .before .before .before .before .before .before .before .before .before .before .before .before .before .before .before .before .before .before .before .before .before .before .before .before .before .before .before .args .heads .now) (c .before .before .before .before .before .before .before .before .before .before .before .before .before .before .before .before .before .before .before .before .before .before .before .before .before .before .before .before .before .args .slots .now) (c .before .before .before .before .before .before .before .before .before .before .before .before .before .before .before .before .before .before .before .before .before .before .before .before .before .before .before .before .before .args .declared) (c .before .before .before .before .before .before .before .before .before .before .before .before .before .before .before .before .before .before .before .before .before .before .before .before .before .before .before .before .before .args .given) (c .before .before .before .before .before .before .before .before .before .before .before .before .before .before .before .before .before .before .before .before .before .before .before .before .before .before .before .before .before .args .cmds) (c .before .before .before .before .before .before .before .before .before .before .before .before .before .before .before .before .before .before .before .before .before .before .before .before .before .before .before .before .before .args .types .now) (c .before .before .before .before .before .before .before .before .before .before .before .before .before .before .before .before .before .before .before .before .before .before .before .before .before .before .before .before .before .args .sets .now) (c .before .before .before .before .before .before .before .before .before .before .before .before .before .before .before .before .before .before .before .before .before .before .before .before .before .before .before .before .before .args .entries .now) (c .before .before .before .before .before .before .before .before .before .before .before .before .before .before .before .before .before .before .before .before .before .before .before .before .before .before .before .before .before .args .effects .now) (c .before .before .before .before .before .before .before .before .before .before .before .before .before .before .before .before .before .before .before .hosts .ensures) ((c .before .before .before .before .before .before .before .before .before .before .before .before .before .before .before .before .bind .ensures .1)) (c .before .before .before .before .before .before .before .before .type-all .ensures)
+
+pub number-all-spec : {M : Type 1} → statement M
+number-all-spec =
+    tie.close
+    (tie.spec
+    hosts-requires
+    bind-requires
+    type-all-requires
+    same-length
+    same-length-2
+    same-length-3
+    same-length-4
+    returns)

@@ -1,0 +1,22 @@
+use Rattle.numbering.proofs.Laws.{set-past}
+use borrow.Author.Needs.{needs}
+use Rattle.numbering.proofs.put64.Statement.{statement}
+use Rattle.numbering.proofs.put64.Tie as tie
+
+mul-s : tie.Need-mul-s
+mul-s c = search needs
+
+slice-write-s : tie.Need-slice-write-s
+slice-write-s c = search needs
+
+same-length : tie.Need-same-length
+same-length c = search needs
+
+returns : tie.Need-returns
+returns c = search needs
+
+returns-2 : tie.Need-returns-2
+returns-2 c = set-past _ _ _ (c .if1 .left)
+
+pub put64-spec : {M : Type 1} → statement M
+put64-spec = tie.close (tie.spec mul-s slice-write-s same-length returns returns-2)
