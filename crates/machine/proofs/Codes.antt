@@ -1,0 +1,231 @@
+-- What the bytes of a command come to.
+use Prim.Native.Nat.{ℕ, zero, suc, _+_, _*_, _/_, _%_, _<_, _≤_}
+use mathlib.Core.Path.{_≡_, refl, sym, _∙_, ap}
+use mathlib.Core.Bool.{Bool, true, false, cond}
+use mathlib.Core.List.{List, [], _∷_, _++_}
+use mathlib.Core.Option.{none, some}
+use native.Mathlib.Omega.{arith}
+use borrow.Author.Tests.{eqb-true, ne-eqb}
+use lib.Dec.{eqb, ltb}
+use lib.ListN.{take, getD, getElem?}
+use Rattle.syntax.specs.Commands.{Cmd, c-num, c-top, c-var, c-pair, c-part, c-fn, c-app, c-new, c-asg, c-read, c-sum, c-test, c-lim, c-grant, c-newkey, c-assoc}
+use Rattle.syntax.specs.Words.{decode, codeIn}
+use Rattle.semantics.specs.Machine.{Value, Machine}
+use Rattle.semantics.specs.Step.{o-stuck, worked, enterCmd, enterLim, push, act, one, two, actLim, actTest, go}
+use Rattle.store.specs.Frames.{handOf}
+use Rattle.machine.specs.Inner.{Works}
+use Rattle.machine.proofs.Limit.{padded}
+
+by : {A : Type 0} (P : A → Type 0) (b : Bool) (x y : A) → (b ≡ true → P x) → P y → P (cond b x y)
+by P true x y f g = f refl
+by P false x y f g = g
+
+-- a fact of the expression that a head stands for, by its command byte
+module _ (P : Cmd ℕ → Type 0) (op x a b c d e : ℕ) where
+  pub decode-cases :
+      (op ≡ 0x31 → P c-top) → (op ≡ 0x32 → P (c-var (x % 256))) → (op ≡ 0x33 → P (c-pair a b)) → (op ≡ 0x34 → P (c-part a (eqb x 1))) →
+      (op ≡ 0x35 → P (c-fn (x % 256) b a)) → (op ≡ 0x36 → P (c-app a b)) → (op ≡ 0x37 → P (c-new b a)) → (op ≡ 0x38 → P (c-asg a b)) →
+      (op ≡ 0x39 → P (c-read a)) → (op ≡ 0x3A → P (c-sum (eqb x 0) a b)) → (op ≡ 0x3B → P (c-test a b c d)) →
+      (op ≡ 0x3C → P (c-lim (take x (a ∷ b ∷ c ∷ d ∷ [])) e)) → (op ≡ 0x3D → P (c-grant a b)) →
+      (op ≡ 0x3E → P (c-newkey (x % 256) (x / 256 % 256) a b c)) → (op ≡ 0x3F → P (c-assoc a b)) → P (c-num x) → P (decode op x a b c d e)
+  unfolding decode
+  decode-cases f1 f2 f3 f4 f5 f6 f7 f8 f9 fa fb fc fd fe ff g =
+      by P (eqb op 0x31) _ _ (λ h. f1 (eqb-true op 0x31 h))
+      (by P (eqb op 0x32) _ _ (λ h. f2 (eqb-true op 0x32 h))
+      (by P (eqb op 0x33) _ _ (λ h. f3 (eqb-true op 0x33 h))
+      (by P (eqb op 0x34) _ _ (λ h. f4 (eqb-true op 0x34 h))
+      (by P (eqb op 0x35) _ _ (λ h. f5 (eqb-true op 0x35 h))
+      (by P (eqb op 0x36) _ _ (λ h. f6 (eqb-true op 0x36 h))
+      (by P (eqb op 0x37) _ _ (λ h. f7 (eqb-true op 0x37 h))
+      (by P (eqb op 0x38) _ _ (λ h. f8 (eqb-true op 0x38 h))
+      (by P (eqb op 0x39) _ _ (λ h. f9 (eqb-true op 0x39 h))
+      (by P (eqb op 0x3A) _ _ (λ h. fa (eqb-true op 0x3A h))
+      (by P (eqb op 0x3B) _ _ (λ h. fb (eqb-true op 0x3B h))
+      (by P (eqb op 0x3C) _ _ (λ h. fc (eqb-true op 0x3C h))
+      (by P (eqb op 0x3D) _ _ (λ h. fd (eqb-true op 0x3D h))
+      (by P (eqb op 0x3E) _ _ (λ h. fe (eqb-true op 0x3E h))
+      (by P (eqb op 0x3F) _ _ (λ h. ff (eqb-true op 0x3F h)) g))))))))))))))
+
+nil-cons : {x : ℕ} {t : List ℕ} → [] ≡ x ∷ t → ⊥
+nil-cons p = let z : _≡_ {A = ℕ} 0 1 = cc in omega arith
+
+cons-nil : {x : ℕ} {t : List ℕ} → x ∷ t ≡ [] → ⊥
+cons-nil p = let z : _≡_ {A = ℕ} 0 1 = cc in omega arith
+
+head-same : {x y : ℕ} {s t : List ℕ} → x ∷ s ≡ y ∷ t → x ≡ y
+head-same p = cc
+
+-- an operand is worked out: entering pushes a frame
+pub enter-push : (e : ℕ) (k : Cmd ℕ) (a : ℕ) (l : List ℕ) (m : Machine) → worked k ≡ a ∷ l → enterCmd e k m ≡ push e a m
+unfolding worked enterCmd enterLim
+enter-push e (c-num n) a l m h = absurd (nil-cons h)
+enter-push e c-top a l m h = absurd (nil-cons h)
+enter-push e (c-var v) a l m h = absurd (nil-cons h)
+enter-push e (c-pair x y) a l m h = ap (λ (i : ℕ). push e i m) (head-same h)
+enter-push e (c-part x i) a l m h = ap (λ (i : ℕ). push e i m) (head-same h)
+enter-push e (c-fn v t b) a l m h = absurd (nil-cons h)
+enter-push e (c-app x y) a l m h = ap (λ (i : ℕ). push e i m) (head-same h)
+enter-push e (c-new t x) a l m h = ap (λ (i : ℕ). push e i m) (head-same h)
+enter-push e (c-asg x y) a l m h = ap (λ (i : ℕ). push e i m) (head-same h)
+enter-push e (c-read x) a l m h = ap (λ (i : ℕ). push e i m) (head-same h)
+enter-push e (c-sum i x y) a l m h = ap (λ (i : ℕ). push e i m) (head-same h)
+enter-push e (c-test x y z t) a l m h = ap (λ (i : ℕ). push e i m) (head-same h)
+enter-push e (c-lim [] b) a l m h = absurd (nil-cons h)
+enter-push e (c-lim (x ∷ ks) b) a l m h = ap (λ (i : ℕ). push e i m) (head-same h)
+enter-push e (c-grant x y) a l m h = ap (λ (i : ℕ). push e i m) (head-same h)
+enter-push e (c-newkey v r x y t) a l m h = ap (λ (i : ℕ). push e i m) (head-same h)
+enter-push e (c-assoc x y) a l m h = ap (λ (i : ℕ). push e i m) (head-same h)
+
+-- no operand is worked out, and the byte is none of those that have an arm of their own
+pub enter-number :
+    (op x a b c d e : ℕ) → Works op x 0 → (op ≡ 0x31 → ⊥) → (op ≡ 0x32 → ⊥) → (op ≡ 0x35 → ⊥) → (op ≡ 0x3C → ⊥) → decode op x a b c d e ≡ c-num x
+unfolding worked
+enter-number op x a b c d e w h1 h2 h5 hc = at (w .all a b c d e)
+  where
+    at : worked (decode op x a b c d e) ≡ take 0 (a ∷ b ∷ c ∷ d ∷ []) → decode op x a b c d e ≡ c-num x
+    at = decode-cases (λ k. worked k ≡ [] → k ≡ c-num x) op x a b c d e
+        (λ h. absurd (h1 h)) (λ h. absurd (h2 h)) (λ h p. absurd (cons-nil p)) (λ h p. absurd (cons-nil p)) (λ h. absurd (h5 h)) (λ h p. absurd (cons-nil p)) (λ h p. absurd (cons-nil p))
+        (λ h p. absurd (cons-nil p)) (λ h p. absurd (cons-nil p)) (λ h p. absurd (cons-nil p)) (λ h p. absurd (cons-nil p)) (λ h. absurd (hc h)) (λ h p. absurd (cons-nil p)) (λ h p. absurd (cons-nil p))
+        (λ h p. absurd (cons-nil p)) (λ p. refl)
+
+-- the arms of an act on one value, and on two
+pub one-stuck :
+    (op x a b c d e : ℕ) (v : Value) (m : Machine) → (op ≡ 0x34 → ⊥) → (op ≡ 0x37 → ⊥) → (op ≡ 0x39 → ⊥) → (op ≡ 0x3B → ⊥) → (op ≡ 0x3C → ⊥) → (op ≡ 0x3D → ⊥) → (op ≡ 0x3E → ⊥) →
+    act (decode op x a b c d e) (v ∷ []) m ≡ o-stuck
+unfolding act two
+one-stuck op x a b c d e v m h4 h7 h9 hb hc hd he = decode-cases (λ k. act k (v ∷ []) m ≡ o-stuck) op x a b c d e
+    (λ h. refl) (λ h. refl) (λ h. refl) (λ h. absurd (h4 h)) (λ h. refl) (λ h. refl) (λ h. absurd (h7 h)) (λ h. refl) (λ h. absurd (h9 h)) (λ h. refl)
+    (λ h. absurd (hb h)) (λ h. absurd (hc h)) (λ h. absurd (hd h)) (λ h. absurd (he h)) (λ h. refl) refl
+
+pub two-stuck :
+    (op x a b c d e : ℕ) (u v : Value) (m : Machine) → (op ≡ 0x33 → ⊥) → (op ≡ 0x36 → ⊥) → (op ≡ 0x38 → ⊥) → (op ≡ 0x3A → ⊥) → (op ≡ 0x3C → ⊥) → (op ≡ 0x3F → ⊥) →
+    act (decode op x a b c d e) (u ∷ v ∷ []) m ≡ o-stuck
+unfolding act one
+two-stuck op x a b c d e u v m h3 h6 h8 ha hc hf = decode-cases (λ k. act k (u ∷ v ∷ []) m ≡ o-stuck) op x a b c d e
+    (λ h. refl) (λ h. refl) (λ h. absurd (h3 h)) (λ h. refl) (λ h. refl) (λ h. absurd (h6 h)) (λ h. refl) (λ h. absurd (h8 h)) (λ h. refl) (λ h. absurd (ha h))
+    (λ h. refl) (λ h. absurd (hc h)) (λ h. refl) (λ h. refl) (λ h. absurd (hf h)) refl
+
+-- no command but a limit acts on three values or more
+pub more-stuck : (op x a b c d e : ℕ) (u v w : Value) (l : List Value) (m : Machine) → (op ≡ 0x3C → ⊥) → act (decode op x a b c d e) (u ∷ v ∷ w ∷ l) m ≡ o-stuck
+unfolding act one two
+more-stuck op x a b c d e u v w l m hc = decode-cases (λ k. act k (u ∷ v ∷ w ∷ l) m ≡ o-stuck) op x a b c d e
+    (λ h. refl) (λ h. refl) (λ h. refl) (λ h. refl) (λ h. refl) (λ h. refl) (λ h. refl) (λ h. refl) (λ h. refl) (λ h. refl)
+    (λ h. refl) (λ h. absurd (hc h)) (λ h. refl) (λ h. refl) (λ h. refl) refl
+
+-- the bytes of no command that works out an operand
+pub works-none :
+    (op x : ℕ) → (op ≡ 0x33 → ⊥) → (op ≡ 0x34 → ⊥) → (op ≡ 0x36 → ⊥) → (op ≡ 0x37 → ⊥) → (op ≡ 0x38 → ⊥) → (op ≡ 0x39 → ⊥) →
+    (op ≡ 0x3A → ⊥) → (op ≡ 0x3B → ⊥) → (op ≡ 0x3C → ⊥) → (op ≡ 0x3D → ⊥) → (op ≡ 0x3E → ⊥) → (op ≡ 0x3F → ⊥) → Works op x 0
+unfolding worked
+works-none op x h3 h4 h6 h7 h8 h9 ha hb hc hd he hf =
+    record {
+      all = λ a b c d e. decode-cases (λ k. worked k ≡ []) op x a b c d e
+          (λ h. refl) (λ h. refl) (λ h. absurd (h3 h)) (λ h. absurd (h4 h)) (λ h. refl) (λ h. absurd (h6 h)) (λ h. absurd (h7 h)) (λ h. absurd (h8 h)) (λ h. absurd (h9 h)) (λ h. absurd (ha h))
+          (λ h. absurd (hb h)) (λ h. absurd (hc h)) (λ h. absurd (hd h)) (λ h. absurd (he h)) (λ h. absurd (hf h)) refl;
+      few = omega arith;
+    }
+
+take-four : (x a b c d : ℕ) → 4 ≤ x → take x (a ∷ b ∷ c ∷ d ∷ []) ≡ a ∷ b ∷ c ∷ d ∷ []
+take-four zero a b c d h = absurd (omega arith)
+take-four (suc zero) a b c d h = absurd (omega arith)
+take-four (suc (suc zero)) a b c d h = absurd (omega arith)
+take-four (suc (suc (suc zero))) a b c d h = absurd (omega arith)
+take-four (suc (suc (suc (suc zero)))) a b c d h = refl
+take-four (suc (suc (suc (suc (suc x))))) a b c d h = refl
+
+-- a limit works out its keys
+pub works-limit : (op x : ℕ) → op ≡ 0x3C → x < 4 → Works op x x
+unfolding decode worked
+works-limit op x h l = record { all = λ a b c d e. simp h; few = omega arith }
+
+pub works-limit-all : (op x : ℕ) → op ≡ 0x3C → 4 ≤ x → Works op x 4
+unfolding decode worked
+works-limit-all op x h l = record { all = λ a b c d e. simp h (take-four x a b c d l); few = omega arith }
+
+-- the operand in hand next
+pub taken-in : (n j a b c d : ℕ) → j < n → n ≤ 4 → (f : ℕ → ℕ) → f 0 ≡ a → f 1 ≡ b → f 2 ≡ c → f 3 ≡ d → getElem? (take n (a ∷ b ∷ c ∷ d ∷ [])) j ≡ some (f j)
+taken-in zero j a b c d h l f e0 e1 e2 e3 = absurd (omega arith)
+taken-in (suc n) zero a b c d h l f e0 e1 e2 e3 = ap some (sym e0)
+taken-in (suc zero) (suc j) a b c d h l f e0 e1 e2 e3 = absurd (omega arith)
+taken-in (suc (suc n)) (suc zero) a b c d h l f e0 e1 e2 e3 = ap some (sym e1)
+taken-in (suc (suc zero)) (suc (suc j)) a b c d h l f e0 e1 e2 e3 = absurd (omega arith)
+taken-in (suc (suc (suc n))) (suc (suc zero)) a b c d h l f e0 e1 e2 e3 = ap some (sym e2)
+taken-in (suc (suc (suc zero))) (suc (suc (suc j))) a b c d h l f e0 e1 e2 e3 = absurd (omega arith)
+taken-in (suc (suc (suc (suc n)))) (suc (suc (suc zero))) a b c d h l f e0 e1 e2 e3 = ap some (sym e3)
+taken-in (suc (suc (suc (suc n)))) (suc (suc (suc (suc j)))) a b c d h l f e0 e1 e2 e3 = absurd (omega arith)
+
+pub taken-out : (n j a b c d : ℕ) → n ≤ j → getElem? (take n (a ∷ b ∷ c ∷ d ∷ [])) j ≡ none
+taken-out zero j a b c d h = refl
+taken-out (suc n) zero a b c d h = absurd (omega arith)
+taken-out (suc zero) (suc j) a b c d h = refl
+taken-out (suc (suc n)) (suc zero) a b c d h = absurd (omega arith)
+taken-out (suc (suc zero)) (suc (suc j)) a b c d h = refl
+taken-out (suc (suc (suc n))) (suc (suc zero)) a b c d h = absurd (omega arith)
+taken-out (suc (suc (suc zero))) (suc (suc (suc j))) a b c d h = refl
+taken-out (suc (suc (suc (suc n)))) (suc (suc (suc zero))) a b c d h = absurd (omega arith)
+taken-out (suc (suc (suc (suc zero)))) (suc (suc (suc (suc j)))) a b c d h = refl
+taken-out (suc (suc (suc (suc (suc n))))) (suc (suc (suc (suc j)))) a b c d h = refl
+
+-- the same of an expression of the tables, whose head was read
+module _ (heads slots : List ℕ) (i head : ℕ) (e : head ≡ getD heads i 0) where
+  pub code-one :
+      (v : Value) (m : Machine) → (getD heads i 0 % 256 ≡ 0x3C → ⊥) → (head % 256 ≡ 0x34 → ⊥) → (head % 256 ≡ 0x37 → ⊥) → (head % 256 ≡ 0x39 → ⊥) → (head % 256 ≡ 0x3B → ⊥) →
+      (head % 256 ≡ 0x3D → ⊥) → (head % 256 ≡ 0x3E → ⊥) → act (codeIn heads slots i) (v ∷ []) m ≡ o-stuck
+  unfolding codeIn
+  code-one v m hc h4 h7 h9 hb hd he = simp (← e) (one-stuck (head % 256) (head / 256 % 4294967296) _ _ _ _ _ v m h4 h7 h9 hb (λ z. hc (ap (λ (x : ℕ). x % 256) (sym e) ∙ z)) hd he)
+
+  pub code-two :
+      (u v : Value) (m : Machine) → (getD heads i 0 % 256 ≡ 0x3C → ⊥) → (head % 256 ≡ 0x33 → ⊥) → (head % 256 ≡ 0x36 → ⊥) → (head % 256 ≡ 0x38 → ⊥) → (head % 256 ≡ 0x3A → ⊥) →
+      (head % 256 ≡ 0x3F → ⊥) → act (codeIn heads slots i) (u ∷ v ∷ []) m ≡ o-stuck
+  unfolding codeIn
+  code-two u v m hc h3 h6 h8 ha hf = simp (← e) (two-stuck (head % 256) (head / 256 % 4294967296) _ _ _ _ _ u v m h3 h6 h8 ha (λ z. hc (ap (λ (x : ℕ). x % 256) (sym e) ∙ z)) hf)
+
+  code-three : (u v w : Value) (l : List Value) (m : Machine) → (head % 256 ≡ 0x3C → ⊥) → act (codeIn heads slots i) (u ∷ v ∷ w ∷ l) m ≡ o-stuck
+  unfolding codeIn
+  code-three u v w l m hc = simp (← e) (more-stuck (head % 256) (head / 256 % 4294967296) _ _ _ _ _ u v w l m hc)
+
+  pub code-more : (n : ℕ) (p q r v : Value) (m : Machine) → (head % 256 ≡ 0x3C → ⊥) → (n ≡ 0 → ⊥) → (n ≡ 1 → ⊥) → act (codeIn heads slots i) (handOf n p q r ++ (v ∷ [])) m ≡ o-stuck
+  code-more zero p q r v m hc h0 h1 = absurd (h0 refl)
+  code-more (suc zero) p q r v m hc h0 h1 = absurd (h1 refl)
+  code-more (suc (suc zero)) p q r v m hc h0 h1 = code-three p q v [] m hc
+  code-more (suc (suc (suc n))) p q r v m hc h0 h1 =
+      let e2 : suc (suc (suc n)) ≡ 2 → ⊥ = λ z. omega arith in
+      simp (ne-eqb _ _ h0, ne-eqb _ _ h1, ne-eqb _ _ e2) (code-three p q r (v ∷ []) m hc)
+
+  pub code-limit :
+      (n : ℕ) (p q r v : Value) (m : Machine) {body : ℕ} {a b c : Value} → head % 256 ≡ 0x3C → body ≡ getD slots (i * 5 + 4) 0 →
+      a ≡ cond (ltb 0 n) p v → b ≡ cond (ltb 1 n) q v → c ≡ cond (ltb 2 n) r v → act (codeIn heads slots i) (handOf n p q r ++ (v ∷ [])) m ≡ actLim body (a ∷ b ∷ c ∷ v ∷ []) m
+  unfolding codeIn decode act
+  code-limit n p q r v m h hb ha hq hc = simp (← e, h, ← hb) (padded n _ p q r v m ∙ simp (← ha, ← hq, ← hc))
+
+  pub code-test :
+      (v : Value) (m : Machine) {b c : ℕ} → head % 256 ≡ 0x3B → b ≡ getD slots (i * 5 + 1) 0 → c ≡ getD slots (i * 5 + 2) 0 → act (codeIn heads slots i) (v ∷ []) m ≡ actTest b c v m
+  unfolding codeIn decode act one
+  code-test v m h hb hc = simp (← e, h, ← hb, ← hc)
+
+  code-works : (need : ℕ) → Works (head % 256) (head / 256 % 4294967296) need →
+      worked (codeIn heads slots i) ≡ take need (getD slots (i * 5) 0 ∷ getD slots (i * 5 + 1) 0 ∷ getD slots (i * 5 + 2) 0 ∷ getD slots (i * 5 + 3) 0 ∷ [])
+  unfolding codeIn
+  code-works need w = simp (← e) (w .all _ _ _ _ _)
+
+  pub code-push : (j need : ℕ) (m : Machine) {a : ℕ} → Works (head % 256) (head / 256 % 4294967296) need → 0 < need → a ≡ getD slots (i * 5) 0 → enterCmd j (codeIn heads slots i) m ≡ push j a m
+  code-push j zero m w h ha = absurd (omega arith)
+  code-push j (suc need) m w h ha = enter-push j (codeIn heads slots i) _ _ m (code-works (suc need) w) ∙ ap (λ (x : ℕ). push j x m) (sym ha)
+
+  no-works : (x a b c d y : ℕ) → Works 0x3C x 0 → take x (a ∷ b ∷ c ∷ d ∷ []) ≡ []
+  unfolding decode worked
+  no-works x a b c d y w = w .all a b c d y
+
+  pub code-bare : (j need : ℕ) (m : Machine) {body : ℕ} → head % 256 ≡ 0x3C → Works (head % 256) (head / 256 % 4294967296) need → need ≤ 0 → body ≡ getD slots (i * 5 + 4) 0 →
+      enterCmd j (codeIn heads slots i) m ≡ go body (m .thread .env) 0 m
+  unfolding codeIn decode enterCmd enterLim
+  code-bare j (suc need) m h w l hb = absurd (omega arith)
+  code-bare j zero m h w l hb =
+      let t = no-works (head / 256 % 4294967296) (getD slots (i * 5) 0) (getD slots (i * 5 + 1) 0) (getD slots (i * 5 + 2) 0) (getD slots (i * 5 + 3) 0) 0 (rw h at w) in
+      simp (← e, h, t, ← hb)
+
+  pub code-number : (need : ℕ) → Works (head % 256) (head / 256 % 4294967296) need → need ≤ 0 → (head % 256 ≡ 0x31 → ⊥) → (head % 256 ≡ 0x32 → ⊥) → (head % 256 ≡ 0x35 → ⊥) →
+      (head % 256 ≡ 0x3C → ⊥) → codeIn heads slots i ≡ c-num (head / 256 % 4294967296)
+  unfolding codeIn
+  code-number (suc need) w l h1 h2 h5 hc = absurd (omega arith)
+  code-number zero w l h1 h2 h5 hc = simp (← e) (enter-number (head % 256) (head / 256 % 4294967296) _ _ _ _ _ w h1 h2 h5 hc)

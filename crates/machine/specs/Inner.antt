@@ -1,0 +1,139 @@
+-- What the contracts of the thread's own functions say.
+use Prim.Native.Nat.{ℕ, zero, suc, _≤_}
+use mathlib.Core.Path.{_≡_}
+use mathlib.Core.Bool.{Bool, true, false, cond}
+use mathlib.Core.List.{List, [], _∷_}
+use mathlib.Core.Option.{Option, none, some}
+use lib.ListN.{take}
+use Rattle.syntax.specs.Commands.{Cmd}
+use Rattle.syntax.specs.Words.{decode}
+use Rattle.semantics.specs.Machine.{Machine as Clean}
+use Rattle.semantics.specs.Step.{Out, o-step, o-done, o-room, o-stuck, o-denied, step, worked}
+use Rattle.semantics.specs.Calls.{Answer as SAnswer, taken, finished, spent, noroom, stuck, denied, Ran, ran, turn}
+use Rattle.store.specs.declared.Expr.{Expr}
+use Rattle.store.specs.declared.Keys.{Keys}
+use Rattle.store.specs.declared.Kind.{Kind}
+use Rattle.store.specs.declared.Value.{Value}
+use Rattle.store.specs.Meaning.{ownIn}
+use Rattle.machine.specs.declared.Answer.{Answer}
+use Rattle.machine.specs.declared.Answer.the-variants.{Taken, Finished, Spent, NoRoom, Stuck, Denied}
+use Rattle.machine.specs.declared.Control.the-variants.{Enter, Hand}
+use Rattle.machine.specs.declared.Limits.{Limits}
+use Rattle.machine.specs.declared.Limits.the-variants.{All, Other}
+use Rattle.machine.specs.declared.Now.{Now}
+use Rattle.machine.specs.declared.Thread.{Thread}
+use Rattle.machine.specs.declared.Acted.{Acted}
+use Rattle.machine.specs.declared.Ended.{Ended}
+use Rattle.machine.specs.Meaning.{answerIn}
+use Rattle.machine.specs.View.{Tables, view}
+
+-- a machine, and the answer of the step that led to it
+pub record Stepped : Type 0 where
+  pub machine : Clean
+  pub answer : SAnswer
+
+-- a step that is not taken leaves the machine as it was
+abbrev pub settled : Clean → Out → Stepped
+settled m (o-step n) = record { machine = n; answer = taken }
+settled m o-done = record { machine = m; answer = finished }
+settled m o-room = record { machine = m; answer = noroom }
+settled m o-stuck = record { machine = m; answer = stuck }
+settled m o-denied = record { machine = m; answer = denied }
+
+abbrev pub acted : Acted → Tables → Stepped
+acted r w = record { machine = view (r .thread) w; answer = answerIn (r .answer) }
+
+-- `back` is the thread with its newest frame popped, which acts; where it does not come to a step the thread is `self`
+abbrev pub tried : Thread → Thread → Tables → (Clean → Out) → Stepped
+tried self back w f = settled (view self w) (f (view back w))
+
+abbrev pub putFrames : Tables → List ℕ → Tables
+putFrames w x = record { frames = x; cells = w .cells; keys = w .keys; pairs = w .pairs; functions = w .functions; bindings = w .bindings }
+
+abbrev pub putCells : Tables → List ℕ → Tables
+putCells w x = record { frames = w .frames; cells = x; keys = w .keys; pairs = w .pairs; functions = w .functions; bindings = w .bindings }
+
+abbrev pub putKeys : Tables → List ℕ → Tables
+putKeys w x = record { frames = w .frames; cells = w .cells; keys = x; pairs = w .pairs; functions = w .functions; bindings = w .bindings }
+
+abbrev pub putPairs : Tables → List ℕ → Tables
+putPairs w x = record { frames = w .frames; cells = w .cells; keys = w .keys; pairs = x; functions = w .functions; bindings = w .bindings }
+
+abbrev pub putFunctions : Tables → List ℕ → Tables
+putFunctions w x = record { frames = w .frames; cells = w .cells; keys = w .keys; pairs = w .pairs; functions = x; bindings = w .bindings }
+
+abbrev pub putBindings : Tables → List ℕ → Tables
+putBindings w x = record { frames = w .frames; cells = w .cells; keys = w .keys; pairs = w .pairs; functions = w .functions; bindings = x }
+
+abbrev pub stopOf : Thread → Answer → Acted
+stopOf t a = record { thread = t; answer = a }
+
+abbrev pub withNow : Thread → Now → Thread
+withNow t n = record { now = n; frames = t .frames; cells = t .cells; keys = t .keys; pairs = t .pairs; functions = t .functions; bindings = t .bindings }
+
+abbrev pub giveOf : Thread → Value → Acted
+giveOf t v = record { thread = withNow t (record { control = Hand v; env = t .now .env; on = t .now .on }); answer = Taken }
+
+abbrev pub goOf : Thread → Expr → ℕ → Keys → Acted
+goOf t e env on = record { thread = withNow t (record { control = Enter e; env = env; on = on }); answer = Taken }
+
+abbrev pub resumeOf : Thread → ℕ → ℕ → Keys → Thread
+resumeOf t top env on =
+    record {
+      now = record { control = t .now .control; env = env; on = on };
+      frames = top;
+      cells = t .cells;
+      keys = t .keys;
+      pairs = t .pairs;
+      functions = t .functions;
+      bindings = t .bindings;
+    }
+
+abbrev pub unkeyedOf : Kind → Value
+unkeyedOf k = record { key = record { 0 = 0 }; kind = k }
+
+-- the keys of a limit, or a value that is no limit key
+abbrev pub limitsIn : Limits → (List ℕ → Out) → Out
+limitsIn (All o) f = f (ownIn o)
+limitsIn Other f = o-stuck
+
+-- the first value found
+abbrev pub orElse : {A : Type 0} → Option A → Option A → Option A
+orElse none b = b
+orElse (some a) b = some a
+
+-- n operands are worked out before the act of a command: those in the first n of its places
+pub record Works (op x n : ℕ) : Type 0 where
+  pub all : (a b c d e : ℕ) → worked (decode op x a b c d e) ≡ take n (a ∷ b ∷ c ∷ d ∷ [])
+  pub few : n ≤ 4
+
+abbrev pub isTaken : Answer → Bool
+isTaken Taken = true
+isTaken Finished = false
+isTaken Spent = false
+isTaken NoRoom = false
+isTaken Stuck = false
+isTaken Denied = false
+
+module _ {T : Type 0} (code : ℕ → Cmd T) where
+  -- up to n steps, c taken before; what is left to say at the end is whether the machine is done
+  unfoldable pub loopOf : ℕ → ℕ → Clean → Ran
+  loopOf zero c m = ran taken c m
+  loopOf (suc n) c m = turn (step code m) c m (λ t. loopOf n (suc c) t)
+
+abbrev pub ended : Ended → Tables → Ran
+ended r w = ran (answerIn (r .answer)) (r .taken) (view (r .thread) w)
+
+-- the answer of a run whose steps gave this one
+abbrev pub closing : Bool → SAnswer → SAnswer
+closing d taken = cond d finished spent
+closing d finished = finished
+closing d spent = spent
+closing d noroom = noroom
+closing d stuck = stuck
+closing d denied = denied
+
+-- a step that is taken
+pub record Went (r : Acted) (w : Tables) (o : Out) : Type 0 where
+  pub answer : r .answer ≡ Taken
+  pub gives : o ≡ o-step (view (r .thread) w)

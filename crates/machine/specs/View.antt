@@ -1,0 +1,48 @@
+-- The machine in words, seen as the machine of the semantics.
+use Prim.Native.Nat.{ℕ}
+use mathlib.Core.List.{List}
+use Rattle.semantics.specs.Machine.{Machine as Clean}
+use Rattle.semantics.specs.Calls.{Ran, ran}
+use Rattle.store.specs.Meaning.{keysIn}
+use Rattle.store.specs.Words.{cellIn, pairIn, functionIn, linkIn, upIn}
+use Rattle.store.specs.Frames.{frameIn}
+use Rattle.store.specs.Tables.{capped, listOf, stackOf}
+use Rattle.machine.specs.declared.Thread.{Thread}
+use Rattle.machine.specs.declared.Machine.{Machine}
+use Rattle.machine.specs.declared.Outcome.{Outcome}
+use Rattle.machine.specs.Meaning.{controlIn, answerIn}
+
+-- the tables' words
+pub record Tables : Type 0 where
+  pub frames : List ℕ
+  pub cells : List ℕ
+  pub keys : List ℕ
+  pub pairs : List ℕ
+  pub functions : List ℕ
+  pub bindings : List ℕ
+
+abbrev pub tables : List ℕ → List ℕ → List ℕ → List ℕ → List ℕ → List ℕ → Tables
+tables f c k p g b = record { frames = f; cells = c; keys = k; pairs = p; functions = g; bindings = b }
+
+-- of each table the entries that are used, never more than it has places
+unfoldable pub view : Thread → Tables → Clean
+view t w =
+    record {
+      thread = record { control = controlIn (t .now .control); env = t .now .env; on = keysIn (t .now .on); frames = stackOf frameIn (w .frames) (capped (t .frames) 256) };
+      store =
+          record {
+            cells = listOf cellIn (w .cells) (capped (t .cells) 256);
+            keys = listOf upIn (w .keys) (capped (t .keys) 128);
+            pairs = listOf pairIn (w .pairs) (capped (t .pairs) 512);
+            functions = listOf functionIn (w .functions) (capped (t .functions) 512);
+            bindings = listOf linkIn (w .bindings) (capped (t .bindings) 1024);
+          };
+    }
+
+-- the whole machine
+abbrev pub seen : Machine → Clean
+seen m = view (m .thread) (tables (m .frames) (m .cells) (m .keys) (m .pairs) (m .functions) (m .bindings))
+
+-- what a call gave
+abbrev pub ranIn : Outcome → Ran
+ranIn o = ran (answerIn (o .answer)) (o .taken) (seen (o .machine))
