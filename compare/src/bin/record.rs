@@ -1,0 +1,139 @@
+//! Writes a file of jobs and of what the desk prints for each, by the second implementation.
+//!
+//! `record FILE`
+
+use std::collections::HashMap;
+use std::process::ExitCode;
+
+use compare::expected::full;
+use second::generate::job;
+use second::{Expr, Machine, Outcome, check, desk, read};
+
+/// The seeds that are tried, the cases wanted, and the bytes that all may take.
+const SEEDS: std::ops::Range<u64> = 1..40_000;
+const CASES: usize = 300;
+const BYTES: usize = 90_000;
+/// The end of the file, in place of a length.
+const END: u16 = 0xFFFF;
+
+/// What a job shows, as words; cases are chosen so that each word comes up some times.
+fn shows(job: &[u8]) -> Vec<String> {
+    let mut words = Vec::new();
+    match check(job) {
+        Err(refusal) => {
+            let number = refusal.number;
+            words.push(format!("refused {number}"));
+            let command = match (number, read(job)) {
+                (8.., Ok(job)) => job.exprs.get(refusal.place as usize).map(command),
+                _ => job.get(refusal.place as usize).map(|byte| format!("{byte:02x}")),
+            };
+            words.push(format!("refused {number} at {}", command.unwrap_or_default()));
+        }
+        Ok(accepted) => {
+            let Ok(mut machine) = Machine::start(job) else { return words };
+            let (outcome, _) = machine.run(second::desk::STEPS);
+            words.push(outcome.words().to_string());
+            words.push(format!("accepted as {}", accepted.kind.word()));
+            if let (Outcome::Done, Some(value)) = (outcome, machine.result()) {
+                words.push(format!("done with {}", value.kind().word()));
+            }
+            if outcome == Outcome::NoRoom
+                && let [room] = full(machine.rooms())[..]
+            {
+                words.push(format!("no room in {room}"));
+            }
+            let pure = if accepted.effect == 0 { "no" } else { "an" };
+            for expr in read(job).iter().flat_map(|job| &job.exprs) {
+                words.push(format!("accepted with {}, {pure} effect", command(expr)));
+            }
+        }
+    }
+    words.sort();
+    words.dedup();
+    words
+}
+
+fn command(expr: &Expr) -> String {
+    let name = format!("{expr:?}");
+    let name = name.split('(').next().unwrap_or_default();
+    match expr {
+        Expr::Limit(count, ..) => format!("{name} of {count}"),
+        _ => name.to_string(),
+    }
+}
+
+/// How often a word may bring in a case by itself. Long runs are kept few.
+fn wanted(word: &str) -> usize {
+    match word {
+        "spent" => 2,
+        _ if word.starts_with("no room in") => 1,
+        "no room" => 6,
+        _ if word.starts_with("refused") && !word.contains("at") => 8,
+        _ if word.starts_with("accepted as") || word.starts_with("done with") => 6,
+        _ => 3,
+    }
+}
+
+fn main() -> ExitCode {
+    let Some(path) = std::env::args().nth(1) else {
+        eprintln!("usage: record FILE");
+        return ExitCode::from(2);
+    };
+    let mut jobs: Vec<Vec<u8>> = SEEDS.map(|seed| job(seed).1).collect();
+    jobs.sort_by(|a, b| (a.len(), a).cmp(&(b.len(), b)));
+    jobs.dedup();
+    let mut out = Vec::new();
+    let mut shown: HashMap<String, usize> = HashMap::new();
+    let mut cases = 0;
+    for job in &jobs {
+        let words = shows(job);
+        let count = |word: &String| shown.get(word).copied().unwrap_or(0);
+        let long = words.iter().any(|word| word == "spent" || word == "no room");
+        let ended = |word: &&String| word.as_str() == "spent" || word.starts_with("no room");
+        // A long run comes in for its end alone.
+        let new = match long {
+            true => words.iter().filter(ended).any(|word| count(word) < wanted(word)),
+            false => words.iter().any(|word| count(word) < wanted(word)),
+        };
+        let printed = desk(job);
+        let more = 3 + job.len() + printed.len();
+        if !new || cases == CASES || out.len() + more + 2 > BYTES {
+            continue;
+        }
+        for word in words {
+            *shown.entry(word).or_default() += 1;
+        }
+        let (Ok(length), Ok(printed_length)) =
+            (u16::try_from(job.len()), u8::try_from(printed.len()))
+        else {
+            continue;
+        };
+        out.extend(length.to_le_bytes());
+        out.extend(job);
+        out.push(printed_length);
+        out.extend(printed.as_bytes());
+        cases += 1;
+    }
+    out.extend(END.to_le_bytes());
+    let mut report: Vec<_> = shown.into_iter().collect();
+    report.sort();
+    for (word, times) in &report {
+        println!("{times:5} {word}");
+    }
+    println!("{cases} cases, {} bytes", out.len());
+    let mut must: Vec<String> = (2..=14).map(|number| format!("refused {number}")).collect();
+    must.extend(["done", "spent", "no room"].map(str::to_string));
+    let missing: Vec<_> =
+        must.iter().filter(|word| !report.iter().any(|(shown, _)| shown == *word)).collect();
+    if !missing.is_empty() {
+        eprintln!("not met: {missing:?}");
+        return ExitCode::FAILURE;
+    }
+    match std::fs::write(&path, out) {
+        Ok(()) => ExitCode::SUCCESS,
+        Err(error) => {
+            eprintln!("{path}: {error}");
+            ExitCode::FAILURE
+        }
+    }
+}
