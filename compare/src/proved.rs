@@ -165,12 +165,7 @@ pub fn check(job: &[u8], tables: &mut Tables) -> (u64, [u64; 2]) {
 ///
 /// # Panics
 /// If `answers` does not have two words for each call.
-pub fn run(
-    job: &[u8],
-    tables: &mut Tables,
-    calls: &[u64],
-    answers: &mut [u64],
-) -> (u64, [u64; 6]) {
+pub fn run(job: &[u8], tables: &mut Tables, calls: &[u64], answers: &mut [u64]) -> (u64, [u64; 6]) {
     assert_eq!(answers.len(), 2 * calls.len());
     let mut rooms = [0xDEAD; 6];
     let lent = tables.lent;

@@ -23,11 +23,15 @@ fn shows(job: &[u8]) -> Vec<String> {
         Err(refusal) => {
             let number = refusal.number;
             words.push(format!("refused {number}"));
+            let place = refusal.place as usize;
             let command = match (number, read(job)) {
-                (8.., Ok(job)) => job.exprs.get(refusal.place as usize).map(command),
-                _ => job.get(refusal.place as usize).map(|byte| format!("{byte:02x}")),
+                (8.., Ok(job)) => job.exprs.get(place).map(command),
+                // Jobs that are full of expressions are long.
+                (5, _) if job.get(place).is_some_and(|&byte| byte > 0x30) => None,
+                (3..=6, _) => job.get(place).map(|byte| format!("{byte:02x}")),
+                _ => None,
             };
-            words.push(format!("refused {number} at {}", command.unwrap_or_default()));
+            words.extend(command.map(|command| format!("refused {number} at {command}")));
         }
         Ok(accepted) => {
             let Ok(mut machine) = Machine::start(job) else { return words };
@@ -62,15 +66,13 @@ fn command(expr: &Expr) -> String {
     }
 }
 
-/// How often a word may bring in a case by itself. Long runs are kept few.
-fn wanted(word: &str) -> usize {
+/// How often a word may bring in a case by itself, up to a round. Long runs are kept few.
+fn most(word: &str, round: usize) -> usize {
     match word {
-        "spent" => 2,
-        _ if word.starts_with("no room in") => 1,
-        "no room" => 6,
-        _ if word.starts_with("refused") && !word.contains("at") => 8,
-        _ if word.starts_with("accepted as") || word.starts_with("done with") => 6,
-        _ => 3,
+        "spent" => round.min(2),
+        _ if word.starts_with("no room") => 1,
+        _ if word.starts_with("refused") && !word.contains("at") => 4 * round,
+        _ => round,
     }
 }
 
@@ -82,37 +84,49 @@ fn main() -> ExitCode {
     let mut jobs: Vec<Vec<u8>> = SEEDS.map(|seed| job(seed).1).collect();
     jobs.sort_by(|a, b| (a.len(), a).cmp(&(b.len(), b)));
     jobs.dedup();
+    let mut jobs: Vec<(Vec<u8>, Vec<String>)> = jobs
+        .into_iter()
+        .map(|job| {
+            let words = shows(&job);
+            (job, words)
+        })
+        .collect();
     let mut out = Vec::new();
     let mut shown: HashMap<String, usize> = HashMap::new();
     let mut cases = 0;
-    for job in &jobs {
-        let words = shows(job);
-        let count = |word: &String| shown.get(word).copied().unwrap_or(0);
-        let long = words.iter().any(|word| word == "spent" || word == "no room");
-        let ended = |word: &&String| word.as_str() == "spent" || word.starts_with("no room");
-        // A long run comes in for its end alone.
-        let new = match long {
-            true => words.iter().filter(ended).any(|word| count(word) < wanted(word)),
-            false => words.iter().any(|word| count(word) < wanted(word)),
-        };
-        let printed = desk(job);
-        let more = 3 + job.len() + printed.len();
-        if !new || cases == CASES || out.len() + more + 2 > BYTES {
-            continue;
-        }
-        for word in words {
-            *shown.entry(word).or_default() += 1;
-        }
-        let (Ok(length), Ok(printed_length)) =
-            (u16::try_from(job.len()), u8::try_from(printed.len()))
-        else {
-            continue;
-        };
-        out.extend(length.to_le_bytes());
-        out.extend(job);
-        out.push(printed_length);
-        out.extend(printed.as_bytes());
-        cases += 1;
+    // In each round every word may come up once more.
+    for round in 1..=20 {
+        jobs.retain(|(job, words)| {
+            let few = |word: &String| shown.get(word).copied().unwrap_or(0) < most(word, round);
+            // A long run comes in for its end alone.
+            let end = |word: &&String| *word == "spent" || word.starts_with("no room");
+            let new = match words.iter().any(|word| end(&word)) {
+                true => words.iter().filter(end).any(few),
+                false => words.iter().any(few),
+            };
+            if !new || cases == CASES {
+                return true;
+            }
+            let printed = desk(job);
+            let fits = out.len() + 3 + job.len() + printed.len() + 2 <= BYTES;
+            if !fits {
+                return true;
+            }
+            let (Ok(length), Ok(printed_length)) =
+                (u16::try_from(job.len()), u8::try_from(printed.len()))
+            else {
+                return false;
+            };
+            for word in words {
+                *shown.entry(word.clone()).or_default() += 1;
+            }
+            out.extend(length.to_le_bytes());
+            out.extend(job);
+            out.push(printed_length);
+            out.extend(printed.as_bytes());
+            cases += 1;
+            false
+        });
     }
     out.extend(END.to_le_bytes());
     let mut report: Vec<_> = shown.into_iter().collect();

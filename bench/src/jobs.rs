@@ -1,0 +1,96 @@
+//! The jobs that are measured. Each is accepted.
+
+use second::generate::{heavy, ladder};
+use second::job::{Expr, HostValue, Job, Shape, Type, UNUSED};
+use second::names::Names;
+use second::write;
+
+/// The job of a name.
+pub fn job(name: &str) -> Option<Vec<u8>> {
+    Some(match name {
+        "small" => small(),
+        "medium" => write(&medium()),
+        "largest" => write(&largest()),
+        "ladder" => write(&ladder(16, 120, 1)),
+        "loop" => write(&heavy(40)),
+        _ => return None,
+    })
+}
+
+/// A read of a keyed host cell.
+fn small() -> Vec<u8> {
+    let mut job = vec![0x01, 1, 0x10, 0, 0x12, 2, 0, 0, 0x20, 1, 0, 7, 0, 0, 0];
+    job.extend([0x21, 4, 0, 0, 0, 0, 0, 0, 0, 0x32, 0, 0x39, 0, 0, 0xFF]);
+    job
+}
+
+/// So many host names, each below the last.
+fn chain(count: usize) -> Names {
+    let mut names = Names::default();
+    for _ in 0..count {
+        names.declare(names.count() as u8 - 1, true);
+    }
+    names
+}
+
+/// About 3 KB of expressions of all kinds: turns of reads, sums, pairs, functions, tests, limits
+/// and new cells around keyed host cells.
+fn medium() -> Job {
+    let names = chain(8);
+    // Number; cells and limit keys of each name; function from and to numbers with an effect.
+    let mut types = vec![Type::unkeyed(Shape::Number)];
+    for name in 2..10 {
+        types.push(Type { key: name, shape: Shape::Cell(0) });
+        types.push(Type { key: 0, shape: Shape::Limit(name) });
+    }
+    let function = types.len() as u16;
+    types.push(Type::unkeyed(Shape::Function(0, 0, 1 << 2)));
+    let hosts = (1..17).map(|ty| HostValue { ty, number: 0 }).collect();
+    let mut exprs: Vec<Expr> = Vec::new();
+    let mut add = |expr| {
+        exprs.push(expr);
+        exprs.len() as u16 - 1
+    };
+    let mut sum = add(Expr::Number(1));
+    for turn in 0..28u8 {
+        let name = turn % 8;
+        // A limit around the read of a keyed cell.
+        let key = add(Expr::Variable(2 * name + 1));
+        let cell = add(Expr::Variable(2 * name));
+        let read = add(Expr::Read(cell));
+        let limited = add(Expr::Limit(1, [key, UNUSED, UNUSED, UNUSED], read));
+        // A cell that holds a function with less effect than its type allows, read and called.
+        let variable = 16 + turn;
+        let own = add(Expr::Variable(variable));
+        let host = add(Expr::Variable(2 * name));
+        let assigned = add(Expr::Assign(host, own));
+        let made = add(Expr::Function(variable, 0, assigned));
+        let held = add(Expr::NewCell(function, made));
+        let found = add(Expr::Read(held));
+        let called = add(Expr::Apply(found, limited));
+        // A pair and its part, and a test.
+        let pair = add(Expr::Pair(called, sum));
+        let part = add(Expr::Part(pair, 2));
+        let (yes, no) = (add(Expr::Number(2)), add(Expr::Number(3)));
+        let tested = add(Expr::Test(part, yes, no, 0));
+        let one = add(Expr::Number(1));
+        sum = add(Expr::Difference(tested, one));
+    }
+    Job { names, types, hosts, rights: 1 << 2, exprs, ..Job::default() }
+}
+
+/// Every section full of the longest commands that can stand there together.
+fn largest() -> Job {
+    let names = chain(62);
+    let mut types = vec![Type::unkeyed(Shape::Number), Type::unkeyed(Shape::Cell(0))];
+    for ty in 0..254u64 {
+        let key = (ty % 64) as u8;
+        types.push(Type { key, shape: Shape::Function(0, 1, 1 << (1 + ty % 63)) });
+    }
+    let hosts = vec![HostValue { ty: 1, number: 7 }; 64];
+    let mut exprs = vec![Expr::Number(9)];
+    for body in 0..511 {
+        exprs.push(Expr::Limit(0, [UNUSED; 4], body));
+    }
+    Job { names, types, hosts, rights: 2, exprs, ..Job::default() }
+}

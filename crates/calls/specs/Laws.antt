@@ -1,0 +1,55 @@
+-- Laws of lists written over others, and of lists of calls.
+use mathlib.Core.Path.{_≡_, refl, sym, ap, _∙_, subst}
+use Prim.Native.Nat.{ℕ, zero, suc, _+_, _-_, _*_, _≤_, _<_}
+use native.Mathlib.Omega.{arith}
+use mathlib.Core.List.{List, [], _∷_, _++_, map}
+use lib.ListN.{length, drop, set, getD}
+use lib.Seq.{sets, set-out}
+use Rattle.semantics.specs.Machine.{Machine}
+use Rattle.semantics.specs.Calls.{Call, one-step, run-of, Ran, calls, call}
+use Rattle.syntax.specs.Commands.{Cmd}
+use Rattle.calls.specs.Words.{callOf, callsIn, answerNo, resultWords, lastOf, over}
+
+pub sets-cons : (x : ℕ) (l : List ℕ) (i : ℕ) (vs : List ℕ) → sets (x ∷ l) (suc i) vs ≡ x ∷ sets l i vs
+sets-cons x l i [] = refl
+sets-cons x l i (v ∷ vs) = sets-cons x (set l i v) (suc i) vs
+
+pub sets-full : (l : List ℕ) (i : ℕ) (vs : List ℕ) → length l ≤ i → sets l i vs ≡ l
+sets-full l i [] h = refl
+sets-full l i (v ∷ vs) h = rw (set-out l i v h) (sets-full l (suc i) vs (omega arith))
+
+pub sets-over : (l vs : List ℕ) → sets l 0 vs ≡ over l vs
+unfolding over
+sets-over [] vs = sets-full [] 0 vs (omega arith)
+sets-over (o ∷ os) [] = refl
+sets-over (o ∷ os) (n ∷ ns) = sets-cons n os 0 ns ∙ ap (λ z. n ∷ z) (sets-over os ns)
+
+-- where all have a place, they are written and the rest stays
+pub over-fits : (l vs : List ℕ) → length vs ≤ length l → over l vs ≡ vs ++ drop (length vs) l
+unfolding over
+over-fits [] [] h = refl
+over-fits [] (n ∷ ns) h = absurd (omega arith)
+over-fits (o ∷ os) [] h = refl
+over-fits (o ∷ os) (n ∷ ns) h = ap (λ z. n ∷ z) (over-fits os ns (omega arith))
+
+-- as many places as before
+pub over-length : (l vs : List ℕ) → length (over l vs) ≡ length l
+unfolding over
+over-length [] vs = refl
+over-length (o ∷ os) [] = refl
+over-length (o ∷ os) (n ∷ ns) = ap suc (over-length os ns)
+
+-- two words a call
+pub result-length : {T : Type 0} (code : ℕ → Cmd T) (ws : List ℕ) (m : Machine) → length (resultWords (calls code (callsIn ws) m)) ≡ 2 * length ws
+unfolding callsIn calls resultWords
+result-length code [] m = refl
+result-length code (w ∷ ws) m = let h = result-length code ws (call code (callOf w) m .machine) in omega (arith, h)
+
+pub call-run : (w : ℕ) → 0 < w → callOf w ≡ run-of (w - 1)
+unfolding callOf
+call-run zero h = absurd (omega arith)
+call-run (suc n) h = let e : suc n - 1 ≡ n = omega arith in ap run-of (sym e)
+
+pub call-step : (w : ℕ) → w ≡ 0 → callOf w ≡ one-step
+unfolding callOf
+call-step w e = rw e

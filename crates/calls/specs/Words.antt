@@ -1,0 +1,39 @@
+-- Calls and what they give, as numbers.
+use Prim.Native.Nat.{ℕ, zero, suc}
+use mathlib.Core.List.{List, [], _∷_, map}
+use Rattle.syntax.specs.Commands.{Cmd}
+use Rattle.semantics.specs.Machine.{Machine}
+use Rattle.semantics.specs.Calls.{Call, one-step, run-of, Answer, taken, finished, spent, noroom, stuck, denied, Ran, call}
+
+-- 0 is a step, n + 1 a run of n steps
+unfoldable pub callOf : ℕ → Call
+callOf zero = one-step
+callOf (suc n) = run-of n
+
+unfoldable pub callsIn : List ℕ → List Call
+callsIn [] = []
+callsIn (w ∷ ws) = callOf w ∷ callsIn ws
+
+unfoldable pub answerNo : Answer → ℕ
+answerNo taken = 0
+answerNo finished = 1
+answerNo spent = 2
+answerNo noroom = 3
+answerNo stuck = 4
+answerNo denied = 5
+
+-- the answer and the count of steps taken, for each call
+unfoldable pub resultWords : List Ran → List ℕ
+resultWords [] = []
+resultWords (r ∷ l) = answerNo (r .answer) ∷ r .count ∷ resultWords l
+
+-- the machine that the last of the calls gives
+unfoldable pub lastOf : {T : Type 0} → (ℕ → Cmd T) → List Call → Machine → Machine
+lastOf code [] m = m
+lastOf code (c ∷ cs) m = lastOf code cs (call code c m .machine)
+
+-- the second list over the first, as far as the first goes; what it does not reach stays
+unfoldable pub over : List ℕ → List ℕ → List ℕ
+over [] new = []
+over (o ∷ os) [] = o ∷ os
+over (o ∷ os) (n ∷ ns) = n ∷ over os ns
