@@ -33,18 +33,23 @@ fn chain(count: usize) -> Names {
     names
 }
 
+/// The turns of the medium job.
+const TURNS: u8 = 28;
+
 /// About 3 KB of expressions of all kinds: turns of reads, sums, pairs, functions, tests, limits
 /// and new cells around keyed host cells.
 fn medium() -> Job {
     let names = chain(8);
-    // Number; cells and limit keys of each name; function from and to numbers with an effect.
+    // Number; cells and limit keys of each name; for each turn a function with an effect.
     let mut types = vec![Type::unkeyed(Shape::Number)];
     for name in 2..10 {
         types.push(Type { key: name, shape: Shape::Cell(0) });
         types.push(Type { key: 0, shape: Shape::Limit(name) });
     }
-    let function = types.len() as u16;
-    types.push(Type::unkeyed(Shape::Function(0, 0, 1 << 2)));
+    let functions = types.len() as u16;
+    for turn in 0..TURNS {
+        types.push(Type::unkeyed(Shape::Function(0, 0, 1 << (2 + turn % 8 / 2))));
+    }
     let hosts = (1..17).map(|ty| HostValue { ty, number: 0 }).collect();
     let mut exprs: Vec<Expr> = Vec::new();
     let mut add = |expr| {
@@ -52,7 +57,7 @@ fn medium() -> Job {
         exprs.len() as u16 - 1
     };
     let mut sum = add(Expr::Number(1));
-    for turn in 0..28u8 {
+    for turn in 0..TURNS {
         let name = turn % 8;
         // A limit around the read of a keyed cell.
         let key = add(Expr::Variable(2 * name + 1));
@@ -65,7 +70,7 @@ fn medium() -> Job {
         let host = add(Expr::Variable(2 * name));
         let assigned = add(Expr::Assign(host, own));
         let made = add(Expr::Function(variable, 0, assigned));
-        let held = add(Expr::NewCell(function, made));
+        let held = add(Expr::NewCell(functions + turn as u16, made));
         let found = add(Expr::Read(held));
         let called = add(Expr::Apply(found, limited));
         // A pair and its part, and a test.

@@ -14,13 +14,16 @@ use second::{Machine, Refusal, check, read, to_hex, tree};
 const STEPS: u64 = 20_000;
 const MORE_STEPS: u64 = 100_000;
 
-/// How often something was met.
+/// How often something was met, and the steps taken in all.
 #[derive(Default)]
-struct Met(BTreeMap<String, u64>);
+struct Met {
+    times: BTreeMap<String, u64>,
+    steps: u64,
+}
 
 impl Met {
     fn meet(&mut self, what: String) {
-        *self.0.entry(what).or_default() += 1;
+        *self.times.entry(what).or_default() += 1;
     }
 }
 
@@ -43,14 +46,14 @@ pub fn all(count: u64, seed: u64) -> ExitCode {
             turn += 1;
         }
     }
-    for (what, times) in &met.0 {
+    for (what, times) in &met.times {
         println!("{times:9} {what}");
     }
     let missing: Vec<String> =
-        wanted().into_iter().filter(|what| !met.0.contains_key(what)).collect();
+        wanted().into_iter().filter(|what| !met.times.contains_key(what)).collect();
     missing.iter().for_each(|what| println!("not met: {what}"));
     match missing.is_empty() {
-        true => println!("{count} jobs and their probes: no difference"),
+        true => println!("{count} jobs and their probes, {} steps: no difference", met.steps),
         false => println!("no difference, but not all was met"),
     }
     ExitCode::from(!missing.is_empty() as u8)
@@ -234,6 +237,7 @@ fn compare_run(
     same_tables("after a run", &tables, &wanted)?;
     for (call, answer) in calls.iter().zip(answers.chunks(2)) {
         let call = if *call == STEP { "step" } else { "run" };
+        met.steps += answer[1];
         let answer = ANSWERS[answer[0] as usize];
         met.meet(format!("{call} answers {answer}"));
         if accepted && matches!(answer, "stuck" | "denied") {

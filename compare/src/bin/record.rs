@@ -72,8 +72,30 @@ fn most(word: &str, round: usize) -> usize {
         "spent" => round.min(2),
         _ if word.starts_with("no room") => 1,
         _ if word.starts_with("refused") && !word.contains("at") => 4 * round,
+        _ if word.starts_with("accepted as") || word.starts_with("done with") => 4 * round,
+        _ if word.starts_with("accepted") => 2 * round,
         _ => round,
     }
+}
+
+/// A case as the file holds it.
+fn case(job: &[u8]) -> Option<Vec<u8>> {
+    let printed = desk(job);
+    let length = u16::try_from(job.len()).ok().filter(|&length| length != END)?;
+    let mut case = length.to_le_bytes().to_vec();
+    case.extend(job);
+    case.push(u8::try_from(printed.len()).ok()?);
+    case.extend(printed.as_bytes());
+    Some(case)
+}
+
+/// The read of a keyed host cell, with the right to it and without.
+fn printed_examples() -> [Vec<u8>; 2] {
+    [4, 0].map(|rights| {
+        let mut job = vec![0x01, 1, 0x10, 0, 0x12, 2, 0, 0, 0x20, 1, 0, 7, 0, 0, 0];
+        job.extend([0x21, rights, 0, 0, 0, 0, 0, 0, 0, 0x32, 0, 0x39, 0, 0, 0xFF]);
+        job
+    })
 }
 
 fn main() -> ExitCode {
@@ -91,10 +113,11 @@ fn main() -> ExitCode {
             (job, words)
         })
         .collect();
-    let mut out = Vec::new();
+    let mut out: Vec<u8> =
+        printed_examples().iter().filter_map(|job| case(job)).flatten().collect();
+    let mut cases = 2;
     let mut shown: HashMap<String, usize> = HashMap::new();
-    let mut cases = 0;
-    // In each round every word may come up once more.
+    // In each round every word may come up some times more.
     for round in 1..=20 {
         jobs.retain(|(job, words)| {
             let few = |word: &String| shown.get(word).copied().unwrap_or(0) < most(word, round);
@@ -107,23 +130,13 @@ fn main() -> ExitCode {
             if !new || cases == CASES {
                 return true;
             }
-            let printed = desk(job);
-            let fits = out.len() + 3 + job.len() + printed.len() + 2 <= BYTES;
-            if !fits {
-                return true;
-            }
-            let (Ok(length), Ok(printed_length)) =
-                (u16::try_from(job.len()), u8::try_from(printed.len()))
-            else {
+            let Some(case) = case(job).filter(|case| out.len() + case.len() + 2 <= BYTES) else {
                 return false;
             };
             for word in words {
                 *shown.entry(word.clone()).or_default() += 1;
             }
-            out.extend(length.to_le_bytes());
-            out.extend(job);
-            out.push(printed_length);
-            out.extend(printed.as_bytes());
+            out.extend(case);
             cases += 1;
             false
         });

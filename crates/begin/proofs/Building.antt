@@ -1,0 +1,85 @@
+-- The machine of a job's start, from the tables that hold the job.
+use mathlib.Core.Path.{_≡_, refl, sym, ap, _∙_}
+use Prim.Native.Nat.{ℕ, zero, suc, _-_, _≤_, _<_}
+use native.Mathlib.Omega.{arith}
+use mathlib.Core.Bool.{Bool, true, false, cond}
+use mathlib.Core.List.{List, [], _∷_, map}
+use lib.ListN.{length, length-map}
+use lib.Dec.{ltb}
+use borrow.Author.Tests.{ltb-false, lt-ltb}
+use Rattle.syntax.specs.Job.{Job, Src, sourceOf}
+use Rattle.syntax.specs.Tree.{root, past}
+use Rattle.semantics.specs.Machine.{Value, Two, Closure, Link, Frame, Control, enter, Thread, Store, Machine as Clean}
+use Rattle.semantics.specs.Start.{startOf, named, valued}
+use Rattle.store.specs.Meaning.{keysIn}
+use Rattle.store.specs.Tables.{capped, listOf, stackOf}
+use Rattle.store.specs.Words.{linkIn}
+use Rattle.store.proofs.Laws.{list-length}
+use Rattle.machine.specs.declared.Control.the-variants.{Enter}
+use Rattle.machine.specs.View.{view, tables}
+use Rattle.start.specs.declared.Started.{Started}
+use Rattle.start.specs.Begun.{Begins, Begun, Holds}
+use Rattle.start.specs.Held.{filled-holds}
+use Rattle.job.specs.declared.Shape.{Shape}
+use Rattle.job.specs.Answer.{shapeOf}
+use Rattle.tree.specs.Holds as tree
+use Rattle.tree.specs.Filled as tree-filled
+use Rattle.begin.specs.Starts.{Lent, Ready, Built}
+use Rattle.machine.specs.declared.Machine.{Machine}
+use Rattle.machine.specs.View.{seen}
+
+capped-le : (n m : ℕ) → n ≤ m → capped n m ≡ n
+capped-le n m h = at (ltb n m) refl
+  where
+    at : (b : Bool) → ltb n m ≡ b → cond b n m ≡ n
+    at true e = refl
+    at false e = let k : m ≡ n = omega (arith, ltb-false n m e) in k
+
+-- a machine from its parts
+abbrev parts : Control → ℕ → ℕ → List Frame → List Value → List ℕ → List Two → List Closure → List Link → Clean
+parts c e o f cs ks ps fs bs = record { thread = record { control = c; env = e; on = o; frames = f }; store = record { cells = cs; keys = ks; pairs = ps; functions = fs; bindings = bs } }
+
+same-parts : (f : List Frame) (ps : List Two) (fs : List Closure) (e e' : ℕ) (n n' o o' : ℕ) (cs cs' : List Value) (ks ks' : List ℕ) (bs bs' : List Link)
+    → e ≡ e' → n ≡ n' → o ≡ o' → cs ≡ cs' → ks ≡ ks' → bs ≡ bs' → parts (enter e) n o f cs ks ps fs bs ≡ parts (enter e') n' o' f cs' ks' ps fs bs'
+same-parts f ps fs e e' n n' o o' cs cs' ks ks' bs bs' a b c d g h = cc
+
+pub started : (S : Src) (b : Started) → Begins S b → b .nkeys ≤ 128 → b .ncells ≤ 64 → b .nbindings ≤ 126 → (e : ℕ) → e ≡ root S → (fr pa fu : List ℕ)
+    → view
+    (record { now = record { control = Enter (record { 0 = e }); env = b .nbindings; on = b .on }; frames = 0; cells = b .ncells; keys = b .nkeys; pairs = 0; functions = 0; bindings = b .nbindings })
+    (tables fr (b .cells) (b .keys) pa fu (b .bindings))
+    ≡ startOf S
+unfolding view startOf listOf stackOf
+started S b g hk hc hb e he fr pa fu =
+    same-parts [] [] [] e (root S) (b .nbindings) (length (valued S .bindings)) _ _ _ _ _ _ _ _ he
+    (sym (list-length linkIn (b .bindings) (b .nbindings)) ∙ ap length (g .bindings))
+    (g .on)
+    (rw (capped-le (b .ncells) 256 (omega arith)) (g .cells))
+    (rw (capped-le (b .nkeys) 128 hk) (g .keys))
+    (rw (capped-le (b .nbindings) 1024 (omega arith)) (g .bindings))
+
+pub root-is : (S : Src) (cmds e : ℕ) → cmds ≡ length (S .cmds) → cmds ≤ 512 → (cmds ≤ 512 → e ≡ cmds - 1) → e ≡ root S
+unfolding root past
+root-is S cmds e h k f = f k ∙ ap (λ (n : ℕ). n - 1) h ∙ back (length (S .cmds))
+  where
+    back : (n : ℕ) → n - 1 ≡ past n
+    back zero = refl
+    back (suc n) = let z : suc n - 1 ≡ n = omega arith in z
+
+pub start-holds : {J : Job} {g : Shape} {n t s v h p : List ℕ} {kn kt ks kv kh kp : ℕ} → Lent J g n t s v h p kn kt ks kv kh kp → Holds J n (g .names) t v (g .values) (g .rights)
+unfolding shapeOf
+start-holds {J} {kn = kn} {kt = kt} {kv = kv} l = rw (l .shape, l .holds .names, l .holds .types, l .holds .values) (filled-holds J (l .fits) kn kt kv)
+
+pub tree-holds : {J : Job} {g : Shape} {n t s v h p : List ℕ} {kn kt ks kv kh kp : ℕ} → Lent J g n t s v h p kn kt ks kv kh kp
+    → tree.Holds J h p (g .cmds) n (g .names) t s (g .types) (g .values)
+unfolding shapeOf
+tree-holds {J} {kn = kn} {kt = kt} {ks = ks} {kh = kh} {kp = kp} l =
+    rw (l .shape, l .holds .names, l .holds .types, l .holds .sets, l .holds .heads, l .holds .slots) (tree-filled.filled-holds J (l .fits) kh kp kn kt ks)
+
+pub ready : {J : Job} {g : Shape} {n t s v h p : List ℕ} {kn kt ks kv kh kp : ℕ} → Lent J g n t s v h p kn kt ks kv kh kp → Ready J g n t v
+ready l = record { ok = l .ok; shape = l .shape; holds = start-holds l }
+
+pub built : {J : Job} {g : Shape} {n t v : List ℕ} (b : Started) (m : Machine) → Begun n (g .names) t v (g .values) (g .rights) b → Built b (g .cmds) m → Ready J g n t v
+    → seen m ≡ startOf (sourceOf J)
+unfolding shapeOf sourceOf
+built {J} b m x y l =
+    y .starts (sourceOf J) (x .begins J (l .ok) (l .holds)) (x .few-keys) (x .few-cells) (x .few-bindings) (rw (l .shape) (l .ok .few-cmds)) (rw (l .shape) (sym (length-map (J .cmds) _)))
