@@ -1,0 +1,16 @@
+use borrow.Author.Needs.{needs}
+use Rattle.checker.proofs.Laws.{past-none, past-some}
+use Rattle.checker.proofs.last.Statement.{statement}
+use Rattle.checker.proofs.last.Tie as tie
+
+returns : tie.Need-returns
+returns c = past-none _ (c .if1 .taken)
+
+sub-result : tie.Need-sub-result
+sub-result c = search needs
+
+returns-2 : tie.Need-returns-2
+returns-2 c = past-some _ (c .if1 .left)
+
+pub last-spec : {M : Type 1} → statement M
+last-spec = tie.close (tie.spec returns sub-result returns-2)

@@ -1,0 +1,81 @@
+-- What the answers of the check stand for: the verdict by number and place, or by the tree of the job's type and its effect, and the tables afterwards.
+use mathlib.Core.Path.{_≡_}
+use Prim.Native.Nat.{ℕ, zero, suc}
+use mathlib.Core.Bool.{Bool, false}
+use mathlib.Core.List.{List}
+use mathlib.Core.Option.{Option}
+use lib.ListN.{length, replicate}
+use Rattle.syntax.specs.Types.{Ty, num, TypeEntry, grow, tree}
+use Rattle.syntax.specs.Job.{Job}
+use Rattle.syntax.specs.Reading.{Refusal, Read, refused, read, reading}
+use Rattle.syntax.specs.Words.{filled, nameWords, typeWords, setWords, valueWords, headWords, slotWords, entryIn}
+use Rattle.syntax.specs.WordLaws.{Bytes}
+use Rattle.typing.specs.Verdict as rules
+use Rattle.typing.specs.Tables.{Tables, short, tablesAfter, verdictWith}
+use Rattle.typing.specs.Numbered.{Sofar, whole, numbering}
+use Rattle.typing.specs.NumberedLaws.{Inv}
+use Rattle.typing.specs.NumberedVerdict.{lastEntry, lastEffect, filledFrom}
+use Rattle.numbering.specs.OpsLaws.{jobOps}
+use Rattle.job.specs.declared.Shape.{Shape}
+use Rattle.job.specs.Answer.{shapeOf}
+use Rattle.checker.specs.declared.Verdict.{Verdict}
+use Rattle.checker.specs.declared.Verdict.the-variants.{Accepted, Refused}
+use Rattle.checker.specs.declared.Checked.{Checked}
+
+abbrev pub tables : List ℕ → List ℕ → List ℕ → List ℕ → List ℕ → List ℕ → List ℕ → List ℕ → Tables
+tables n t s v h p o e = record { names = n; types = t; sets = s; values = v; heads = h; slots = p; entries = o; effects = e }
+
+-- the tree of entry i of the type table and its sets
+unfoldable pub treeFrom : ℕ → (ℕ → Option TypeEntry) → ℕ → Ty
+treeFrom zero at i = num 0
+treeFrom (suc f) at i = grow (at i) (treeFrom f at)
+
+unfoldable pub treeOf : List ℕ → List ℕ → ℕ → Ty
+treeOf types sets i = treeFrom (suc i) (entryIn types sets) i
+
+-- the verdict that an answer stands for, by the type table afterwards and its sets
+unfoldable pub verdictIn : List ℕ → List ℕ → Verdict → rules.Verdict
+verdictIn types sets (Accepted i s) = rules.accept (treeOf types sets i) s
+verdictIn types sets (Refused n p) = rules.refuse (record { number = n; place = p })
+
+abbrev pub noShape : Shape
+noShape = record { names = 0; types = 0; values = 0; cmds = 0; rights = 0 }
+
+abbrev pub refusedBy : ℕ → ℕ → Checked
+refusedBy n p = record { verdict = Refused n p; shape = noShape }
+
+-- the counts of an accepted job, and none of a refused one
+unfoldable pub shapeRead : Read → Shape
+shapeRead (refused r) = noShape
+shapeRead (read J) = shapeOf J
+
+unfoldable pub shapeFor : rules.Verdict → Read → Shape
+shapeFor (rules.accept T e) r = shapeRead r
+shapeFor (rules.refuse n) r = noShape
+
+-- `check`: the verdict, the tables afterwards, and the counts of an accepted job
+pub record CheckTo (bytes : List ℕ) (r : Checked) (w x : Tables) : Type 0 where
+  pub verdict : verdictIn (x .types) (x .sets) (r .verdict) ≡ verdictWith w bytes
+  pub tables : x ≡ tablesAfter w bytes
+  pub shape : r .shape ≡ shapeFor (verdictWith w bytes) (reading bytes)
+
+-- the tables as reading leaves them for the job J, with no entries and effects yet
+pub record Given (bytes : List ℕ) (J : Job) (g : Shape) (w : Tables) : Type 0 where
+  pub bytes-are : Bytes bytes
+  pub is-read : reading bytes ≡ read J
+  pub shape : g ≡ shapeOf J
+  pub names : w .names ≡ filled (length (w .names)) 0 (nameWords J)
+  pub types : w .types ≡ filled (length (w .types)) 0 (typeWords (J .types))
+  pub sets : w .sets ≡ filled (length (w .sets)) 0 (setWords (J .types))
+  pub values : w .values ≡ filled (length (w .values)) 0 (valueWords J)
+  pub heads : w .heads ≡ filled (length (w .heads)) 0 (headWords J)
+  pub slots : w .slots ≡ filled (length (w .slots)) 0 (slotWords J)
+  pub entries : w .entries ≡ replicate (length (w .entries)) 0
+  pub effects : w .effects ≡ replicate (length (w .effects)) 0
+  pub long : short w ≡ false
+
+-- the answer on such tables, and where it is an acceptance the tables afterwards
+pub data Judged (bytes : List ℕ) (J : Job) : Verdict → Tables → Type 0 where
+  accepted : (k : ℕ) (σ : Sofar) (x : Tables) (i s : ℕ) → numbering (jobOps k J) J ≡ whole σ → Inv J (length (J .cmds)) σ → x ≡ filledFrom J σ x → i ≡ lastEntry J σ → s ≡ lastEffect J σ
+      → rules.verdictOf bytes ≡ rules.accept (tree (σ .entries) i) s → Judged bytes J (Accepted i s) x
+  refused-by : (n p : ℕ) (x : Tables) → rules.verdictOf bytes ≡ rules.refuse (record { number = n; place = p }) → Judged bytes J (Refused n p) x
