@@ -1,0 +1,108 @@
+-- The cases of a session: too short answers, a refused job, an accepted job.
+use mathlib.Core.Path.{_≡_, refl, sym, ap, _∙_, fun-ext}
+use Prim.Native.Nat.{ℕ, _*_, _/_, _≤_, _<_}
+use native.Mathlib.Omega.{arith}
+use mathlib.Core.Bool.{Bool, true, false}
+use mathlib.Core.List.{List, _++_}
+use lib.ListN.{length, drop}
+use lib.Dec.{leb}
+use borrow.Author.Tests.{le-leb, lt-leb}
+use Rattle.syntax.specs.Types.{Ty}
+use Rattle.syntax.specs.Reading.{Refusal}
+use Rattle.syntax.specs.Job.{Job, sourceOf}
+use Rattle.syntax.specs.Commands.{Cmd}
+use Rattle.syntax.specs.Words.{codeIn}
+use Rattle.syntax.specs.WordLaws.{Bytes}
+use Rattle.typing.specs.Verdict.{Verdict, accept, refuse}
+use Rattle.typing.specs.Tables.{Tables, verdictWith, tablesAfter}
+use Rattle.semantics.specs.Machine.{Machine as Clean}
+use Rattle.semantics.specs.Start.{startOf}
+use Rattle.semantics.specs.Calls.{calls}
+use Rattle.semantics.specs.Demand3.{exprOf, callsOf}
+use Rattle.calls.specs.Words.{callsIn, resultWords, over}
+use Rattle.calls.specs.Laws.{over-fits, result-length}
+use Rattle.calls.specs.Made.{Made}
+use Rattle.checker.specs.declared.Checked.{Checked}
+use Rattle.checker.specs.declared.Verdict.the-variants as verdicts
+use Rattle.checker.specs.Answer.{verdictIn, CheckTo}
+use Rattle.begin.specs.Starts.{Ready}
+use Rattle.accepting.specs.Accepting.{Accepting, accepting}
+use Rattle.session.specs.Session.{roomFor, sessionVerdict, sessionTables, Answered, SessionTo}
+
+pub answered : (J : Job) (h p ws a b : List ℕ) (m last : Clean) → Made (codeIn h p) ws m a b last → m ≡ startOf (sourceOf J) → ((i : ℕ) → codeIn h p i ≡ exprOf J i)
+    → b ≡ over a (resultWords (callsOf J (callsIn ws)))
+answered J h p ws a b m last x e c =
+    x .answers ∙ ap (λ z. over a (resultWords (calls (codeIn h p) (callsIn ws) z))) e
+    ∙ ap (λ (z : ℕ → Cmd ℕ). over a (resultWords (calls z (callsIn ws) (startOf (sourceOf J))))) (fun-ext c)
+
+room-no : (ws a : List ℕ) → length a / 2 < length ws → roomFor ws a ≡ false
+unfolding roomFor
+room-no ws a h = lt-leb (2 * length ws) (length a) (omega arith)
+
+room-yes : (ws a : List ℕ) → length ws ≤ length a / 2 → roomFor ws a ≡ true
+unfolding roomFor
+room-yes ws a h = le-leb (2 * length ws) (length a) (omega arith)
+
+pub session-short : (bytes ws a : List ℕ) (w : Tables) → length a / 2 < length ws → SessionTo bytes ws (verdicts.Refused 1 0) w w a a
+unfolding sessionVerdict sessionTables verdictIn
+session-short bytes ws a w h =
+    record {
+      verdict = rw (room-no ws a h);
+      tables = rw (room-no ws a h);
+      refused = λ q e. refl;
+      accepted = λ T s e. absurd (let f : refuse (record { number = 1; place = 0 }) ≡ accept T s = rw (room-no ws a h) at e in let z : _≡_ {A = ℕ} 0 1 = cc in omega arith);
+    }
+
+with-room : (bytes ws a : List ℕ) (w : Tables) → length ws ≤ length a / 2 → sessionVerdict (roomFor ws a) w bytes ≡ verdictWith w bytes
+unfolding sessionVerdict
+with-room bytes ws a w h = rw (room-yes ws a h)
+
+tables-room : (bytes ws a : List ℕ) (w : Tables) → length ws ≤ length a / 2 → tablesAfter w bytes ≡ sessionTables (roomFor ws a) w bytes
+unfolding sessionTables
+tables-room bytes ws a w h = rw (room-yes ws a h)
+
+pub session-refused : (bytes ws a : List ℕ) (r : Checked) (w x : Tables) (n p : ℕ) → length ws ≤ length a / 2 → CheckTo bytes r w x → r .verdict ≡ verdicts.Refused n p
+    → SessionTo bytes ws (verdicts.Refused n p) w x a a
+unfolding verdictIn
+session-refused bytes ws a r w x n p h c v =
+    let e : refuse (record { number = n; place = p }) ≡ verdictWith w bytes = sym (ap (verdictIn (x .types) (x .sets)) v) ∙ c .verdict in
+    let b = with-room bytes ws a w h in
+    record {
+      verdict = e ∙ sym b;
+      tables = c .tables ∙ tables-room bytes ws a w h;
+      refused = λ q k. refl;
+      accepted = λ T s k. absurd (let z : _≡_ {A = ℕ} 0 1 = cc in omega arith);
+    }
+
+fits : (J : Job) (ws a : List ℕ) → length ws ≤ length a / 2
+    → over a (resultWords (callsOf J (callsIn ws))) ≡ resultWords (callsOf J (callsIn ws)) ++ drop (2 * length ws) a
+fits J ws a h =
+    let l : length (resultWords (callsOf J (callsIn ws))) ≡ 2 * length ws = result-length (exprOf J) ws (startOf (sourceOf J)) in
+    over-fits a (resultWords (callsOf J (callsIn ws))) (omega (arith, l)) ∙ ap (λ (k : ℕ). resultWords (callsOf J (callsIn ws)) ++ drop k a) l
+
+never : {A : Type 0} (t u : List ℕ) (i s : ℕ) (q : Refusal) → verdictIn t u (verdicts.Accepted i s) ≡ refuse q → A
+unfolding verdictIn
+never t u i s q k = absurd (let z : _≡_ {A = ℕ} 0 1 = cc in omega arith)
+
+pub session-accepted : (bytes ws a b : List ℕ) (r : Checked) (w x : Tables) (i s : ℕ) → length ws ≤ length a / 2 → CheckTo bytes r w x → r .verdict ≡ verdicts.Accepted i s
+    → ((J : Job) → Ready J (r .shape) (x .names) (x .types) (x .values) → ((k : ℕ) → codeIn (x .heads) (x .slots) k ≡ exprOf J k) → b ≡ over a (resultWords (callsOf J (callsIn ws))))
+    → Bytes bytes → SessionTo bytes ws (verdicts.Accepted i s) w x a b
+session-accepted bytes ws a b r w x i s h c v f by = go (accepting bytes by r w x i s c v)
+  where
+    go : {T : Ty} → Accepting bytes (r .shape) T s x → SessionTo bytes ws (verdicts.Accepted i s) w x a b
+    go y =
+        let e : verdictIn (x .types) (x .sets) (verdicts.Accepted i s) ≡ verdictWith w bytes = sym (ap (verdictIn (x .types) (x .sets)) v) ∙ c .verdict in
+        record {
+          verdict = e ∙ sym (with-room bytes ws a w h);
+          tables = c .tables ∙ tables-room bytes ws a w h;
+          refused = λ q k. never (x .types) (x .sets) i s q (e ∙ sym (with-room bytes ws a w h) ∙ k);
+          accepted =
+              λ T t k. record {
+                job = y .job;
+                is = y .is;
+                results = callsOf (y .job) (callsIn ws);
+                actual = refl;
+                allowed = y .allowed (callsIn ws);
+                written = f (y .job) (y .ready) (y .code) ∙ fits (y .job) ws a h;
+              };
+        }

@@ -1,0 +1,47 @@
+-- A session: a job is checked, started and called, and the answers are those that the calls themselves give.
+use mathlib.Core.Path.{_≡_}
+use Prim.Native.Nat.{ℕ, _*_}
+use mathlib.Core.Bool.{Bool, true, false}
+use mathlib.Core.List.{List, _++_}
+use lib.ListN.{length, drop}
+use lib.Dec.{leb}
+use Rattle.order.specs.Effects.{Effect}
+use Rattle.syntax.specs.Types.{Ty}
+use Rattle.syntax.specs.Job.{Job}
+use Rattle.syntax.specs.Reading.{Refusal, read, reading}
+use Rattle.typing.specs.Verdict.{Verdict, accept, refuse}
+use Rattle.typing.specs.Tables.{Tables, verdictWith, tablesAfter}
+use Rattle.semantics.specs.Calls.{Ran}
+use Rattle.semantics.specs.Demand3.{callsOf, Allowed}
+use Rattle.calls.specs.Words.{callsIn, resultWords}
+use Rattle.checker.specs.declared.Verdict.{Verdict as Answer}
+use Rattle.checker.specs.Answer.{verdictIn}
+
+-- the answers have two places for each call
+unfoldable pub roomFor : List ℕ → List ℕ → Bool
+roomFor words answers = leb (2 * length words) (length answers)
+
+-- 1 where they have not
+unfoldable pub sessionVerdict : Bool → Tables → List ℕ → Verdict
+sessionVerdict true w s = verdictWith w s
+sessionVerdict false w s = refuse (record { number = 1; place = 0 })
+
+unfoldable pub sessionTables : Bool → Tables → List ℕ → Tables
+sessionTables true w s = tablesAfter w s
+sessionTables false w s = w
+
+-- the job that the bytes are; the results of the calls, each made on the machine that the last one gave, from the machine that starting the job gives; they are
+-- what demand 3 allows; and their answers and counts are what is written, the places after them being as before
+pub record Answered (bytes words before after : List ℕ) : Type 0 where
+  pub job : Job
+  pub is : reading bytes ≡ read job
+  pub results : List Ran
+  pub actual : results ≡ callsOf job (callsIn words)
+  pub allowed : Allowed job (callsIn words) results
+  pub written : after ≡ resultWords results ++ drop (2 * length words) before
+
+pub record SessionTo (bytes words : List ℕ) (r : Answer) (w x : Tables) (before after : List ℕ) : Type 0 where
+  pub verdict : verdictIn (x .types) (x .sets) r ≡ sessionVerdict (roomFor words before) w bytes
+  pub tables : x ≡ sessionTables (roomFor words before) w bytes
+  pub refused : (q : Refusal) → sessionVerdict (roomFor words before) w bytes ≡ refuse q → after ≡ before
+  pub accepted : (T : Ty) (e : Effect) → sessionVerdict (roomFor words before) w bytes ≡ accept T e → Answered bytes words before after

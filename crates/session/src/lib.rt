@@ -1,0 +1,72 @@
+// A whole session on a job's bytes: it is checked and, if it is accepted, started and called.
+use checker::Verdict;
+use job::Shape;
+ghost use mathlib.Core.Path.{_≡_};
+ghost use Prim.Native.Nat.{ℕ};
+ghost use Rattle.syntax.specs.Job.{Job};
+ghost use Rattle.syntax.specs.Words.{codeIn};
+ghost use Rattle.semantics.specs.Demand3.{exprOf, callsOf};
+ghost use Rattle.calls.specs.Words.{callsIn, resultWords, over};
+ghost use Rattle.checker.specs.Answer.{tables};
+ghost use Rattle.begin.specs.Starts.{Ready};
+ghost use Rattle.session.specs.Session.{SessionTo};
+
+// The calls on the machine at the start of the job that the tables hold.
+fn answer(
+    g: Shape,
+    names: &[u16],
+    types: &[u64],
+    values: &[u64],
+    heads: &[u64],
+    slots: &[u16],
+    calls: &[u64],
+    answers: &mut [u64],
+)
+    ensures { λ _. ⌜ ((J : Job) → Ready J g (now (names .entry)) (now (types .entry)) (now (values .entry)) → ((i : ℕ) → codeIn (now (heads .entry)) (now (slots .entry)) i ≡ exprOf J i) → now (answers .exit) ≡ over (now (answers .entry)) (resultWords (callsOf J (callsIn (now (calls .entry)))))) ⌝ }
+{
+    let m = begin::built(g, names, types, values);
+    calls::make_calls(m, heads, slots, calls, answers);
+}
+
+// The bytes are checked with the lent tables. An accepted job is started, and the calls are made, each on the machine that the last one gave: 0 is a step,
+// n + 1 a run of n. Of call i the number of its answer goes to place 2i of the answers and its count of steps to place 2i + 1.
+// Where the answers have no room for all calls, 1 is given and nothing is written.
+pub fn session(
+    job: &[u8],
+    names: &mut [u16],
+    types: &mut [u64],
+    sets: &mut [u64],
+    values: &mut [u64],
+    heads: &mut [u64],
+    slots: &mut [u16],
+    entries: &mut [u16],
+    effects: &mut [u64],
+    calls: &[u64],
+    answers: &mut [u64],
+) -> Verdict
+    ensures { λ r. ⌜ SessionTo (now (job .entry)) (now (calls .entry)) r (tables (now (names .entry)) (now (types .entry)) (now (sets .entry)) (now (values .entry)) (now (heads .entry)) (now (slots .entry)) (now (entries .entry)) (now (effects .entry))) (tables (now (names .exit)) (now (types .exit)) (now (sets .exit)) (now (values .exit)) (now (heads .exit)) (now (slots .exit)) (now (entries .exit)) (now (effects .exit))) (now (answers .entry)) (now (answers .exit)) ⌝ }
+{
+    if answers.len() / 2 < calls.len() {
+        return Verdict::Refused(1, 0);
+    }
+    let c = checker::check(
+        job,
+        names,
+        types,
+        sets,
+        values,
+        heads,
+        slots,
+        entries,
+        effects,
+    );
+    let v = c.verdict;
+    let g = c.shape;
+    match v {
+        Verdict::Refused(n, p) => Verdict::Refused(n, p),
+        Verdict::Accepted(i, s) => {
+            answer(g, names, types, values, heads, slots, calls, answers);
+            Verdict::Accepted(i, s)
+        }
+    }
+}
