@@ -1,13 +1,13 @@
 -- What the answers of the check stand for: the verdict by number and place, or by the tree of the job's type and its effect, and the tables afterwards.
 use mathlib.Core.Path.{_≡_}
 use Prim.Native.Nat.{ℕ, zero, suc}
-use mathlib.Core.Bool.{Bool, false}
+use mathlib.Core.Bool.{false}
 use mathlib.Core.List.{List}
 use mathlib.Core.Option.{Option}
 use lib.ListN.{length, replicate}
 use Rattle.syntax.specs.Types.{Ty, num, TypeEntry, grow, tree}
 use Rattle.syntax.specs.Job.{Job}
-use Rattle.syntax.specs.Reading.{Refusal, Read, refused, read, reading}
+use Rattle.syntax.specs.Reading.{Read, refused, read, reading}
 use Rattle.syntax.specs.Words.{filled, nameWords, typeWords, setWords, valueWords, headWords, slotWords, entryIn}
 use Rattle.syntax.specs.WordLaws.{Bytes}
 use Rattle.typing.specs.Verdict as rules

@@ -1,13 +1,13 @@
 -- From what the parts of the check answer to the verdict of the rules and the tables.
 use mathlib.Core.Path.{_≡_, refl, sym, ap, _∙_, subst}
-use Prim.Native.Nat.{ℕ, zero, suc, _+_, _-_, _%_, _<_, _≤_}
+use Prim.Native.Nat.{ℕ, zero, suc, _-_, _%_, _≤_}
 use native.Mathlib.Omega.{arith}
 use native.Mathlib.Nat.{sub-zero}
 use mathlib.Core.Bool.{Bool, true, false, cond}
-use mathlib.Core.List.{List, [], _∷_, _++_, map}
-use mathlib.Core.Option.{Option, none, some}
+use mathlib.Core.List.{List, [], map}
+use mathlib.Core.Option.{none, some}
 use lib.ListN.{length, getD, getElem?, replicate, length-append, length-map, length-replicate}
-use lib.Dec.{ltb, leb}
+use lib.Dec.{ltb}
 use borrow.Author.Tests.{ltb-false, le-leb}
 use Rattle.order.specs.Bools.{_or_}
 use Rattle.syntax.specs.Types.{Ty, TypeEntry, grow, treeIn, tree}
@@ -15,11 +15,10 @@ use Rattle.syntax.specs.Job.{Job, sourceOf}
 use Rattle.syntax.specs.Reading.{Refusal, Read, refused, read, reading}
 use Rattle.syntax.specs.ReadLaws.{JobOk, read-ok, or-none}
 use Rattle.syntax.specs.Tree.{past, treeRefusal}
-use Rattle.syntax.specs.Words.{filled, nameWords, typeWord, setWord, typeWords, setWords, valueWords, headWords, slotWords, entryIn}
+use Rattle.syntax.specs.Words.{filled, nameWords, typeWord, setWord, typeWords, setWords, valueWords, headWords, slotWords}
 use Rattle.syntax.specs.WordLaws.{Bytes, JobFits, job-fits, filled-at}
 use Rattle.typing.specs.Verdict as rules
 use Rattle.typing.specs.Least.{types}
-use Rattle.typing.specs.Layout.{Layout}
 use Rattle.typing.specs.Tables.{Tables, most-entries, short, zeros, cleared, effectOf, laidOut, filledBy, filledRead, keptOn, tablesAfter, verdictWith}
 use Rattle.typing.specs.Numbered.{Sofar, Whole, whole, halted, numbering}
 use Rattle.typing.specs.NumberedLaws.{Inv, Fits, inv-fits}
@@ -28,9 +27,9 @@ use Rattle.typing.specs.NumberedVerdict.{lastOf, lastEntry, lastEffect, filledF
 use Rattle.names.specs.Ancestors.{namesIn, ancestorsBy, effBelowBy}
 use Rattle.numbering.specs.declared.Passed.{Passed}
 use Rattle.numbering.specs.declared.Passed.the-variants as passed
-use Rattle.numbering.specs.Pass.{Work, Out, out, Ended, numberedBy}
+use Rattle.numbering.specs.Pass.{Out, Ended, numberedBy}
 use Rattle.numbering.specs.OpsLaws.{jobOps, agree, names-held}
-use Rattle.numbering.specs.Right.{Reached, r-whole, r-halted, workOf, numbered-right}
+use Rattle.numbering.specs.Right.{Reached, r-whole, r-halted, numbered-right}
 use Rattle.job.specs.declared.Shape.{Shape}
 use Rattle.job.specs.declared.Answer.{Answer}
 use Rattle.job.specs.declared.Answer.the-variants as answers

@@ -1,7 +1,7 @@
 -- What an entry of a kind, and one of another kind, comes to where a kind is needed.
 use mathlib.Core.Path.{_≡_, refl, sym, ap, _∙_}
 use Prim.Native.Nat.{ℕ}
-use mathlib.Core.List.{List, [], _∷_}
+use mathlib.Core.List.{[], _∷_}
 use mathlib.Core.Option.{Option}
 use types.Run.{OneOf, miss}
 use denote.Enum.Declared.{tagOf}

@@ -1,13 +1,13 @@
 -- The operations by the tables of a job that was read are those of the order.
 use mathlib.Core.Path.{_≡_, refl, sym, ap, _∙_}
-use Prim.Native.Nat.{ℕ, zero, suc, _+_, _-_, _%_, _^_, _≤_, _<_}
+use Prim.Native.Nat.{ℕ, suc, _+_, _-_, _%_, _^_, _≤_, _<_}
 use native.Mathlib.Omega.{arith}
-use mathlib.Core.Bool.{Bool, true}
+use mathlib.Core.Bool.{true}
 use mathlib.Core.List.{List}
 use mathlib.Core.Option.{Option, some}
 use lib.ListN.{length, getD, getElem?, replicate}
 use lib.Dec.{eqb}
-use Rattle.order.specs.OrderLaws.{Proper, getElem?-lt}
+use Rattle.order.specs.OrderLaws.{Proper}
 use Rattle.order.specs.Sets.{bit}
 use Rattle.order.specs.SetLaws.{bit-lt}
 use Rattle.order.specs.Effects.{Effect}

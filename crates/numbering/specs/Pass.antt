@@ -1,10 +1,10 @@
 -- The pass over the expressions by the tables: each writes its type entry and its effect, and the entry that it makes.
 use mathlib.Core.Path.{_≡_}
 use Prim.Native.Nat.{ℕ, zero, suc, _+_, _%_}
-use mathlib.Core.List.{List, [], _∷_}
+use mathlib.Core.List.{List}
 use lib.ListN.{getD, set, replicate}
 use Rattle.syntax.specs.Words.{typeWord, setWord, codeIn, entryIn}
-use Rattle.typing.specs.Numbered.{Ops, Result, makes, points, wrong, resultAt}
+use Rattle.typing.specs.Numbered.{Result, makes, points, wrong, resultAt}
 use Rattle.infer.specs.Ops.{opsBy}
 use Rattle.numbering.specs.declared.Next.{Next}
 use Rattle.numbering.specs.declared.Next.the-variants.{Count, Stop}

@@ -1,35 +1,31 @@
 -- The pass over the tables of a job that was read and is a tree in scope comes to what typing by numbers comes to.
-use mathlib.Core.Path.{_≡_, refl, sym, ap, _∙_, subst, subst⁻¹}
-use Prim.Native.Nat.{ℕ, zero, suc, _+_, _-_, _*_, _/_, _%_, _^_, _<_, _≤_}
+use mathlib.Core.Path.{_≡_, refl, sym, ap, _∙_, subst}
+use Prim.Native.Nat.{ℕ, zero, suc, _+_, _*_, _/_, _%_, _<_, _≤_}
 use native.Mathlib.Omega.{arith}
-use mathlib.Core.Bool.{Bool, true, false}
 use mathlib.Core.List.{List, [], _∷_, _++_, map, List·Memᴰ, List·Memᴰ·head, List·Memᴰ·tail, List·Memᴰ·not-nil}
-use mathlib.Core.Option.{Option, some, none}
+use mathlib.Core.Option.{none}
 use lib.ListN.{length, getD, getElem?, set, replicate, drop, length-append, length-map, length-replicate}
 use Rattle.syntax.specs.Types.{Ty, TypeEntry}
 use Rattle.syntax.specs.Commands.{Cmd, c-num, c-top, c-var, c-pair, c-part, c-fn, c-app, c-new, c-asg, c-read, c-sum, c-test, c-lim, c-grant, c-newkey, c-assoc, mapCmd}
 use Rattle.syntax.specs.Operands.{nth, bindsVar}
-use Rattle.syntax.specs.Job.{HostValue, Job, Src, sourceOf}
-use Rattle.syntax.specs.Reading.{Refusal, most-variables}
+use Rattle.syntax.specs.Job.{Job, sourceOf}
 use Rattle.syntax.specs.ReadLaws.{JobOk}
 use Rattle.syntax.specs.ReadFormed.{map-snoc, nth-map, bindsVar-map, cmds-formed}
 use Rattle.syntax.specs.Tree.{Entry, e-var, binds, treeRefusal}
-use Rattle.syntax.specs.Scope.{VarIn, v-here, v-var, v-name, var-twice}
+use Rattle.syntax.specs.Scope.{VarIn, v-here, var-twice}
 use Rattle.syntax.specs.Types.{tree}
-use Rattle.syntax.specs.Words.{filled, nameWords, typeWord, setWord, typeWords, setWords, valueWord, valueWords, headWords, slotWords, codeIn, entryIn}
+use Rattle.syntax.specs.Words.{filled, nameWords, typeWord, setWord, typeWords, setWords, valueWord, valueWords, headWords, slotWords, codeIn}
 use Rattle.syntax.specs.WordLaws.{JobFits, filled-at, word-at, code-back}
 use Rattle.typing.specs.Layout.{newKeys, keyEntries, boundVars, hostVars, varEntry}
 use Rattle.typing.specs.Tables.{most-entries}
-use Rattle.typing.specs.Numbered.{Ops, Result, makes, points, wrong, resultAt, Sofar, settle, numberAt, Numbered, next, stop, Whole, whole, halted, onto, numberAll, startOf, numbering}
-use Rattle.typing.specs.NumberedTests.{Agree}
+use Rattle.typing.specs.Numbered.{Result, makes, points, wrong, resultAt, Sofar, settle, numberAt, next, Whole, whole, halted, onto, numberAll, startOf, numbering}
 use Rattle.typing.specs.NumberedLaws.{Inv, Fits, inv-start, inv-next, inv-fits, inv-room, number-turn, number-end}
 use Rattle.typing.specs.NumberedWords.{words-back}
 use Rattle.names.specs.Ancestors.{ancestorsBy}
-use Rattle.infer.specs.Ops.{opsBy}
 use Rattle.numbering.specs.declared.Binder.{Binder}
 use Rattle.numbering.specs.declared.Binder.the-variants.{Nothing, Function, NewKey}
 use Rattle.numbering.specs.declared.Passed.the-variants as passed
-use Rattle.numbering.specs.Binders.{binderOf, Bound, bound, boundFrom, hostsFrom}
+use Rattle.numbering.specs.Binders.{binderOf, Bound, bound, hostsFrom}
 use Rattle.numbering.specs.Pass.{Work, work, settled, Out, out, turn, resultBy, typedFrom, bindersBy, afterBinders, numberedBy}
 use Rattle.numbering.specs.OpsLaws.{jobOps, agree}
 use Rattle.numbering.specs.Fill.{filled-set}

@@ -1,7 +1,6 @@
 use native.Mathlib.Omega.{arith}
 use borrow.Author.Needs.{needs}
 use Rattle.numbering.specs.Binders.{layKey}
-use lib.ListN.{length-set}
 use Rattle.numbering.proofs.lay_key.Statement.{statement}
 use Rattle.numbering.proofs.lay_key.Tie as tie
 

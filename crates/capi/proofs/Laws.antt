@@ -1,0 +1,94 @@
+-- Numbers written one by one, a verdict in numbers, the room of a machine by the counts of its thread, and the two ways that a run ends.
+use mathlib.Core.Path.{_≡_, refl, sym, ap, _∙_}
+use Prim.Native.Nat.{ℕ}
+use native.Mathlib.Omega.{arith}
+use mathlib.Core.List.{List, [], _∷_}
+use mathlib.Core.Option.{Option, none, some}
+use lib.ListN.{length, set}
+use lib.Seq.{sets}
+use Rattle.syntax.specs.Commands.{Cmd}
+use Rattle.syntax.specs.Words.{codeIn}
+use Rattle.syntax.specs.Reading.{Refusal}
+use Rattle.semantics.specs.Machine.{Machine as Clean}
+use Rattle.store.specs.Tables.{capped}
+use Rattle.store.specs.Words.{cellIn, pairIn, functionIn, linkIn, upIn}
+use Rattle.store.specs.Frames.{frameIn}
+use Rattle.store.proofs.Laws.{list-length, stack-length}
+use Rattle.machine.specs.declared.Thread.{Thread}
+use Rattle.machine.specs.declared.Machine.{Machine}
+use Rattle.machine.specs.View.{view, seen}
+use Rattle.calls.specs.Words.{over}
+use Rattle.calls.specs.Laws.{sets-over}
+use Rattle.calls.specs.Made.{Made}
+use Rattle.begin.specs.declared.Told.{Told}
+use Rattle.begin.specs.declared.Told.the-variants as told
+use Rattle.begin.specs.declared.Opened.{Opened}
+use Rattle.begin.specs.Starts.{Starts, toldIn}
+use Rattle.checker.specs.declared.Verdict.{Verdict}
+use Rattle.checker.specs.declared.Verdict.the-variants as verdict
+use Rattle.capi.specs.Checks.{numberFor, outWords}
+use Rattle.capi.specs.Runs.{roomWords, countWords, numberOf, Goes, Stops, Runs}
+
+pub counted : (t : Thread) (l : List ℕ) {l1 l2 l3 l4 l5 l6 : List ℕ} {a b c d e f : ℕ}
+    → a ≡ capped (t .cells) 256 → b ≡ capped (t .keys) 128 → c ≡ capped (t .pairs) 512 → d ≡ capped (t .functions) 512 → e ≡ capped (t .frames) 256 → f ≡ capped (t .bindings) 1024
+    → l1 ≡ set l 0 a → l2 ≡ set l1 1 b → l3 ≡ set l2 2 c → l4 ≡ set l3 3 d → l5 ≡ set l4 4 e → l6 ≡ set l5 5 f → l6 ≡ over l (countWords t)
+unfolding countWords
+counted t l {a = a} {b} {c} {d} {e} {f} ha hb hc hd he hf h1 h2 h3 h4 h5 h6 =
+    h6 ∙ ap (λ z. set z 5 f) (h5 ∙ ap (λ z. set z 4 e) (h4 ∙ ap (λ z. set z 3 d) (h3 ∙ ap (λ z. set z 2 c) (h2 ∙ ap (λ z. set z 1 b) h1))))
+    ∙ sets-over l (a ∷ b ∷ c ∷ d ∷ e ∷ f ∷ [])
+    ∙ (λ i. over l (ha i ∷ hb i ∷ hc i ∷ hd i ∷ he i ∷ hf i ∷ []))
+
+counts-are : (m : Machine) → countWords (m .thread) ≡ roomWords (seen m)
+unfolding countWords roomWords view
+counts-are m =
+    sym
+    (λ i.
+    list-length cellIn (m .cells) (capped (m .thread .cells) 256) i ∷ list-length upIn (m .keys) (capped (m .thread .keys) 128) i ∷ list-length pairIn (m .pairs) (capped (m .thread .pairs) 512) i
+    ∷ list-length functionIn (m .functions) (capped (m .thread .functions) 512) i ∷ stack-length frameIn (m .frames) (capped (m .thread .frames) 256) i ∷ list-length linkIn (m .bindings) (capped (m .thread .bindings) 1024) i ∷ [])
+
+pub goes : {code : ℕ → Cmd ℕ} {words a a' k k' : List ℕ} {m : Clean} (last : Machine) → Made code words m a a' (seen last) → k' ≡ over k (countWords (last .thread)) → Goes code words m a a' k k'
+goes {k = k} last h e = record { last = seen last; made = h; rooms = e ∙ ap (λ (l : List ℕ). over k l) (counts-are last) }
+
+abbrev tagOf : Option Refusal → ℕ
+tagOf none = 0
+tagOf (some q) = 1
+
+abbrev placeOf : Option Refusal → ℕ
+placeOf none = 0
+placeOf (some q) = q .place
+
+module _ {bytes words n t s v h p n' t' s' v' h' p' a k k' : List ℕ} (o : Opened) (to : Starts bytes o n t s v h p n' t' s' v' h' p') where
+  pub runs-started : {a' : List ℕ} → o .told ≡ told.Started → Goes (codeIn h' p') words (seen (o .machine)) a a' k k' → Runs bytes 0 words n t s v h p n' t' s' v' h' p' a a' k k'
+  unfolding numberOf
+  runs-started e g =
+      record {
+        opened = o;
+        starts = to;
+        number = sym (ap (λ (u : Told). numberOf (toldIn u)) e);
+        started = λ _. g;
+        refused = λ q z. absurd (let y : _≡_ {A = ℕ} 0 1 = sym (ap (λ (u : Told). tagOf (toldIn u)) e) ∙ ap tagOf z in omega arith);
+      }
+
+  pub runs-refused : (x y : ℕ) {r w : ℕ} → o .told ≡ told.Refused x y → r ≡ x → w ≡ y → k' ≡ set k 0 w → Runs bytes r words n t s v h p n' t' s' v' h' p' a a k k'
+  unfolding numberOf
+  runs-refused x y e c d z =
+      record {
+        opened = o;
+        starts = to;
+        number = c ∙ sym (ap (λ (u : Told). numberOf (toldIn u)) e);
+        started = λ g. absurd (let y : _≡_ {A = ℕ} 0 1 = sym (ap tagOf g) ∙ ap (λ (u : Told). tagOf (toldIn u)) e in omega arith);
+        refused = λ q g. record { answers = refl; rooms = z ∙ ap (λ (i : ℕ). set k 0 i) (d ∙ sym (ap (λ (u : Told). placeOf (toldIn u)) e) ∙ ap placeOf g) };
+      }
+
+two : (l : List ℕ) (a b : ℕ) {m k : List ℕ} → m ≡ set l 0 a → k ≡ set m 1 b → k ≡ over l (a ∷ b ∷ [])
+two l a b g h = h ∙ ap (λ (z : List ℕ). set z 1 b) g ∙ sets-over l (a ∷ b ∷ [])
+
+pub tells-accepted : (v : Verdict) (l : List ℕ) (i s : ℕ) {m k : List ℕ} {a : ℕ} → v ≡ verdict.Accepted i s → a ≡ i → m ≡ set l 0 a → k ≡ set m 1 s → (0 ≡ numberFor v) × (k ≡ over l (outWords v))
+unfolding numberFor outWords
+tells-accepted v l i s {a = a} e c g h =
+    (sym (ap (λ (u : Verdict). numberFor u) e), two l a s g h ∙ ap (λ (x : ℕ). over l (x ∷ s ∷ [])) c ∙ sym (ap (λ (u : Verdict). over l (outWords u)) e))
+
+pub tells-refused : (v : Verdict) (l : List ℕ) (n p : ℕ) {m k : List ℕ} {r a : ℕ} → v ≡ verdict.Refused n p → r ≡ n → a ≡ p → m ≡ set l 0 a → k ≡ set m 1 0 → (r ≡ numberFor v) × (k ≡ over l (outWords v))
+unfolding numberFor outWords
+tells-refused v l n p {a = a} e d c g h =
+    (d ∙ sym (ap (λ (u : Verdict). numberFor u) e), two l a 0 g h ∙ ap (λ (x : ℕ). over l (x ∷ 0 ∷ [])) c ∙ sym (ap (λ (u : Verdict). over l (outWords u)) e))
