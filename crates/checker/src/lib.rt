@@ -1,5 +1,7 @@
 // The check of a job: reading, the tree of its expressions, their types, and the rights; with the tables that it leaves.
 use job::Shape;
+use job::clear16;
+use job::clear64;
 use names::at16;
 use names::at64;
 use numbering::Passed;
@@ -193,14 +195,14 @@ fn clear_all(
 )
     ensures { λ _. ⌜ tables (now (names .exit)) (now (types .exit)) (now (sets .exit)) (now (values .exit)) (now (heads .exit)) (now (slots .exit)) (now (entries .exit)) (now (effects .exit)) ≡ cleared (tables (now (names .entry)) (now (types .entry)) (now (sets .entry)) (now (values .entry)) (now (heads .entry)) (now (slots .entry)) (now (entries .entry)) (now (effects .entry))) ⌝ }
 {
-    job::clear16(names);
-    job::clear64(types);
-    job::clear64(sets);
-    job::clear64(values);
-    job::clear64(heads);
-    job::clear16(slots);
-    job::clear16(entries);
-    job::clear64(effects);
+    clear16(names);
+    clear64(types);
+    clear64(sets);
+    clear64(values);
+    clear64(heads);
+    clear16(slots);
+    clear16(entries);
+    clear64(effects);
 }
 
 // A job that is read: its verdict, and the tables that it leaves.
