@@ -25,7 +25,7 @@ use Rattle.names.specs.Ancestors.{namesIn, declaredOf, ancestorsBy, setOkBy, ri
 use Rattle.names.specs.Laws.{set-ok-by, rights-ok-by}
 use Rattle.names.specs.Pass.{ancestors-by}
 use Rattle.job.specs.Bytes.{fieldAt, widthByte, sectionByte, misplacedBy, fullBy}
-use Rattle.job.specs.Entries.{namedOf, nameEntry, typeEntry, valueEntry, rightsEntry, formEntry, entryOf, judgedBy}
+use Rattle.job.specs.Entries.{namedOf, nameEntry, typeEntry, valueEntry, rightsEntry, formEntry, entryOf, judgedBy, entryIn, judgedIn}
 use Rattle.job.specs.Answer.{shapeOf}
 use Rattle.job.specs.declared.Shape.{Shape}
 use Rattle.job.specs.declared.Entry.{Entry}
@@ -75,23 +75,23 @@ module _ (J : Job) (names types depths : List ℕ) (k : Kept J names types depth
   law-o-local =
       local-tests (eqb (fieldAt 1 s 1) 0) (ltb (fieldAt 1 s 1) (2 + length (J .names))) (hostName (J .names) (fieldAt 1 s 1)) (Named (fieldAt 1 s 1 + 512)) (Refuse 6)
 
-  law-o-rights : rightsEntry s (J .names) ≡ judgedW (written o-rights (fieldsFrom (operands o-rights) s 1)) J
+  law-o-rights : rightsEntry s (ancestorsBy (J .names)) (J .names) ≡ judgedW (written o-rights (fieldsFrom (operands o-rights) s 1)) J
   unfolding rightsEntry written operands fieldsFrom judgedW okW entryW
   law-o-rights =
       ap (λ (b : Bool). cond b (Rights (fieldAt 8 s 1)) (Refuse 6)) (rights-ok-by (J .names) (k .proper) (k .few) (ancestors-by (J .names) (k .proper) (k .few)) (fieldAt 8 s 1))
 
-  entry-law : (o : Op) → entryOf (byteOf o) s names types depths (shapeOf J) ≡ judgedW (written o (fieldsFrom (operands o) s 1)) J
+  entry-law : (o : Op) → entryIn (byteOf o) s names types depths (shapeOf J) ≡ judgedW (written o (fieldsFrom (operands o) s 1)) J
   unfolding entryOf sectionByte byteOf shapeOf written judgedW okW entryW
   entry-law o-host = law-o-host
   entry-law o-local = law-o-local
-  entry-law o-number = typed.law-o-number s J (k .ok) depths (k .deep) names sets
-  entry-law o-pair = typed.law-o-pair s J (k .ok) depths (k .deep) names sets
-  entry-law o-cell = typed.law-o-cell s J (k .ok) depths (k .deep) names sets
-  entry-law o-function = typed.law-o-function s J (k .ok) depths (k .deep) names sets
-  entry-law o-limit = typed.law-o-limit s J (k .ok) depths (k .deep) names sets
-  entry-law o-grant = typed.law-o-grant s J (k .ok) depths (k .deep) names sets
+  entry-law o-number = typed.law-o-number s J (k .ok) depths (k .deep) (ancestorsBy (namesIn names (length (J .names)))) sets
+  entry-law o-pair = typed.law-o-pair s J (k .ok) depths (k .deep) (ancestorsBy (namesIn names (length (J .names)))) sets
+  entry-law o-cell = typed.law-o-cell s J (k .ok) depths (k .deep) (ancestorsBy (namesIn names (length (J .names)))) sets
+  entry-law o-function = typed.law-o-function s J (k .ok) depths (k .deep) (ancestorsBy (namesIn names (length (J .names)))) sets
+  entry-law o-limit = typed.law-o-limit s J (k .ok) depths (k .deep) (ancestorsBy (namesIn names (length (J .names)))) sets
+  entry-law o-grant = typed.law-o-grant s J (k .ok) depths (k .deep) (ancestorsBy (namesIn names (length (J .names)))) sets
   entry-law o-value = ap (λ (l : List Name). valueEntry s l types (length (J .types))) (k .back) ∙ valued.law-o-value J (k .ok) (k .few) (k .few-types) types (k .words) s
-  entry-law o-rights = ap (λ (l : List Name). rightsEntry s l) (k .back) ∙ law-o-rights
+  entry-law o-rights = ap (λ (l : List Name). rightsEntry s (ancestorsBy l) l) (k .back) ∙ law-o-rights
   entry-law x-number = ap (λ (l : List Name). formEntry 0x30 s l (shapeOf J)) (k .back) ∙ exprs.law-x-number s J
   entry-law x-top = ap (λ (l : List Name). formEntry 0x31 s l (shapeOf J)) (k .back) ∙ exprs.law-x-top s J
   entry-law x-variable = ap (λ (l : List Name). formEntry 0x32 s l (shapeOf J)) (k .back) ∙ exprs.law-x-variable s J
@@ -193,7 +193,7 @@ agree-entered J sec w n x (wrote-none m) f l = ag-refuse 6
 
 -- one command
 pub agrees : (J : Job) (names types depths : List ℕ) → Kept J names types depths → (cur b : ℕ) (o : Op) (s : List ℕ) → opOf b ≡ some o
-    → Agrees J (sectionOf o) (width o) (length s) (command o s (record { section = cur; job = J })) (judgedBy b (b ∷ s) cur (shapeOf J) names types depths)
+    → Agrees J (sectionOf o) (width o) (length s) (command o s (record { section = cur; job = J })) (judgedIn b (b ∷ s) cur (shapeOf J) names types depths)
 unfolding judgedBy shapeOf width command
 agrees J names types depths k cur b o s e =
     subst (λ (x : Entry). Agrees J (sectionOf o) (width o) (length s) (command o s st) x) (sym reader)
@@ -205,21 +205,21 @@ agrees J names types depths k cur b o s e =
     x : Written
     x = written o (fieldsFrom (operands o) (b ∷ s) 1)
 
-    reader : judgedBy b (b ∷ s) cur (shapeOf J) names types depths
+    reader : judgedIn b (b ∷ s) cur (shapeOf J) names types depths
         ≡ cond (misplaced st (sectionOf o)) (Refuse 3) (cond (ltb (length s) (width o)) (Refuse 4) (cond (full J (sectionOf o)) (Refuse 5) (judgedW x J)))
     reader =
         ap (λ (w : ℕ). cond (eqb w 255) (Refuse 2)
         (cond (misplacedBy cur (sectionByte b) (length (J .cmds))) (Refuse 3)
         (cond (leb (length (b ∷ s)) w) (Refuse 4)
-        (cond (fullBy (sectionByte b) (length (J .names)) (length (J .types)) (length (J .values)) (length (J .cmds))) (Refuse 5) (entryOf b (b ∷ s) names types depths (shapeOf J)))))) (width-is b o e)
+        (cond (fullBy (sectionByte b) (length (J .names)) (length (J .types)) (length (J .values)) (length (J .cmds))) (Refuse 5) (entryIn b (b ∷ s) names types depths (shapeOf J)))))) (width-is b o e)
         ∙ ap (λ (c : Bool). cond c (Refuse 2)
         (cond (misplacedBy cur (sectionByte b) (length (J .cmds))) (Refuse 3)
         (cond (ltb (length s) (width o)) (Refuse 4)
-        (cond (fullBy (sectionByte b) (length (J .names)) (length (J .types)) (length (J .values)) (length (J .cmds))) (Refuse 5) (entryOf b (b ∷ s) names types depths (shapeOf J)))))) (ne-eqb (width o) 255 (λ z. omega (arith, width-narrow o)))
+        (cond (fullBy (sectionByte b) (length (J .names)) (length (J .types)) (length (J .values)) (length (J .cmds))) (Refuse 5) (entryIn b (b ∷ s) names types depths (shapeOf J)))))) (ne-eqb (width o) 255 (λ z. omega (arith, width-narrow o)))
         ∙ ap (λ (c : ℕ). (cond (misplacedBy cur (sectionByte c) (length (J .cmds))) (Refuse 3)
         (cond (ltb (length s) (width o)) (Refuse 4)
-        (cond (fullBy (sectionByte c) (length (J .names)) (length (J .types)) (length (J .values)) (length (J .cmds))) (Refuse 5) (entryOf c (b ∷ s) names types depths (shapeOf J)))))) (op-byte b o e)
-        ∙ ap₂ (λ (c d : Bool). cond c (Refuse 3) (cond (ltb (length s) (width o)) (Refuse 4) (cond d (Refuse 5) (entryOf (byteOf o) (b ∷ s) names types depths (shapeOf J))))) (sym (misplaced-is st o)) (sym (full-is J o))
+        (cond (fullBy (sectionByte c) (length (J .names)) (length (J .types)) (length (J .values)) (length (J .cmds))) (Refuse 5) (entryIn c (b ∷ s) names types depths (shapeOf J)))))) (op-byte b o e)
+        ∙ ap₂ (λ (c d : Bool). cond c (Refuse 3) (cond (ltb (length s) (width o)) (Refuse 4) (cond d (Refuse 5) (entryIn (byteOf o) (b ∷ s) names types depths (shapeOf J))))) (sym (misplaced-is st o)) (sym (full-is J o))
         ∙ ap (λ (y : Entry). cond (misplaced st (sectionOf o)) (Refuse 3) (cond (ltb (length s) (width o)) (Refuse 4) (cond (full J (sectionOf o)) (Refuse 5) y))) (entry-law J names types depths k (b ∷ s) o)
 
     at : (p q : Bool) → ltb (length s) (width o) ≡ q → (r : Bool)

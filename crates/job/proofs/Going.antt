@@ -21,7 +21,7 @@ use Rattle.syntax.specs.ReadFormed.{map-snoc, names-proper, tree-append}
 use Rattle.names.specs.Ancestors.{namesIn}
 use Rattle.names.specs.Tables as tables
 use Rattle.job.specs.Bytes.{widthByte, sectionByte, restOf}
-use Rattle.job.specs.Entries.{namesAfter, typesAfter, setsAfter, depthsAfter, valuesAfter, headsAfter, slotsAfter, shapeAfter, judgedBy}
+use Rattle.job.specs.Entries.{namesAfter, typesAfter, setsAfter, depthsAfter, valuesAfter, headsAfter, slotsAfter, shapeAfter, ancestorsAfter, judgedBy, judgedIn}
 use Rattle.job.specs.Answer.{shapeOf, refusedBy, answerOf, longEnough, longTables, Cleared, Holds, Filled, Put, Small, stopsOf, stoppedOf}
 use Rattle.job.specs.declared.Shape.{Shape}
 use Rattle.job.specs.declared.Answer.{Answer}
@@ -311,7 +311,7 @@ unfolding stoppedOf
 stopped-refuse n g place left = refl
 
 -- a byte that is no command
-judged-none : (b : ℕ) (s : List ℕ) (cur : ℕ) (g : Shape) (n t d : List ℕ) → opOf b ≡ none → judgedBy b s cur g n t d ≡ Refuse 2
+judged-none : (b : ℕ) (s : List ℕ) (cur : ℕ) (g : Shape) (n t d : List ℕ) → opOf b ≡ none → judgedIn b s cur g n t d ≡ Refuse 2
 unfolding judgedBy
 judged-none b s cur g n t d e = simp (width-none b e)
 
@@ -359,7 +359,7 @@ step-on bytes b s cur g g' d n t u v h p d' n' t' u' v' h' p' kn kt ks kv kh kp 
 -- a turn of the loop
 pub turn : (bytes left : List ℕ) (cur : ℕ) (g g' : Shape) (d n t u v h p d' n' t' u' v' h' p' : List ℕ) (kn kt ks kv kh kp : ℕ) → Long kn kt ks kv kh kp
     → Going bytes left cur g d n t u v h p kn kt ks kv kh kp → 0 < length left
-    → (e : Entry) → e ≡ judgedBy (getD left 0 0) left cur g n t d → stopsOf e ≡ false → g' ≡ shapeAfter e g → Put e g d n t u v h p d' n' t' u' v' h' p'
+    → (e : Entry) → e ≡ judgedIn (getD left 0 0) left cur g n t d → stopsOf e ≡ false → g' ≡ shapeAfter e g → Put e g d n t u v h p d' n' t' u' v' h' p'
     → (b cur' : ℕ) → b ≡ getD left 0 0 → cur' ≡ sectionByte b → (left' : List ℕ) → left' ≡ restOf left → Going bytes left' cur' g' d' n' t' u' v' h' p' kn kt ks kv kh kp
 turn bytes [] cur g g' d n t u v h p d' n' t' u' v' h' p' kn kt ks kv kh kp long k z e ee es w' q b cur' eb ec left' el = absurd (omega arith)
 turn bytes (a ∷ s) cur g g' d n t u v h p d' n' t' u' v' h' p' kn kt ks kv kh kp long k z e ee es w' q b cur' eb ec left' el = at (opOf a) refl
@@ -367,8 +367,8 @@ turn bytes (a ∷ s) cur g g' d n t u v h p d' n' t' u' v' h' p' kn kt ks kv kh 
     st : State
     st = record { section = cur; job = k .J }
 
-    ej : e ≡ judgedBy a (a ∷ s) cur (shapeOf (k .J)) n t d
-    ej = ee ∙ ap (λ (y : Shape). judgedBy a (a ∷ s) cur y n t d) (k .tables .shape)
+    ej : e ≡ judgedIn a (a ∷ s) cur (shapeOf (k .J)) n t d
+    ej = ee ∙ ap (λ (y : Shape). judgedIn a (a ∷ s) cur y n t d) (k .tables .shape)
 
     at : (o : Option Op) → opOf a ≡ o → Going bytes left' cur' g' d' n' t' u' v' h' p' kn kt ks kv kh kp
     at none eo = absurd (true≢false (sym (ap stopsOf (ej ∙ judged-none a (a ∷ s) cur (shapeOf (k .J)) n t d eo) ∙ stops-refuse 2) ∙ es))
@@ -428,7 +428,7 @@ stop-at bytes b s cur g d n t u v h p kn kt ks kv kh kp k o eo ag-last ex es r e
 stop-at bytes b s cur g d n t u v h p kn kt ks kv kh kp k o eo (ag-on x a okay l) ex es r er = absurd (true≢false (sym es ∙ stops-entry x (k .J) a))
 
 pub stop : (bytes left : List ℕ) (cur : ℕ) (g : Shape) (d n t u v h p : List ℕ) (kn kt ks kv kh kp : ℕ) → Going bytes left cur g d n t u v h p kn kt ks kv kh kp → 0 < length left
-    → (e : Entry) → e ≡ judgedBy (getD left 0 0) left cur g n t d → stopsOf e ≡ true → (r : Answer) → r ≡ stoppedOf e g (length bytes - length left) (length left)
+    → (e : Entry) → e ≡ judgedIn (getD left 0 0) left cur g n t d → stopsOf e ≡ true → (r : Answer) → r ≡ stoppedOf e g (length bytes - length left) (length left)
     → Filled bytes r n t u v h p kn kt ks kv kh kp
 stop bytes [] cur g d n t u v h p kn kt ks kv kh kp k z e ee es r er = absurd (omega arith)
 stop bytes (a ∷ s) cur g d n t u v h p kn kt ks kv kh kp k z e ee es r er = at (opOf a) refl
@@ -436,8 +436,8 @@ stop bytes (a ∷ s) cur g d n t u v h p kn kt ks kv kh kp k z e ee es r er = at
     st : State
     st = record { section = cur; job = k .J }
 
-    ej : e ≡ judgedBy a (a ∷ s) cur (shapeOf (k .J)) n t d
-    ej = ee ∙ ap (λ (y : Shape). judgedBy a (a ∷ s) cur y n t d) (k .tables .shape)
+    ej : e ≡ judgedIn a (a ∷ s) cur (shapeOf (k .J)) n t d
+    ej = ee ∙ ap (λ (y : Shape). judgedIn a (a ∷ s) cur y n t d) (k .tables .shape)
 
     none-read : (f : ℕ) → suc (length s) < f → opOf a ≡ none → readFrom f (length bytes - suc (length s)) st (a ∷ s) ≡ refusedAt 2 (length bytes - suc (length s))
     none-read zero y eo = absurd (omega arith)
@@ -522,14 +522,14 @@ loop-first bytes n t u v h p e z =
     (going-first bytes n t u v h p (length n) (length t) (length u) (length v) (length h) (length p) l (z .names) (z .types) (z .sets) (z .values) (z .heads) (z .slots))
 
 module _ (bytes left : List ℕ) (cur : ℕ) (g : Shape) (d n t u v h p n₀ t₀ u₀ v₀ h₀ p₀ : List ℕ) (k : Loop bytes left cur g d n t u v h p n₀ t₀ u₀ v₀ h₀ p₀) where
-  pub loop-turn : 0 < length left → (e : Entry) → e ≡ judgedBy (getD left 0 0) left cur g n t d → (o : Bool) → o ≡ stopsOf e → o ≡ false
+  pub loop-turn : 0 < length left → (e : Entry) → e ≡ judgedIn (getD left 0 0) left cur g n t d → (o : Bool) → o ≡ stopsOf e → o ≡ false
       → (g' : Shape) (d' n' t' u' v' h' p' : List ℕ) → g' ≡ shapeAfter e g → Put e g d n t u v h p d' n' t' u' v' h' p'
       → (b cur' : ℕ) → b ≡ getD left 0 0 → cur' ≡ sectionByte b → (left' : List ℕ) → left' ≡ restOf left → Loop bytes left' cur' g' d' n' t' u' v' h' p' n₀ t₀ u₀ v₀ h₀ p₀
   loop-turn z e ee o eo fo g' d' n' t' u' v' h' p' w' q b cur' eb ec left' el =
       loop-of bytes left' cur' g' d' n' t' u' v' h' p' n₀ t₀ u₀ v₀ h₀ p₀ (k .long)
       (turn bytes left cur g g' d n t u v h p d' n' t' u' v' h' p' (length n₀) (length t₀) (length u₀) (length v₀) (length h₀) (length p₀) (k .long) (k .going) z e ee (sym eo ∙ fo) w' q b cur' eb ec left' el)
 
-  pub loop-stop : 0 < length left → (e : Entry) → e ≡ judgedBy (getD left 0 0) left cur g n t d → (o : Bool) → o ≡ stopsOf e → o ≡ true
+  pub loop-stop : 0 < length left → (e : Entry) → e ≡ judgedIn (getD left 0 0) left cur g n t d → (o : Bool) → o ≡ stopsOf e → o ≡ true
       → (r : Answer) → r ≡ stoppedOf e g (length bytes - length left) (length left) → Filled bytes r n t u v h p (length n₀) (length t₀) (length u₀) (length v₀) (length h₀) (length p₀)
   loop-stop z e ee o eo to r er =
       stop bytes left cur g d n t u v h p (length n₀) (length t₀) (length u₀) (length v₀) (length h₀) (length p₀) (k .going) z e ee (sym eo ∙ to) r er

@@ -9,3 +9,4 @@ pub mod Filling
 pub mod Going
 pub mod Whole
 pub mod Arms
+pub mod Ancestors

@@ -18,7 +18,7 @@ use Rattle.syntax.specs.Words.{typeWord, setWord, valueWord}
 use Rattle.syntax.specs.Reading.{declared, setOk, openName, partsOk, typeOk, unkeyedNumber, hostTypeOk, hostValueOk, w-type, w-value, written}
 use Rattle.syntax.specs.ReadLaws.{TypesOk}
 use Rattle.syntax.specs.ReadFormed.{entry-parts, grow-same, tree-at}
-use Rattle.names.specs.Ancestors.{namesIn, declaredOf, ancestorsBy, setOkBy}
+use Rattle.names.specs.Ancestors.{namesIn, declaredOf, setOkBy}
 use Rattle.job.specs.Bytes.{fieldAt}
 use Rattle.job.specs.Entries.{partDepth, deeperOf, twoDepths, typeBitsOf, typedOf, keyTypeOf, functionOf, typeBy, typeEntry, valuedOf, hostWordOk, valueEntry}
 use Rattle.job.specs.declared.Entry.{Entry}
@@ -140,12 +140,12 @@ join-key true false true x r = refl
 join-key true false false x r = refl
 
 module _ (s : List ℕ) (J : Job) (ok : TypesOk (J .names) (J .types)) (depths : List ℕ) (deep : (i : ℕ) → i < length (J .types) → getD depths i 0 ≡ depth (tree (J .types) i))
-    (names : List ℕ) (sets : (x : ℕ) → setOkBy (ancestorsBy (namesIn names (length (J .names)))) (length (J .names)) x ≡ setOk (J .names) x) where
-  pub law-o-number : typeEntry (byteOf o-number) s names (length (J .names)) depths (length (J .types)) ≡ judgedW (written o-number (fieldsFrom (operands o-number) s 1)) J
+    (anc : List ℕ) (sets : (x : ℕ) → setOkBy anc (length (J .names)) x ≡ setOk (J .names) x) where
+  pub law-o-number : typeEntry (byteOf o-number) s anc (length (J .names)) depths (length (J .types)) ≡ judgedW (written o-number (fieldsFrom (operands o-number) s 1)) J
   unfolding typeEntry typeBy typeBitsOf byteOf written operands fieldsFrom declaredOf declared partsOk typeWord setWord grow depth
   law-o-number = judged-type J ok depths deep (e-num (fieldAt 1 s 1)) (declared (J .names) (fieldAt 1 s 1)) refl 0 (λ h. refl)
 
-  pub law-o-pair : typeEntry (byteOf o-pair) s names (length (J .names)) depths (length (J .types)) ≡ judgedW (written o-pair (fieldsFrom (operands o-pair) s 1)) J
+  pub law-o-pair : typeEntry (byteOf o-pair) s anc (length (J .names)) depths (length (J .types)) ≡ judgedW (written o-pair (fieldsFrom (operands o-pair) s 1)) J
   unfolding typeEntry typeBy typeBitsOf byteOf written operands fieldsFrom declaredOf declared partsOk typeWord setWord grow depth
   law-o-pair =
       let q = fieldAt 1 s 1 in
@@ -156,7 +156,7 @@ module _ (s : List ℕ) (J : Job) (ok : TypesOk (J .names) (J .types)) (depths :
       ∙ join-three (declared (J .names) q) (ltb a n) (ltb b n) _ (Refuse 6)
       ∙ judged-type J ok depths deep (e-pair q a b) (declared (J .names) q and ltb a n and ltb b n) refl (max (depth (tree (J .types) a)) (depth (tree (J .types) b))) (λ h. refl)
 
-  pub law-o-cell : typeEntry (byteOf o-cell) s names (length (J .names)) depths (length (J .types)) ≡ judgedW (written o-cell (fieldsFrom (operands o-cell) s 1)) J
+  pub law-o-cell : typeEntry (byteOf o-cell) s anc (length (J .names)) depths (length (J .types)) ≡ judgedW (written o-cell (fieldsFrom (operands o-cell) s 1)) J
   unfolding typeEntry typeBy typeBitsOf byteOf written operands fieldsFrom declaredOf declared partsOk typeWord setWord grow depth
   law-o-cell =
       let q = fieldAt 1 s 1 in
@@ -166,7 +166,7 @@ module _ (s : List ℕ) (J : Job) (ok : TypesOk (J .names) (J .types)) (depths :
       ∙ join-two (declared (J .names) q) (ltb a n) _ (Refuse 6)
       ∙ judged-type J ok depths deep (e-cell q a) (declared (J .names) q and ltb a n) refl (depth (tree (J .types) a)) (λ h. refl)
 
-  pub law-o-function : typeEntry (byteOf o-function) s names (length (J .names)) depths (length (J .types)) ≡ judgedW (written o-function (fieldsFrom (operands o-function) s 1)) J
+  pub law-o-function : typeEntry (byteOf o-function) s anc (length (J .names)) depths (length (J .types)) ≡ judgedW (written o-function (fieldsFrom (operands o-function) s 1)) J
   unfolding typeEntry typeBy functionOf typeBitsOf byteOf written operands fieldsFrom declaredOf declared partsOk typeWord setWord grow depth
   law-o-function =
       let q = fieldAt 1 s 1 in
@@ -179,7 +179,7 @@ module _ (s : List ℕ) (J : Job) (ok : TypesOk (J .names) (J .types)) (depths :
       ∙ join-set (declared (J .names) q) (setOk (J .names) x) (ltb a n) (ltb b n) _ (Refuse 6)
       ∙ judged-type J ok depths deep (e-fn q a b x) (declared (J .names) q and ltb a n and ltb b n and setOk (J .names) x) refl (max (depth (tree (J .types) a)) (depth (tree (J .types) b))) (λ h. refl)
 
-  pub law-o-limit : typeEntry (byteOf o-limit) s names (length (J .names)) depths (length (J .types)) ≡ judgedW (written o-limit (fieldsFrom (operands o-limit) s 1)) J
+  pub law-o-limit : typeEntry (byteOf o-limit) s anc (length (J .names)) depths (length (J .types)) ≡ judgedW (written o-limit (fieldsFrom (operands o-limit) s 1)) J
   unfolding typeEntry typeBy keyTypeOf typeBitsOf byteOf written operands fieldsFrom declaredOf declared partsOk typeWord setWord grow depth
   law-o-limit =
       let q = fieldAt 1 s 1 in
@@ -187,7 +187,7 @@ module _ (s : List ℕ) (J : Job) (ok : TypesOk (J .names) (J .types)) (depths :
       join-key (declared (J .names) q) (eqb r 0) (declared (J .names) r) _ (Refuse 6)
       ∙ judged-type J ok depths deep (e-lim q r) (declared (J .names) q and declared (J .names) r and not (eqb r 0)) refl 0 (λ h. refl)
 
-  pub law-o-grant : typeEntry (byteOf o-grant) s names (length (J .names)) depths (length (J .types)) ≡ judgedW (written o-grant (fieldsFrom (operands o-grant) s 1)) J
+  pub law-o-grant : typeEntry (byteOf o-grant) s anc (length (J .names)) depths (length (J .types)) ≡ judgedW (written o-grant (fieldsFrom (operands o-grant) s 1)) J
   unfolding typeEntry typeBy keyTypeOf typeBitsOf byteOf written operands fieldsFrom declaredOf declared partsOk typeWord setWord grow depth
   law-o-grant =
       let q = fieldAt 1 s 1 in

@@ -6,7 +6,7 @@ use lib.ListN.{length, getD, set}
 use lib.Dec.{eqb, ltb, leb}
 use Rattle.syntax.specs.Job.{Name}
 use Rattle.syntax.specs.Reading.{hostName, openName, localName}
-use Rattle.names.specs.Ancestors.{namesIn, declaredOf, ancestorsBy, setOkBy, rightsOkBy}
+use Rattle.names.specs.Ancestors.{nameOf, namesIn, entered, declaredOf, ancestorsBy, setOkBy, rightsOkBy}
 use Rattle.job.specs.Bytes.{fieldAt, widthByte, sectionByte, misplacedBy, fullBy, formOf, slotsOk, limitOk}
 use Rattle.job.specs.declared.Form.{Form}
 use Rattle.job.specs.declared.Shape.{Shape}
@@ -36,6 +36,16 @@ namesAfter (Valued w) h t = t
 namesAfter (Rights s) h t = t
 namesAfter (Formed f) h t = t
 namesAfter Last h t = t
+
+-- the ancestors of the names, after n of them
+unfoldable pub ancestorsAfter : Entry → ℕ → List ℕ → List ℕ
+ancestorsAfter (Refuse k) n t = t
+ancestorsAfter (Named w) n t = cond (ltb (n + 2) 64) (entered t (n + 2) (nameOf w)) t
+ancestorsAfter (Typed w s d) n t = t
+ancestorsAfter (Valued w) n t = t
+ancestorsAfter (Rights s) n t = t
+ancestorsAfter (Formed f) n t = t
+ancestorsAfter Last n t = t
 
 unfoldable pub typesAfter : Entry → Shape → List ℕ → List ℕ
 typesAfter (Refuse n) h t = t
@@ -123,18 +133,18 @@ functionOf q a b s d ok = cond ok (typedOf (typeBitsOf 0x13 q a b) s d) (Refuse 
 unfoldable pub twoDepths : List ℕ → ℕ → ℕ → ℕ → ℕ
 twoDepths depths t a b = deeperOf (partDepth depths t a) (partDepth depths t b)
 
--- 10 to 15, by the key q; t types are declared
+-- 10 to 15, by the key q; t types are declared, and n names with these ancestors
 unfoldable pub typeBy : ℕ → ℕ → List ℕ → List ℕ → ℕ → List ℕ → ℕ → Entry
-typeBy op q s names n depths t =
+typeBy op q s anc n depths t =
     cond (eqb op 0x10) (typedOf (typeBitsOf op q 0 0) 0 0)
     (cond (eqb op 0x11) (typedOf (typeBitsOf op q (fieldAt 2 s 2) (fieldAt 2 s 4)) 0 (twoDepths depths t (fieldAt 2 s 2) (fieldAt 2 s 4)))
     (cond (eqb op 0x12) (typedOf (typeBitsOf op q (fieldAt 2 s 2) 0) 0 (partDepth depths t (fieldAt 2 s 2)))
     (cond (eqb op 0x13)
-    (functionOf q (fieldAt 2 s 2) (fieldAt 2 s 4) (fieldAt 8 s 6) (twoDepths depths t (fieldAt 2 s 2) (fieldAt 2 s 4)) (setOkBy (ancestorsBy (namesIn names n)) n (fieldAt 8 s 6)))
+    (functionOf q (fieldAt 2 s 2) (fieldAt 2 s 4) (fieldAt 8 s 6) (twoDepths depths t (fieldAt 2 s 2) (fieldAt 2 s 4)) (setOkBy anc n (fieldAt 8 s 6)))
     (keyTypeOf op q (fieldAt 1 s 2) (declaredOf n (fieldAt 1 s 2))))))
 
 unfoldable pub typeEntry : ℕ → List ℕ → List ℕ → ℕ → List ℕ → ℕ → Entry
-typeEntry op s names n depths t = cond (declaredOf n (fieldAt 1 s 1)) (typeBy op (fieldAt 1 s 1) s names n depths t) (Refuse 6)
+typeEntry op s anc n depths t = cond (declaredOf n (fieldAt 1 s 1)) (typeBy op (fieldAt 1 s 1) s anc n depths t) (Refuse 6)
 
 -- 20
 abbrev pub valuedOf : Bool → ℕ → ℕ → Entry
@@ -151,8 +161,8 @@ valueEntry s ds types t =
     valuedOf (cond (ltb (fieldAt 2 s 1) t) (hostWordOk types ds (getD types (fieldAt 2 s 1) 0) (fieldAt 4 s 3)) false) (fieldAt 2 s 1) (fieldAt 4 s 3)
 
 -- 21
-unfoldable pub rightsEntry : List ℕ → List Name → Entry
-rightsEntry s ds = cond (rightsOkBy (ancestorsBy ds) ds (fieldAt 8 s 1)) (Rights (fieldAt 8 s 1)) (Refuse 6)
+unfoldable pub rightsEntry : List ℕ → List ℕ → List Name → Entry
+rightsEntry s anc ds = cond (rightsOkBy anc ds (fieldAt 8 s 1)) (Rights (fieldAt 8 s 1)) (Refuse 6)
 
 -- 30 to 3F: variables, binders, parts, after v host values
 unfoldable pub bindsOk : ℕ → ℕ → Bool
@@ -174,18 +184,18 @@ leadOk op s ds v =
     (cond (eqb op 0x3E) (newKeyOk s ds v)
     true))))
 
-unfoldable pub placesOk : ℕ → List ℕ → ℕ → ℕ → Bool
-placesOk op s n t = cond (eqb op 0x3C) (limitOk (fieldAt 1 s 1) (formOf op s) n) (slotsOk op (formOf op s) n t)
+unfoldable pub placesOk : ℕ → ℕ → Form → ℕ → ℕ → Bool
+placesOk op c f n t = cond (eqb op 0x3C) (limitOk c f n) (slotsOk op f n t)
 
 unfoldable pub formEntry : ℕ → List ℕ → List Name → Shape → Entry
-formEntry op s ds h = cond (placesOk op s (h .cmds) (h .types)) (cond (leadOk op s ds (h .values)) (Formed (formOf op s)) (Refuse 6)) (Refuse 6)
+formEntry op s ds h = cond (placesOk op (fieldAt 1 s 1) (formOf op s) (h .cmds) (h .types)) (cond (leadOk op s ds (h .values)) (Formed (formOf op s)) (Refuse 6)) (Refuse 6)
 
-unfoldable pub entryOf : ℕ → List ℕ → List ℕ → List ℕ → List ℕ → Shape → Entry
-entryOf op s names types depths h =
+unfoldable pub entryOf : ℕ → List ℕ → List ℕ → List ℕ → List ℕ → List ℕ → Shape → Entry
+entryOf op s anc names types depths h =
     cond (eqb (sectionByte op) 0) (nameEntry op s names (h .names))
-    (cond (eqb (sectionByte op) 1) (typeEntry op s names (h .names) depths (h .types))
+    (cond (eqb (sectionByte op) 1) (typeEntry op s anc (h .names) depths (h .types))
     (cond (eqb (sectionByte op) 2) (valueEntry s (namesIn names (h .names)) types (h .types))
-    (cond (eqb (sectionByte op) 3) (rightsEntry s (namesIn names (h .names)))
+    (cond (eqb (sectionByte op) 3) (rightsEntry s anc (namesIn names (h .names)))
     (cond (eqb (sectionByte op) 4) (formEntry op s (namesIn names (h .names)) h)
     Last))))
 
@@ -194,8 +204,15 @@ abbrev pub inRoom : Bool → Bool → Entry → Entry
 inRoom ends full e = cond ends (Refuse 4) (cond full (Refuse 5) e)
 
 -- 2, 3, 4, 5 and 6 in this order
-unfoldable pub judgedBy : ℕ → List ℕ → ℕ → Shape → List ℕ → List ℕ → List ℕ → Entry
-judgedBy b s cur h names types depths =
+unfoldable pub judgedBy : ℕ → List ℕ → ℕ → Shape → List ℕ → List ℕ → List ℕ → List ℕ → Entry
+judgedBy b s cur h anc names types depths =
     cond (eqb (widthByte b) 255) (Refuse 2)
     (cond (misplacedBy cur (sectionByte b) (h .cmds)) (Refuse 3)
-    (inRoom (leb (length s) (widthByte b)) (fullBy (sectionByte b) (h .names) (h .types) (h .values) (h .cmds)) (entryOf b s names types depths h)))
+    (inRoom (leb (length s) (widthByte b)) (fullBy (sectionByte b) (h .names) (h .types) (h .values) (h .cmds)) (entryOf b s anc names types depths h)))
+
+-- the same, by the ancestors of the names in the table
+abbrev pub entryIn : ℕ → List ℕ → List ℕ → List ℕ → List ℕ → Shape → Entry
+entryIn op s names types depths h = entryOf op s (ancestorsBy (namesIn names (h .names))) names types depths h
+
+abbrev pub judgedIn : ℕ → List ℕ → ℕ → Shape → List ℕ → List ℕ → List ℕ → Entry
+judgedIn b s cur h names types depths = judgedBy b s cur h (ancestorsBy (namesIn names (h .names))) names types depths

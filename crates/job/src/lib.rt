@@ -7,8 +7,8 @@ ghost use lib.Dec.{ltb};
 ghost use Rattle.syntax.specs.Commands.{little};
 ghost use Rattle.job.specs.Bytes.{fieldAt, widthByte, sectionByte, restOf, misplacedBy, fullBy};
 ghost use Rattle.job.specs.Bytes.{digitOf, offsetOf, kindOf, slotOf, leadOf, formOf, slotOk, slotsOk, keyOk, limitOk};
-ghost use Rattle.names.specs.Ancestors.{namesIn, declaredOf, ancestorsBy, setOkBy};
-ghost use Rattle.job.specs.Entries.{partDepth, deeperOf, twoDepths, typeBitsOf, typedOf, fiveAt, shapeAfter};
+ghost use Rattle.names.specs.Ancestors.{namesIn, declaredOf, setOkBy};
+ghost use Rattle.job.specs.Entries.{partDepth, deeperOf, twoDepths, typeBitsOf, typedOf, fiveAt, shapeAfter, ancestorsAfter};
 ghost use Rattle.job.specs.Entries.{nameEntry, keyTypeOf, functionOf, typeBy, typeEntry, hostWordOk, valueEntry, rightsEntry};
 ghost use Rattle.job.specs.Answer.{refusedBy, stopsOf, stoppedOf, isJob, longEnough, longTables, Small, shapeOver, Put, Zeroed, Cleared, Filled, ReadTo};
 ghost use Rattle.job.specs.Entries.{bindsOk, eitherOf, newKeyOk, leadOk, placesOk, formEntry, entryOf, judgedBy};
@@ -556,11 +556,10 @@ fn key_type(op: u8, q: u8, r: u8, n: usize) -> Entry
 }
 
 // 13: the effect is a reduced set of declared names.
-fn function_type(q: u8, a: u16, b: u16, s: u64, d: u8, names: &[u16], n: usize) -> Entry
-    ensures { λ e. ⌜ e ≡ functionOf q a b s d (setOkBy (ancestorsBy (namesIn (now (names .entry)) n)) n s) ⌝ }
+fn function_type(q: u8, a: u16, b: u16, s: u64, d: u8, anc: &[u64; 64], n: usize) -> Entry
+    ensures { λ e. ⌜ e ≡ functionOf q a b s d (setOkBy (now (anc .entry)) n s) ⌝ }
 {
-    let anc = names::ancestors(names, n);
-    if names::set_ok(n, &anc, s) {
+    if names::set_ok(n, anc, s) {
         return typed(type_bits(0x13, q, a, b), s, d);
     }
     Entry::Refuse(6)
@@ -572,17 +571,17 @@ fn two_depths(depths: &[u8], t: usize, a: u16, b: u16) -> u8
     deeper(part_depth(depths, t, a), part_depth(depths, t, b))
 }
 
-// 10 to 15, with key q, after t types.
+// 10 to 15, with key q, after t types; by the ancestors of the n names.
 fn type_by<'a>(
     op: u8,
     q: u8,
     job: &'a [u8],
-    names: &'a [u16],
+    anc: &'a [u64; 64],
     n: usize,
     depths: &'a [u8],
     t: usize,
 ) -> Entry
-    ensures { λ r. ⌜ r ≡ typeBy op q (now (job .entry)) (now (names .entry)) n (now (depths .entry)) t ⌝ }
+    ensures { λ r. ⌜ r ≡ typeBy op q (now (job .entry)) (now (anc .entry)) n (now (depths .entry)) t ⌝ }
 {
     if op == 0x10 {
         return typed(type_bits(op, q, 0, 0), 0, 0);
@@ -596,7 +595,7 @@ fn type_by<'a>(
         return typed(type_bits(op, q, a, 0), 0, part_depth(depths, t, a));
     }
     if op == 0x13 {
-        return function_type(q, a, b, op64(job, 6), two_depths(depths, t, a, b), names, n);
+        return function_type(q, a, b, op64(job, 6), two_depths(depths, t, a, b), anc, n);
     }
     key_type(op, q, op8(job, 2), n)
 }
@@ -604,16 +603,16 @@ fn type_by<'a>(
 fn type_entry<'a>(
     op: u8,
     job: &'a [u8],
-    names: &'a [u16],
+    anc: &'a [u64; 64],
     n: usize,
     depths: &'a [u8],
     t: usize,
 ) -> Entry
-    ensures { λ r. ⌜ r ≡ typeEntry op (now (job .entry)) (now (names .entry)) n (now (depths .entry)) t ⌝ }
+    ensures { λ r. ⌜ r ≡ typeEntry op (now (job .entry)) (now (anc .entry)) n (now (depths .entry)) t ⌝ }
 {
     let q = op8(job, 1);
     if names::is_declared(n, q) {
-        return type_by(op, q, job, names, n, depths, t);
+        return type_by(op, q, job, anc, n, depths, t);
     }
     Entry::Refuse(6)
 }
@@ -665,12 +664,11 @@ fn value_entry<'a>(job: &'a [u8], names: &'a [u16], n: usize, types: &'a [u64], 
 }
 
 // 21: a reduced set of 1 and host names.
-fn rights_entry<'a>(job: &'a [u8], names: &'a [u16], n: usize) -> Entry
-    ensures { λ r. ⌜ r ≡ rightsEntry (now (job .entry)) (namesIn (now (names .entry)) n) ⌝ }
+fn rights_entry<'a>(job: &'a [u8], anc: &'a [u64; 64], names: &'a [u16], n: usize) -> Entry
+    ensures { λ r. ⌜ r ≡ rightsEntry (now (job .entry)) (now (anc .entry)) (namesIn (now (names .entry)) n) ⌝ }
 {
     let s = op64(job, 1);
-    let anc = names::ancestors(names, n);
-    if names::rights_ok(names, n, &anc, s) {
+    if names::rights_ok(names, n, anc, s) {
         return Entry::Rights(s);
     }
     Entry::Refuse(6)
@@ -722,13 +720,12 @@ fn lead_ok<'a>(op: u8, job: &'a [u8], names: &'a [u16], n: usize, v: usize) -> b
     }
 }
 
-// The operands of two bytes, among n expressions and t types.
-fn places_ok(op: u8, job: &[u8], n: usize, t: usize) -> bool
-    ensures { λ r. ⌜ r ≡ placesOk op (now (job .entry)) n t ⌝ }
+// The operands of two bytes, among n expressions and t types; c is the count of a limit's keys.
+fn places_ok(op: u8, c: u8, f: Form, n: usize, t: usize) -> bool
+    ensures { λ r. ⌜ r ≡ placesOk op c f n t ⌝ }
 {
-    let f = form_at(op, job);
     if op == 0x3C {
-        return limit_ok(op8(job, 1), f, n);
+        return limit_ok(c, f, n);
     }
     slots_ok(op, f, n, t)
 }
@@ -737,9 +734,10 @@ fn places_ok(op: u8, job: &[u8], n: usize, t: usize) -> bool
 fn form_entry<'a>(op: u8, job: &'a [u8], names: &'a [u16], h: Shape) -> Entry
     ensures { λ r. ⌜ r ≡ formEntry op (now (job .entry)) (namesIn (now (names .entry)) (h .names)) h ⌝ }
 {
-    if places_ok(op, job, h.cmds, h.types) {
+    let f = form_at(op, job);
+    if places_ok(op, op8(job, 1), f, h.cmds, h.types) {
         if lead_ok(op, job, names, h.names, h.values) {
-            return Entry::Formed(form_at(op, job));
+            return Entry::Formed(f);
         }
     }
     Entry::Refuse(6)
@@ -748,19 +746,20 @@ fn form_entry<'a>(op: u8, job: &'a [u8], names: &'a [u16], h: Shape) -> Entry
 fn entry_of<'a>(
     op: u8,
     job: &'a [u8],
+    anc: &'a [u64; 64],
     names: &'a [u16],
     types: &'a [u64],
     depths: &'a [u8],
     h: Shape,
 ) -> Entry
-    ensures { λ r. ⌜ r ≡ entryOf op (now (job .entry)) (now (names .entry)) (now (types .entry)) (now (depths .entry)) h ⌝ }
+    ensures { λ r. ⌜ r ≡ entryOf op (now (job .entry)) (now (anc .entry)) (now (names .entry)) (now (types .entry)) (now (depths .entry)) h ⌝ }
 {
     let sec = section(op);
     match sec {
         0 => name_entry(op, job, names, h.names),
-        1 => type_entry(op, job, names, h.names, depths, h.types),
+        1 => type_entry(op, job, anc, h.names, depths, h.types),
         2 => value_entry(job, names, h.names, types, h.types),
-        3 => rights_entry(job, names, h.names),
+        3 => rights_entry(job, anc, names, h.names),
         4 => form_entry(op, job, names, h),
         _ => Entry::Last,
     }
@@ -771,11 +770,12 @@ fn judged<'a>(
     job: &'a [u8],
     cur: u8,
     h: Shape,
+    anc: &'a [u64; 64],
     names: &'a [u16],
     types: &'a [u64],
     depths: &'a [u8],
 ) -> Entry
-    ensures { λ r. ⌜ r ≡ judgedBy (getD (now (job .entry)) 0 0) (now (job .entry)) cur h (now (names .entry)) (now (types .entry)) (now (depths .entry)) ⌝ }
+    ensures { λ r. ⌜ r ≡ judgedBy (getD (now (job .entry)) 0 0) (now (job .entry)) cur h (now (anc .entry)) (now (names .entry)) (now (types .entry)) (now (depths .entry)) ⌝ }
 {
     let op = first(job);
     let w = width(op);
@@ -793,7 +793,7 @@ fn judged<'a>(
     if full(sec, h) {
         return Entry::Refuse(5);
     }
-    entry_of(op, job, names, types, depths, h)
+    entry_of(op, job, anc, names, types, depths, h)
 }
 
 // Whether reading stops here: at a refusal or at the end.
@@ -955,6 +955,22 @@ fn put(
     }
 }
 
+// The ancestors of one name more, where the entry is a name; n names stand before it.
+fn enter(e: Entry, n: usize, anc: &mut [u64; 64])
+    requires { ⌜ n ≤ 65536 ⌝ }
+    ensures { λ _. ⌜ now (anc .exit) ≡ ancestorsAfter e n (now (anc .entry)) ⌝ }
+{
+    match e {
+        Entry::Refuse(_) => {}
+        Entry::Named(w) => names::enter(anc, n + 2, w),
+        Entry::Typed(_, _, _) => {}
+        Entry::Valued(_) => {}
+        Entry::Rights(_) => {}
+        Entry::Formed(_) => {}
+        Entry::Last => {}
+    }
+}
+
 fn is_job(a: Answer) -> bool
     ensures { λ r. ⌜ r ≡ isJob a ⌝ }
 {
@@ -1025,12 +1041,14 @@ fn fill(
         rights: 0,
     };
     let mut depths = [0u8; 256];
+    let mut anc = names::ancestors(names, 0);
     while 0 < left.len() {
-        let e = judged(left, cur, g, names, types, &depths);
+        let e = judged(left, cur, g, &anc, names, types, &depths);
         if stops(e) {
             return stopped(e, g, job.len() - left.len(), left.len());
         }
         put(e, g, &mut depths, names, types, sets, values, heads, slots);
+        enter(e, g.names, &mut anc);
         let more = counted(e, g);
         g = more;
         cur = section(first(left));

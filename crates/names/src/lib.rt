@@ -3,10 +3,11 @@ ghost use mathlib.Core.Path.{_≡_};
 ghost use Prim.Native.Nat.{_<_};
 ghost use mathlib.Core.Bool.{cond};
 ghost use lib.ListN.{getD};
+ghost use lib.Dec.{ltb};
 ghost use Rattle.order.specs.Sets.{bit, members, all-of};
 ghost use Rattle.order.specs.Effects as effects;
 ghost use Rattle.syntax.specs.Reading.{hostName, openName, localName};
-ghost use Rattle.names.specs.Ancestors.{namesIn, ancestorsBy, lowest, oneOf, nonzero};
+ghost use Rattle.names.specs.Ancestors.{nameOf, namesIn, entered, ancestorsBy, lowest, oneOf, nonzero};
 ghost use Rattle.names.specs.Ancestors.{belowBy, meetsBy, effBelowBy, maximalBy, reducedBy, reduceBy, staysBy, dropBy, touchBy, raiseBy};
 ghost use Rattle.names.specs.Ancestors.{declaredOf, setOkBy, rightsOkBy};
 
@@ -75,6 +76,16 @@ fn proper(s: u64) -> u64
     ensures { λ r. ⌜ r ≡ nonzero s ⌝ }
 {
     s - s % 2
+}
+
+// The table of ancestors with name a, whose word in the names table is w: its own bit, and the entry of its upper name. A number that is no name changes nothing.
+pub fn enter(anc: &mut [u64; 64], a: usize, w: u16)
+    ensures { λ _. ⌜ now (anc .exit) ≡ cond (ltb a 64) (entered (now (anc .entry)) a (nameOf w)) (now (anc .entry)) ⌝ }
+{
+    if a < 64 {
+        let above = entry(anc, (w % 256) as u8);
+        anc[a] = single(a as u8) | above;
+    }
 }
 
 // The names at or above each name. An upper name is declared before its lower names, so one pass finds them.

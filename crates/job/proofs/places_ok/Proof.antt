@@ -5,38 +5,26 @@ use Rattle.job.proofs.places_ok.Statement.{statement}
 use Rattle.job.proofs.places_ok.Tie as tie
 use Rattle.job.proofs.places_ok.Reads as reads
 use Rattle.job.proofs.places_ok.Lts as lts
-use Rattle.job.proofs.form_at.Reads as form-at-reads
 use Rattle.job.proofs.limit_ok.Reads as limit-ok-reads
-use Rattle.job.proofs.op8.Reads as op8-reads
 use Rattle.job.proofs.slots_ok.Reads as slots-ok-reads
 
--- src/lib.rt:668:9
-form-at-requires : tie.Need-form-at-requires
-form-at-requires c κs = search needs
-
--- src/lib.rt:670:25
-op8-requires : tie.Need-op8-requires
-op8-requires c κs = search needs
-
--- src/lib.rt:670:9
+-- src/lib.rt:728:9
 limit-ok-requires : tie.Need-limit-ok-requires
 limit-ok-requires c κs = search needs
 
--- src/lib.rt:670:9
+-- src/lib.rt:728:9
 returns : tie.Need-returns
 unfolding placesOk
-returns c = simp (eq-eqb _ _ (c .before .before .if1 .taken), ← c .before .op8 .ensures, ← c .before .before .before .form-at .ensures) (c .limit-ok .ensures)
+returns c = simp (eq-eqb _ _ (c .before .if1 .taken)) (c .limit-ok .ensures)
 
--- src/lib.rt:672:5
+-- src/lib.rt:730:5
 slots-ok-requires : tie.Need-slots-ok-requires
 slots-ok-requires c κs = search needs
 
--- src/lib.rt:665:1
+-- src/lib.rt:724:1
 returns-2 : tie.Need-returns-2
 unfolding placesOk
-returns-2 c = simp (ne-eqb _ _ (c .before .if1 .left), ← c .before .before .form-at .ensures) (c .slots-ok .ensures)
+returns-2 c = simp (ne-eqb _ _ (c .before .if1 .left)) (c .slots-ok .ensures)
 
 pub places-ok-spec : {M : Type 1} → statement M
-places-ok-spec =
-    tie.close
-    (tie.spec form-at-requires op8-requires limit-ok-requires returns slots-ok-requires returns-2)
+places-ok-spec = tie.close (tie.spec limit-ok-requires returns slots-ok-requires returns-2)

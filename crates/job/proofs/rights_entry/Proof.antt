@@ -6,31 +6,25 @@ use Rattle.job.proofs.rights_entry.Tie as tie
 use Rattle.job.proofs.rights_entry.Reads as reads
 use Rattle.job.proofs.rights_entry.Lts as lts
 use Rattle.job.proofs.op64.Reads as op64-reads
-use Rattle.names.proofs.ancestors.Reads as ancestors-reads
 use Rattle.names.proofs.rights_ok.Reads as rights-ok-reads
 
--- src/lib.rt:610:9
+-- src/lib.rt:670:9
 op64-requires : tie.Need-op64-requires
 op64-requires c κs = search needs
 
--- src/lib.rt:611:15
-ancestors-requires : tie.Need-ancestors-requires
-ancestors-requires c κs = search needs
-
--- src/lib.rt:612:8
+-- src/lib.rt:671:8
 rights-ok-requires : tie.Need-rights-ok-requires
 rights-ok-requires c κs = search needs
 
--- src/lib.rt:613:9
+-- src/lib.rt:672:9
 returns : tie.Need-returns
 unfolding namesIn rightsEntry
-returns c = simp (c .if1 .taken, ← c .before .rights-ok .ensures, ← c .before .before .before .ancestors .ensures, ← c .before .before .before .before .op64 .ensures)
+returns c = simp (c .if1 .taken, ← c .before .rights-ok .ensures, ← c .before .before .op64 .ensures)
 
--- src/lib.rt:607:1
+-- src/lib.rt:667:1
 returns-2 : tie.Need-returns-2
 unfolding namesIn rightsEntry
-returns-2 c = simp (c .if1 .left, ← c .before .rights-ok .ensures, ← c .before .before .before .ancestors .ensures, ← c .before .before .before .before .op64 .ensures)
+returns-2 c = simp (c .if1 .left, ← c .before .rights-ok .ensures, ← c .before .before .op64 .ensures)
 
 pub rights-entry-spec : {M : Type 1} → statement M
-rights-entry-spec =
-    tie.close (tie.spec op64-requires ancestors-requires rights-ok-requires returns returns-2)
+rights-entry-spec = tie.close (tie.spec op64-requires rights-ok-requires returns returns-2)
