@@ -1,6 +1,6 @@
 //! The jobs that are measured. Each is accepted.
 
-use second::generate::{heavy, ladder};
+use second::generate::{example, heavy, ladder};
 use second::job::{Expr, HostValue, Job, Shape, Type, UNUSED};
 use second::names::Names;
 use second::write;
@@ -8,20 +8,13 @@ use second::write;
 /// The job of a name.
 pub fn job(name: &str) -> Option<Vec<u8>> {
     Some(match name {
-        "small" => small(),
+        "small" => example(4),
         "medium" => write(&medium()),
         "largest" => write(&largest()),
         "ladder" => write(&ladder(16, 120, 1)),
         "loop" => write(&heavy(40)),
         _ => return None,
     })
-}
-
-/// A read of a keyed host cell.
-fn small() -> Vec<u8> {
-    let mut job = vec![0x01, 1, 0x10, 0, 0x12, 2, 0, 0, 0x20, 1, 0, 7, 0, 0, 0];
-    job.extend([0x21, 4, 0, 0, 0, 0, 0, 0, 0, 0x32, 0, 0x39, 0, 0, 0xFF]);
-    job
 }
 
 /// So many host names, each below the last.
@@ -44,7 +37,7 @@ fn medium() -> Job {
     let mut types = vec![Type::unkeyed(Shape::Number)];
     for name in 2..10 {
         types.push(Type { key: name, shape: Shape::Cell(0) });
-        types.push(Type { key: 0, shape: Shape::Limit(name) });
+        types.push(Type::unkeyed(Shape::Limit(name)));
     }
     let functions = types.len() as u16;
     for turn in 0..TURNS {

@@ -1,6 +1,6 @@
 //! What the second implementation gives, in the proved code's words.
 
-use second::machine::{BINDINGS, CELLS, FRAMES, FUNCTIONS, KEYS, MachineWith, PAIRS};
+use second::machine::MachineWith;
 use second::{Answer, Outcome, Rooms};
 
 use crate::proved::STEP;
@@ -52,19 +52,4 @@ pub fn run<const FAULT: u32>(machine: &mut MachineWith<FAULT>, calls: &[u64]) ->
 pub fn rooms(rooms: Rooms) -> [u64; 6] {
     [rooms.cells, rooms.keys, rooms.pairs, rooms.functions, rooms.frames, rooms.bindings]
         .map(|count| count as u64)
-}
-
-/// The kinds of room that are used up. A new key needs two bindings.
-pub fn full(rooms: Rooms) -> Vec<&'static str> {
-    [
-        (rooms.cells == CELLS, "cells"),
-        (rooms.keys == KEYS, "keys"),
-        (rooms.pairs == PAIRS, "pairs"),
-        (rooms.functions == FUNCTIONS, "functions"),
-        (rooms.frames == FRAMES, "frames"),
-        (rooms.bindings >= BINDINGS - 1, "bindings"),
-    ]
-    .into_iter()
-    .filter_map(|(full, room)| full.then_some(room))
-    .collect()
 }

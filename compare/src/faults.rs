@@ -37,13 +37,14 @@ fn proved(job: &[u8], steps: &[u64], tables: &mut Tables) -> Observed {
         (0, [entry, effect]) => {
             // No type word and no head is zero.
             let used = |table: &[u64]| table.iter().take_while(|&&word| word != 0).count();
-            let (types, exprs) = (used(&tables.types), used(&tables.heads));
+            let words = &tables.words;
+            let (types, exprs) = (used(&words.types), used(&words.heads));
             Verdict::Accepted {
-                last: (entry, tables.types.get(entry as usize).and_then(|&w| kind(w)), effect),
-                types: tables.types[..types].to_vec(),
-                sets: tables.sets[..types].to_vec(),
-                entries: tables.entries[..exprs].to_vec(),
-                effects: tables.effects[..exprs].to_vec(),
+                last: (entry, words.types.get(entry as usize).and_then(|&w| kind(w)), effect),
+                types: words.types[..types].to_vec(),
+                sets: words.sets[..types].to_vec(),
+                entries: words.entries[..exprs].to_vec(),
+                effects: words.effects[..exprs].to_vec(),
             }
         }
         (number, [place, _]) => Verdict::Refused(number, place),

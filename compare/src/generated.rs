@@ -104,8 +104,9 @@ fn same<T: PartialEq + std::fmt::Debug>(what: &str, proved: T, second: T) -> Res
     }
 }
 
-fn same_tables(what: &str, proved: &Tables, second: &Tables) -> Result<(), String> {
-    match proved.differs(second) {
+/// Whether no table differs.
+fn same_tables(what: &str, differs: Option<&str>) -> Result<(), String> {
+    match differs {
         None => Ok(()),
         Some(table) => Err(format!("{what}: table {table}")),
     }
@@ -114,25 +115,24 @@ fn same_tables(what: &str, proved: &Tables, second: &Tables) -> Result<(), Strin
 /// The check's verdict and all tables; whether the job is accepted.
 fn compare_check(job: &[u8], rng: &mut Rng, met: &mut Met) -> Result<bool, String> {
     let mut tables = Tables::dirty(long_enough(rng), rng);
-    let mut wanted = tables.clone();
+    let before = tables.clone();
     let verdict = proved::check(job, &mut tables);
     match check(job) {
         Ok(accepted) => {
             same("verdict", verdict, (0, [accepted.entry as u64, accepted.effect]))?;
-            let last = tables.types[verdict.1[0] as usize];
+            let last = tables.words.types[verdict.1[0] as usize];
             same("kind", kind(last), Some(accepted.kind))?;
             let job = read(job).map_err(|refusal| format!("{refusal:?} on a second reading"))?;
-            wanted.fill(&words(&job, &accepted.types, &accepted.exprs), 8);
+            let words = words(&job, &accepted.types, &accepted.exprs);
             met.meet("accepted".to_string());
             met.meet(format!("accepted as {}", accepted.kind.word()));
-            same_tables("after acceptance", &tables, &wanted)?;
+            same_tables("after acceptance", tables.differs(&before, &words, 8))?;
             Ok(true)
         }
         Err(Refusal { number, place }) => {
             same("verdict", verdict, (number as u64, [place as u64, 0]))?;
-            wanted.fill(&Words::default(), 8);
             met.meet(format!("refused {number:2}"));
-            same_tables("after a refusal", &tables, &wanted)?;
+            same_tables("after a refusal", tables.differs(&before, &Words::default(), 8))?;
             Ok(false)
         }
     }
@@ -149,7 +149,7 @@ fn compare_short(job: &[u8], rng: &mut Rng, met: &mut Met) -> Result<(), String>
             _ => rng.below(LENGTHS[table]),
         };
         let mut tables = Tables::dirty(lent, rng);
-        let wanted = tables.clone();
+        let before = tables.clone();
         if count == 8 {
             let verdict = proved::check(job, &mut tables);
             same("check with a short table", verdict, (1, [0, 0]))?;
@@ -160,7 +160,7 @@ fn compare_short(job: &[u8], rng: &mut Rng, met: &mut Met) -> Result<(), String>
             same("run with a short table", (number, rooms[0]), (1, 0))?;
             met.meet("not started  1".to_string());
         }
-        same_tables(what, &tables, &wanted)?;
+        same_tables(what, tables.differs(&before, &Words::default(), 0))?;
     }
     Ok(())
 }
@@ -207,7 +207,7 @@ fn compare_run(
     met: &mut Met,
 ) -> Result<Option<Vec<u8>>, String> {
     let mut tables = Tables::dirty(long_enough(rng), rng);
-    let mut wanted = tables.clone();
+    let before = tables.clone();
     let started = read(job).and_then(|job| tree(&job).map(|()| job));
     let read = match started {
         Ok(read) => read,
@@ -215,9 +215,9 @@ fn compare_run(
             let mut answers = [0; 4];
             let (proved, rooms) = proved::run(job, &mut tables, &[STEP, STEP], &mut answers);
             same("start", (proved, rooms[0]), (number as u64, place as u64))?;
-            wanted.fill(&Words::default(), RUN_TABLES);
             met.meet(format!("not started {number:2}"));
-            same_tables("after no start", &tables, &wanted)?;
+            let words = Words::default();
+            same_tables("after no start", tables.differs(&before, &words, RUN_TABLES))?;
             return Ok(None);
         }
     };
@@ -233,8 +233,8 @@ fn compare_run(
     same("start", proved, 0)?;
     same(&format!("answers to calls {calls:?}"), &answers, &second)?;
     same(&format!("rooms after calls {calls:?}"), rooms, expected::rooms(machine.rooms()))?;
-    wanted.fill(&words(&read, &read.types, &[]), RUN_TABLES);
-    same_tables("after a run", &tables, &wanted)?;
+    let words = words(&read, &read.types, &[]);
+    same_tables("after a run", tables.differs(&before, &words, RUN_TABLES))?;
     for (call, answer) in calls.iter().zip(answers.chunks(2)) {
         let call = if *call == STEP { "step" } else { "run" };
         met.steps += answer[1];
@@ -245,7 +245,7 @@ fn compare_run(
         }
     }
     if answers[answers.len() - 2] == 3
-        && let [room] = expected::full(machine.rooms())[..]
+        && let [room] = machine.rooms().full()[..]
     {
         met.meet(format!("no room in {room} alone"));
     }

@@ -2,52 +2,48 @@
 
 use second::generate::Rng;
 
-unsafe extern "C" {
-    fn jobdesk_check(
-        job: *const u8,
-        job_length: usize,
-        names: *mut u16,
-        names_length: usize,
-        types: *mut u64,
-        types_length: usize,
-        sets: *mut u64,
-        sets_length: usize,
-        values: *mut u64,
-        values_length: usize,
-        heads: *mut u64,
-        heads_length: usize,
-        slots: *mut u16,
-        slots_length: usize,
-        entries: *mut u16,
-        entries_length: usize,
-        effects: *mut u64,
-        effects_length: usize,
-        out: *mut u64,
-        out_length: usize,
-    ) -> u64;
+use crate::words::Words;
 
-    fn jobdesk_run(
-        job: *const u8,
-        job_length: usize,
-        names: *mut u16,
-        names_length: usize,
-        types: *mut u64,
-        types_length: usize,
-        sets: *mut u64,
-        sets_length: usize,
-        values: *mut u64,
-        values_length: usize,
-        heads: *mut u64,
-        heads_length: usize,
-        slots: *mut u16,
-        slots_length: usize,
-        calls: *const u64,
-        calls_length: usize,
-        answers: *mut u64,
-        answers_length: usize,
-        rooms: *mut u64,
-        rooms_length: usize,
-    ) -> u64;
+/// Declares functions of the library. Each takes a job, the six tables that hold it, and slices of
+/// its own; a slice is a pointer and a length.
+macro_rules! library {
+    ($(fn $function:ident($($own:ident: $pointer:ty),*);)*) => {
+        unsafe extern "C" {
+            $(fn $function(
+                job: *const u8, job_length: usize,
+                names: *mut u16, names_length: usize,
+                types: *mut u64, types_length: usize,
+                sets: *mut u64, sets_length: usize,
+                values: *mut u64, values_length: usize,
+                heads: *mut u64, heads_length: usize,
+                slots: *mut u16, slots_length: usize,
+                $($own: $pointer, _: usize),*
+            ) -> u64;)*
+        }
+    };
+}
+
+library! {
+    fn jobdesk_check(entries: *mut u16, effects: *mut u64, out: *mut u64);
+    fn jobdesk_run(calls: *const u64, answers: *mut u64, rooms: *mut u64);
+}
+
+/// Calls one of them with a job, what is lent of the tables that hold it, and its own slices, each
+/// the pair of a pointer and a length.
+macro_rules! call {
+    ($function:ident, $job:ident, $tables:ident, $($own:ident),*) => {{
+        let (lent, words) = ($tables.lent, &mut $tables.words);
+        let (names, slots) = (part(&mut words.names, lent[0]), part(&mut words.slots, lent[5]));
+        let (types, sets) = (part(&mut words.types, lent[1]), part(&mut words.sets, lent[2]));
+        let (values, heads) = (part(&mut words.values, lent[3]), part(&mut words.heads, lent[4]));
+        // SAFETY: every pointer goes with the length of its slice, and the slices do not overlap.
+        unsafe {
+            $function(
+                $job.as_ptr(), $job.len(), names.0, names.1, types.0, types.1, sets.0, sets.1,
+                values.0, values.1, heads.0, heads.1, slots.0, slots.1, $($own.0, $own.1),*
+            )
+        }
+    }};
 }
 
 /// The least lengths: names, types, sets, values, heads, slots, entries, effects.
@@ -68,14 +64,7 @@ pub fn run_of(steps: u64) -> u64 {
 #[derive(Clone, Debug, PartialEq, Eq)]
 pub struct Tables {
     pub lent: [usize; 8],
-    pub names: Vec<u16>,
-    pub types: Vec<u64>,
-    pub sets: Vec<u64>,
-    pub values: Vec<u64>,
-    pub heads: Vec<u64>,
-    pub slots: Vec<u16>,
-    pub entries: Vec<u16>,
-    pub effects: Vec<u64>,
+    pub words: Words,
 }
 
 /// How many entries stand behind the lent part of each table.
@@ -102,8 +91,7 @@ impl Tables {
         mut narrow: impl FnMut(usize) -> Vec<u16>,
         mut wide: impl FnMut(usize) -> Vec<u64>,
     ) -> Self {
-        Tables {
-            lent,
+        let words = Words {
             names: narrow(lent[0]),
             types: wide(lent[1]),
             sets: wide(lent[2]),
@@ -112,10 +100,12 @@ impl Tables {
             slots: narrow(lent[5]),
             entries: narrow(lent[6]),
             effects: wide(lent[7]),
-        }
+        };
+        Tables { lent, words }
     }
 }
 
+/// The first entries of a table, as many as are lent: where they start, and how many they are.
 fn part<T>(table: &mut [T], lent: usize) -> (*mut T, usize) {
     let part = &mut table[..lent];
     (part.as_mut_ptr(), part.len())
@@ -124,40 +114,10 @@ fn part<T>(table: &mut [T], lent: usize) -> (*mut T, usize) {
 /// Checks a job: 0 or a refusal's number, and the two words of `out`.
 pub fn check(job: &[u8], tables: &mut Tables) -> (u64, [u64; 2]) {
     let mut out = [0xDEAD; 2];
-    let lent = tables.lent;
-    let (names, names_length) = part(&mut tables.names, lent[0]);
-    let (types, types_length) = part(&mut tables.types, lent[1]);
-    let (sets, sets_length) = part(&mut tables.sets, lent[2]);
-    let (values, values_length) = part(&mut tables.values, lent[3]);
-    let (heads, heads_length) = part(&mut tables.heads, lent[4]);
-    let (slots, slots_length) = part(&mut tables.slots, lent[5]);
-    let (entries, entries_length) = part(&mut tables.entries, lent[6]);
-    let (effects, effects_length) = part(&mut tables.effects, lent[7]);
-    // SAFETY: every pointer goes with the length of its slice, and the slices do not overlap.
-    let number = unsafe {
-        jobdesk_check(
-            job.as_ptr(),
-            job.len(),
-            names,
-            names_length,
-            types,
-            types_length,
-            sets,
-            sets_length,
-            values,
-            values_length,
-            heads,
-            heads_length,
-            slots,
-            slots_length,
-            entries,
-            entries_length,
-            effects,
-            effects_length,
-            out.as_mut_ptr(),
-            out.len(),
-        )
-    };
+    let entries = part(&mut tables.words.entries, tables.lent[6]);
+    let effects = part(&mut tables.words.effects, tables.lent[7]);
+    let verdict = part(&mut out, 2);
+    let number = call!(jobdesk_check, job, tables, entries, effects, verdict);
     (number, out)
 }
 
@@ -168,37 +128,9 @@ pub fn check(job: &[u8], tables: &mut Tables) -> (u64, [u64; 2]) {
 pub fn run(job: &[u8], tables: &mut Tables, calls: &[u64], answers: &mut [u64]) -> (u64, [u64; 6]) {
     assert_eq!(answers.len(), 2 * calls.len());
     let mut rooms = [0xDEAD; 6];
-    let lent = tables.lent;
-    let (names, names_length) = part(&mut tables.names, lent[0]);
-    let (types, types_length) = part(&mut tables.types, lent[1]);
-    let (sets, sets_length) = part(&mut tables.sets, lent[2]);
-    let (values, values_length) = part(&mut tables.values, lent[3]);
-    let (heads, heads_length) = part(&mut tables.heads, lent[4]);
-    let (slots, slots_length) = part(&mut tables.slots, lent[5]);
-    // SAFETY: every pointer goes with the length of its slice, and the slices do not overlap.
-    let number = unsafe {
-        jobdesk_run(
-            job.as_ptr(),
-            job.len(),
-            names,
-            names_length,
-            types,
-            types_length,
-            sets,
-            sets_length,
-            values,
-            values_length,
-            heads,
-            heads_length,
-            slots,
-            slots_length,
-            calls.as_ptr(),
-            calls.len(),
-            answers.as_mut_ptr(),
-            answers.len(),
-            rooms.as_mut_ptr(),
-            rooms.len(),
-        )
-    };
+    let answers = part(answers, 2 * calls.len());
+    let calls = (calls.as_ptr(), calls.len());
+    let in_use = part(&mut rooms, 6);
+    let number = call!(jobdesk_run, job, tables, calls, answers, in_use);
     (number, rooms)
 }

@@ -5,7 +5,7 @@ use second::{Kind, Typed};
 
 use crate::proved::Tables;
 
-/// The used entries of each table.
+/// The words of each table.
 #[derive(Clone, Debug, Default, PartialEq, Eq)]
 pub struct Words {
     pub names: Vec<u16>,
@@ -101,59 +101,48 @@ fn head(expr: &Expr) -> u64 {
 
 /// Operands of two bytes: expressions, then the type; of 3C four keys, then the body.
 fn slots(expr: &Expr) -> [u16; 5] {
-    match *expr {
-        Expr::Number(_) | Expr::Top | Expr::Variable(_) => [0; 5],
-        Expr::Part(a, _) | Expr::Read(a) => [a, 0, 0, 0, 0],
-        Expr::Function(_, ty, a) | Expr::NewCell(ty, a) => [a, ty, 0, 0, 0],
-        Expr::Pair(a, b)
-        | Expr::Apply(a, b)
-        | Expr::Assign(a, b)
-        | Expr::Sum(a, b)
-        | Expr::Difference(a, b)
-        | Expr::Grant(a, b)
-        | Expr::Associate(a, b) => [a, b, 0, 0, 0],
-        Expr::Test(a, b, c, ty) => [a, b, c, ty, 0],
-        Expr::Limit(_, [a, b, c, d], body) => [a, b, c, d, body],
-        Expr::NewKey(_, _, a, b, ty) => [a, b, ty, 0, 0],
+    if let Expr::Limit(_, [a, b, c, d], body) = *expr {
+        return [a, b, c, d, body];
     }
+    let mut slots = [0; 5];
+    let mut count = 0;
+    expr.each_operand(|&operand| {
+        slots[count] = operand;
+        count += 1;
+    });
+    slots[count] = expr.type_operand().unwrap_or(0);
+    slots
 }
 
-fn fill<T: Copy + Default>(table: &mut [T], lent: usize, words: &[T]) {
-    let (used, rest) = table[..lent].split_at_mut(words.len());
-    used.copy_from_slice(words);
-    rest.fill(T::default());
+/// Whether a table holds the words, then zeros to the end of what is lent, then what it held before.
+fn holds<T>(table: &[T], before: &[T], lent: usize, words: &[T]) -> bool
+where
+    T: Copy + Default + PartialEq,
+{
+    table[..lent].split_at_checked(words.len()).is_some_and(|(used, rest)| {
+        let cleared = rest.iter().all(|&word| word == T::default());
+        used == words && cleared && table[lent..] == before[lent..]
+    })
 }
 
 impl Tables {
-    /// Fills the first `count` tables with the words, and with zeros to the end of what is lent.
-    pub fn fill(&mut self, words: &Words, count: usize) {
-        let lent = self.lent;
-        fill(&mut self.names, lent[0], &words.names);
-        fill(&mut self.types, lent[1], &words.types);
-        fill(&mut self.sets, lent[2], &words.sets);
-        fill(&mut self.values, lent[3], &words.values);
-        fill(&mut self.heads, lent[4], &words.heads);
-        fill(&mut self.slots, lent[5], &words.slots);
-        if count > 6 {
-            fill(&mut self.entries, lent[6], &words.entries);
-            fill(&mut self.effects, lent[7], &words.effects);
-        }
-    }
-
-    /// The name of the first table that is not as in `other`.
-    pub fn differs(&self, other: &Tables) -> Option<&'static str> {
+    /// The name of the first table that is not as a call must leave it: the first `count` tables,
+    /// which it was lent, hold the words, and the others are as before.
+    pub fn differs(&self, before: &Tables, words: &Words, count: usize) -> Option<&'static str> {
+        let (now, old) = (&self.words, &before.words);
+        let mut lent = before.lent;
+        lent[count..].fill(0);
         [
-            ("lengths", self.lent == other.lent),
-            ("names", self.names == other.names),
-            ("types", self.types == other.types),
-            ("sets", self.sets == other.sets),
-            ("values", self.values == other.values),
-            ("heads", self.heads == other.heads),
-            ("slots", self.slots == other.slots),
-            ("entries", self.entries == other.entries),
-            ("effects", self.effects == other.effects),
+            ("names", holds(&now.names, &old.names, lent[0], &words.names)),
+            ("types", holds(&now.types, &old.types, lent[1], &words.types)),
+            ("sets", holds(&now.sets, &old.sets, lent[2], &words.sets)),
+            ("values", holds(&now.values, &old.values, lent[3], &words.values)),
+            ("heads", holds(&now.heads, &old.heads, lent[4], &words.heads)),
+            ("slots", holds(&now.slots, &old.slots, lent[5], &words.slots)),
+            ("entries", holds(&now.entries, &old.entries, lent[6], &words.entries)),
+            ("effects", holds(&now.effects, &old.effects, lent[7], &words.effects)),
         ]
         .into_iter()
-        .find_map(|(name, same)| (!same).then_some(name))
+        .find_map(|(name, holds)| (!holds).then_some(name))
     }
 }

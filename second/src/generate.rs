@@ -80,6 +80,13 @@ pub fn job(seed: u64) -> (Source, Vec<u8>) {
     }
 }
 
+/// The printed example, with some rights: the read of a host cell whose key is name 2.
+pub fn example(rights: u8) -> Vec<u8> {
+    let mut job = vec![0x01, 1, 0x10, 0, 0x12, 2, 0, 0, 0x20, 1, 0, 7, 0, 0, 0];
+    job.extend([0x21, rights, 0, 0, 0, 0, 0, 0, 0, 0x32, 0, 0x39, 0, 0, 0xFF]);
+    job
+}
+
 /// A job that the typing rules mostly accept.
 pub fn typed(rng: &mut Rng) -> Job {
     build::job(rng, false)

@@ -130,33 +130,50 @@ pub struct Binder {
     pub body: u16,
 }
 
-impl Expr {
-    /// Hands each expression that is used to `take`, in order.
-    #[inline(always)]
-    pub fn each_operand(&self, mut take: impl FnMut(u16)) {
-        match *self {
-            Expr::Number(_) | Expr::Top | Expr::Variable(_) => {}
-            Expr::Part(a, _) | Expr::Function(_, _, a) | Expr::NewCell(_, a) | Expr::Read(a) => {
-                take(a)
-            }
-            Expr::Pair(a, b)
-            | Expr::Apply(a, b)
-            | Expr::Assign(a, b)
-            | Expr::Sum(a, b)
-            | Expr::Difference(a, b)
-            | Expr::Grant(a, b)
-            | Expr::NewKey(_, _, a, b, _)
-            | Expr::Associate(a, b) => {
-                take(a);
-                take(b)
-            }
-            Expr::Test(a, b, c, _) => [a, b, c].into_iter().for_each(take),
-            Expr::Limit(count, keys, body) => {
-                keys[..count as usize].iter().for_each(|&key| take(key));
-                take(body)
+/// A method that hands on the operands of an expression; with `mut`, those of one that may change.
+macro_rules! each_operand {
+    ($(#[$about:meta])* $name:ident $(, $mut:tt)?) => {
+        $(#[$about])*
+        #[inline(always)]
+        pub fn $name<'a>(&'a $($mut)? self, mut take: impl FnMut(&'a $($mut)? u16)) {
+            match self {
+                Expr::Number(_) | Expr::Top | Expr::Variable(_) => {}
+                Expr::Part(a, _)
+                | Expr::Function(_, _, a)
+                | Expr::NewCell(_, a)
+                | Expr::Read(a) => take(a),
+                Expr::Pair(a, b)
+                | Expr::Apply(a, b)
+                | Expr::Assign(a, b)
+                | Expr::Sum(a, b)
+                | Expr::Difference(a, b)
+                | Expr::Grant(a, b)
+                | Expr::NewKey(_, _, a, b, _)
+                | Expr::Associate(a, b) => {
+                    take(a);
+                    take(b)
+                }
+                Expr::Test(a, b, c, _) => [a, b, c].into_iter().for_each(take),
+                Expr::Limit(count, keys, body) => {
+                    for key in &$($mut)? keys[..*count as usize] {
+                        take(key)
+                    }
+                    take(body)
+                }
             }
         }
-    }
+    };
+}
+
+impl Expr {
+    each_operand!(
+        /// Hands each expression that is used to `take`, in order.
+        each_operand
+    );
+    each_operand!(
+        /// The same with operands that can be changed.
+        each_operand_mut, mut
+    );
 
     /// The type written in the expression.
     pub fn type_operand(&self) -> Option<u16> {
@@ -166,6 +183,16 @@ impl Expr {
             | Expr::Test(_, _, _, ty)
             | Expr::NewKey(_, _, _, _, ty) => Some(ty),
             _ => None,
+        }
+    }
+
+    /// What the command is called where commands are counted; limits are told apart by their keys.
+    pub fn label(&self) -> String {
+        let name = format!("{self:?}");
+        let name = name.split('(').next().unwrap_or_default();
+        match self {
+            Expr::Limit(count, ..) => format!("{name} of {count}"),
+            _ => name.to_string(),
         }
     }
 

@@ -124,6 +124,23 @@ pub struct Rooms {
     pub bindings: usize,
 }
 
+impl Rooms {
+    /// The kinds of room that are used up. A new key needs two bindings.
+    pub fn full(self) -> Vec<&'static str> {
+        [
+            (self.cells == CELLS, "cells"),
+            (self.keys == KEYS, "keys"),
+            (self.pairs == PAIRS, "pairs"),
+            (self.functions == FUNCTIONS, "functions"),
+            (self.frames == FRAMES, "frames"),
+            (self.bindings >= BINDINGS - 1, "bindings"),
+        ]
+        .into_iter()
+        .filter_map(|(full, room)| full.then_some(room))
+        .collect()
+    }
+}
+
 /// An expression as the machine runs it: without types, its variables found beforehand.
 #[derive(Clone, Copy, Debug, PartialEq, Eq)]
 enum Code {
@@ -705,7 +722,7 @@ fn resolve(job: &Job, first_host: u16) -> Vec<Code> {
     let mut code = vec![Code::Top; job.exprs.len()];
     for (number, expr) in job.exprs.iter().enumerate().rev() {
         let depth = depths[number];
-        expr.each_operand(|operand| depths[operand as usize] = depth);
+        expr.each_operand(|&operand| depths[operand as usize] = depth);
         if let Some(binder) = expr.binder() {
             bound_at[binder.variable as usize] = depth + 1;
             depths[binder.body as usize] = depth + 1;

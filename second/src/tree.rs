@@ -27,7 +27,7 @@ fn uses<const FAULT: u32>(job: &Job) -> Result<(), Refusal> {
     let mut uses = [0u32; EXPRESSIONS + 1];
     let mut users = [0; EXPRESSIONS + 1];
     for (number, expr) in job.exprs.iter().enumerate() {
-        expr.each_operand(|operand| {
+        expr.each_operand(|&operand| {
             uses[operand as usize] += 1;
             if FAULT == fault::USED_BY {
                 users[operand as usize] = number;
@@ -79,7 +79,7 @@ fn scopes<const FAULT: u32>(job: &Job) -> Result<(), Refusal> {
     for (number, expr) in job.exprs.iter().enumerate().rev() {
         let scope = scopes[number];
         let mut own = scope;
-        expr.each_operand(|operand| scopes[operand as usize] = scope);
+        expr.each_operand(|&operand| scopes[operand as usize] = scope);
         if let Some(binder) = expr.binder() {
             let mut inner = scope;
             inner.variables |= 1 << binder.variable;
@@ -88,7 +88,7 @@ fn scopes<const FAULT: u32>(job: &Job) -> Result<(), Refusal> {
             match FAULT {
                 fault::NAME_IN_OWN_TYPE => own = inner,
                 fault::SCOPE_OF_KEY_OPERAND => {
-                    expr.each_operand(|operand| scopes[operand as usize] = inner);
+                    expr.each_operand(|&operand| scopes[operand as usize] = inner);
                 }
                 _ => {}
             }

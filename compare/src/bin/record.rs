@@ -5,8 +5,7 @@
 use std::collections::HashMap;
 use std::process::ExitCode;
 
-use compare::expected::full;
-use second::generate::job;
+use second::generate::{example, job};
 use second::{Expr, Machine, Outcome, check, desk, read};
 
 /// The seeds that are tried, the cases wanted, and the bytes that all may take.
@@ -25,7 +24,7 @@ fn shows(job: &[u8]) -> Vec<String> {
             words.push(format!("refused {number}"));
             let place = refusal.place as usize;
             let command = match (number, read(job)) {
-                (8.., Ok(job)) => job.exprs.get(place).map(command),
+                (8.., Ok(job)) => job.exprs.get(place).map(Expr::label),
                 // Jobs that are full of expressions are long.
                 (5, _) if job.get(place).is_some_and(|&byte| byte > 0x30) => None,
                 (3..=6, _) => job.get(place).map(|byte| format!("{byte:02x}")),
@@ -42,28 +41,19 @@ fn shows(job: &[u8]) -> Vec<String> {
                 words.push(format!("done with {}", value.kind().word()));
             }
             if outcome == Outcome::NoRoom
-                && let [room] = full(machine.rooms())[..]
+                && let [room] = machine.rooms().full()[..]
             {
                 words.push(format!("no room in {room}"));
             }
             let pure = if accepted.effect == 0 { "no" } else { "an" };
             for expr in read(job).iter().flat_map(|job| &job.exprs) {
-                words.push(format!("accepted with {}, {pure} effect", command(expr)));
+                words.push(format!("accepted with {}, {pure} effect", expr.label()));
             }
         }
     }
     words.sort();
     words.dedup();
     words
-}
-
-fn command(expr: &Expr) -> String {
-    let name = format!("{expr:?}");
-    let name = name.split('(').next().unwrap_or_default();
-    match expr {
-        Expr::Limit(count, ..) => format!("{name} of {count}"),
-        _ => name.to_string(),
-    }
 }
 
 /// How often a word may bring in a case by itself, up to a round. Long runs are kept few.
@@ -89,15 +79,6 @@ fn case(job: &[u8]) -> Option<Vec<u8>> {
     Some(case)
 }
 
-/// The read of a keyed host cell, with the right to it and without.
-fn printed_examples() -> [Vec<u8>; 2] {
-    [4, 0].map(|rights| {
-        let mut job = vec![0x01, 1, 0x10, 0, 0x12, 2, 0, 0, 0x20, 1, 0, 7, 0, 0, 0];
-        job.extend([0x21, rights, 0, 0, 0, 0, 0, 0, 0, 0x32, 0, 0x39, 0, 0, 0xFF]);
-        job
-    })
-}
-
 fn main() -> ExitCode {
     let Some(path) = std::env::args().nth(1) else {
         eprintln!("usage: record FILE");
@@ -113,8 +94,9 @@ fn main() -> ExitCode {
             (job, words)
         })
         .collect();
+    // The printed example, with the right that it needs and without.
     let mut out: Vec<u8> =
-        printed_examples().iter().filter_map(|job| case(job)).flatten().collect();
+        [4, 0].into_iter().filter_map(|rights| case(&example(rights))).flatten().collect();
     let mut cases = 2;
     let mut shown: HashMap<String, usize> = HashMap::new();
     // In each round every word may come up some times more.

@@ -9,32 +9,8 @@ use std::process::ExitCode;
 
 use second::fault::NONE;
 use second::generate::job;
-use second::machine::{BINDINGS, CELLS, FRAMES, FUNCTIONS, KEYS, PAIRS};
 use second::observe::observe;
-use second::{Expr, Outcome, Rooms, desk, read, to_hex};
-
-fn full_rooms(rooms: Rooms) -> Vec<&'static str> {
-    [
-        (rooms.cells == CELLS, "cells"),
-        (rooms.keys == KEYS, "keys"),
-        (rooms.pairs == PAIRS, "pairs"),
-        (rooms.functions == FUNCTIONS, "functions"),
-        (rooms.frames == FRAMES, "frames"),
-        (rooms.bindings >= BINDINGS - 1, "bindings"),
-    ]
-    .into_iter()
-    .filter_map(|(full, room)| full.then_some(room))
-    .collect()
-}
-
-fn command(expr: &Expr) -> String {
-    let name = format!("{expr:?}");
-    let name = name.split('(').next().unwrap_or_default();
-    match expr {
-        Expr::Limit(count, ..) => format!("{name} of {count}"),
-        _ => name.to_string(),
-    }
-}
+use second::{Expr, Outcome, desk, read, to_hex};
 
 fn coverage(count: u64, seed: u64) -> ExitCode {
     let mut reached: BTreeMap<String, u64> = BTreeMap::new();
@@ -54,7 +30,7 @@ fn coverage(count: u64, seed: u64) -> ExitCode {
         if seen.verdict.is_ok()
             && let Ok(job) = read(&job)
         {
-            let mut commands: Vec<String> = job.exprs.iter().map(command).collect();
+            let mut commands: Vec<String> = job.exprs.iter().map(Expr::label).collect();
             commands.sort();
             commands.dedup();
             commands.into_iter().for_each(|c| reach(format!("accepted with {c}")));
@@ -67,7 +43,7 @@ fn coverage(count: u64, seed: u64) -> ExitCode {
             let accepted = if seen.verdict.is_ok() { "accepted" } else { "refused" };
             reach(format!("outcome of {accepted} {}", run.outcome.words()));
             if run.outcome == Outcome::NoRoom
-                && let [room] = full_rooms(run.rooms)[..]
+                && let [room] = run.rooms.full()[..]
             {
                 reach(format!("no room in {room} alone"));
             }

@@ -948,9 +948,7 @@ impl<'r> Builder<'r> {
         }
         for &node in &order {
             let mut expr = self.of(node).expr;
-            for operand in references(&mut expr) {
-                *operand = places[operand];
-            }
+            expr.each_operand_mut(|operand| *operand = places[operand]);
             let variable = |v: u8| if v >= LOCAL { free[(v - LOCAL) as usize] } else { v };
             match &mut expr {
                 Expr::Variable(v) => *v = variable(*v),
@@ -979,7 +977,7 @@ impl<'r> Builder<'r> {
             let next = if mixed { self.rng.below(open.len()) } else { last };
             let node = open.swap_remove(next);
             order.push(node);
-            self.of(node).expr.each_operand(|operand| open.push(operand));
+            self.of(node).expr.each_operand(|&operand| open.push(operand));
         }
         order.reverse();
         order
@@ -1020,25 +1018,5 @@ impl<'r> Builder<'r> {
             _ => open & self.rng.word(),
         };
         self.names.reduce(rights & open)
-    }
-}
-
-/// The operands of an expression, to be changed.
-pub fn references(expr: &mut Expr) -> Vec<&mut u16> {
-    match expr {
-        Expr::Number(_) | Expr::Top | Expr::Variable(_) => vec![],
-        Expr::Part(a, _) | Expr::Function(_, _, a) | Expr::NewCell(_, a) | Expr::Read(a) => vec![a],
-        Expr::Pair(a, b)
-        | Expr::Apply(a, b)
-        | Expr::Assign(a, b)
-        | Expr::Sum(a, b)
-        | Expr::Difference(a, b)
-        | Expr::Grant(a, b)
-        | Expr::NewKey(_, _, a, b, _)
-        | Expr::Associate(a, b) => vec![a, b],
-        Expr::Test(a, b, c, _) => vec![a, b, c],
-        Expr::Limit(count, keys, body) => {
-            keys[..*count as usize].iter_mut().chain([body]).collect()
-        }
     }
 }

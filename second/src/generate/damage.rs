@@ -1,7 +1,6 @@
 //! Changes to jobs: in their tables, where most of the form is kept, and in their bytes.
 
 use super::Rng;
-use super::build::references;
 use crate::job::*;
 use crate::names::Names;
 use crate::read::width;
@@ -113,6 +112,13 @@ fn some<'a, T>(rng: &mut Rng, list: &'a mut [T]) -> Option<&'a mut T> {
     (count > 0).then(|| &mut list[rng.below(count)])
 }
 
+/// The operands of an expression, to be changed.
+fn references(expr: &mut Expr) -> Vec<&mut u16> {
+    let mut references = Vec::new();
+    expr.each_operand_mut(|operand| references.push(operand));
+    references
+}
+
 fn variables(job: &Job) -> Vec<usize> {
     (0..job.exprs.len()).filter(|&expr| matches!(job.exprs[expr], Expr::Variable(_))).collect()
 }
@@ -138,23 +144,8 @@ fn swap_operands(rng: &mut Rng, job: &mut Job) {
     }
 }
 
-fn other_command(rng: &mut Rng, expr: Expr) -> Expr {
+fn other_command(rng: &mut Rng, mut expr: Expr) -> Expr {
     match expr {
-        Expr::Pair(a, b)
-        | Expr::Apply(a, b)
-        | Expr::Assign(a, b)
-        | Expr::Sum(a, b)
-        | Expr::Difference(a, b)
-        | Expr::Grant(a, b)
-        | Expr::Associate(a, b) => match rng.below(7) {
-            0 => Expr::Pair(a, b),
-            1 => Expr::Apply(a, b),
-            2 => Expr::Assign(b, a),
-            3 => Expr::Sum(a, b),
-            4 => Expr::Difference(b, a),
-            5 => Expr::Limit(1, [a, UNUSED, UNUSED, UNUSED], b),
-            _ => Expr::Associate(a, b),
-        },
         Expr::Part(a, _) => Expr::Read(a),
         Expr::Read(a) => match rng.below(2) {
             0 => Expr::Part(a, 1),
@@ -165,7 +156,19 @@ fn other_command(rng: &mut Rng, expr: Expr) -> Expr {
             Expr::Limit(count, keys, body)
         }
         Expr::Test(a, b, c, ty) => Expr::Test(a, c, b, ty),
-        other => other,
+        // The commands of two operands and no type can take each other's place.
+        _ => match (expr.type_operand(), &references(&mut expr)[..]) {
+            (None, &[&mut a, &mut b]) => match rng.below(7) {
+                0 => Expr::Pair(a, b),
+                1 => Expr::Apply(a, b),
+                2 => Expr::Assign(b, a),
+                3 => Expr::Sum(a, b),
+                4 => Expr::Difference(b, a),
+                5 => Expr::Limit(1, [a, UNUSED, UNUSED, UNUSED], b),
+                _ => Expr::Associate(a, b),
+            },
+            _ => expr,
+        },
     }
 }
 
