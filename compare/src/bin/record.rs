@@ -11,7 +11,7 @@ use second::{Expr, Machine, Outcome, check, desk, read};
 /// The seeds that are tried, the cases wanted, and the bytes that all may take.
 const SEEDS: std::ops::Range<u64> = 1..40_000;
 const CASES: usize = 300;
-const BYTES: usize = 90_000;
+const BYTES: usize = 65_536;
 /// The end of the file, in place of a length.
 const END: u16 = 0xFFFF;
 

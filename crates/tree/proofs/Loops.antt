@@ -1,19 +1,22 @@
 -- One turn of each loop, by the definition that it follows; then the three checks together, and the limits.
 use mathlib.Core.Path.{_≡_, refl, sym, ap, ap₂, _∙_}
-use Prim.Native.Nat.{ℕ, suc, _+_, _-_, _*_, _/_, _%_, _≤_, _<_}
+use Prim.Native.Nat.{ℕ, zero, suc, _+_, _-_, _*_, _/_, _%_, _≤_, _<_}
 use native.Mathlib.Omega.{arith}
 use native.Mathlib.Numerals.{add-one}
-use mathlib.Core.Bool.{Bool, true, false, cond, not, false≢true}
+use mathlib.Core.Bool.{Bool, true, false, cond, not, _||_, false≢true, true≢false}
 use mathlib.Core.List.{List}
 use mathlib.Core.Option.{Option, none, some}
 use lib.ListN.{getD, set, replicate}
 use borrow.Author.Tests.{lt-ltb, le-ltb, ltb-false, ne-eqb, eqb-false}
 use lib.Dec.{eqb, ltb}
-use lib.Bits.{bitOr}
+use lib.Bits.{bitOr, or-zero-r}
 use Rattle.order.specs.Sets.{bit}
+use Rattle.order.specs.SetLaws.{bit-or, bit-zero}
 use Rattle.syntax.specs.Reading.{Refusal}
 use Rattle.syntax.specs.Tree.{firstBad, orElse, numbered}
-use Rattle.tree.specs.Passes.{countStep, counted, before, oneOf, boundVar, boundName, boundOf, isNew, varFits, operandNames, isScoped, hostName, hostNames, typeNames, masksFrom, putIn, handStep, handedDown, scopesBy, countsBy, rightCount, hostVars, masksBy, scopeRefusal, tableRefusal, inLimits}
+use Rattle.tree.specs.Passes.{before, oneOf, boundVar, boundName, boundOf, isNew, varFits, operandNames, isScoped, hostName, hostNames, typeNames, masksFrom, putIn, handedDown, scopesBy, countsBy, rightCount, hostVars, masksBy, scopeRefusal, tableRefusal, inLimits}
+use Rattle.tree.specs.Places.{isBinder}
+use Rattle.tree.specs.Heads.{one-past}
 
 -- a search for the lowest that fails
 
@@ -36,35 +39,57 @@ search-end p i n number h e = let z : n - i ≡ 0 = omega arith in sym (ap (numb
 pub search-start : (p : ℕ → Bool) (n : ℕ) → firstBad p 0 n ≡ firstBad p 0 (n - 0)
 search-start p n = let z : n ≡ n - 0 = omega arith in ap (firstBad p 0) z
 
--- the places from the last down
-
-pub count-on : (heads slots l : List ℕ) (j : ℕ) {m x : List ℕ} {w s : ℕ} → 0 < j → w ≡ getD heads ((j - 1) / 5) 0 → s ≡ getD slots (j - 1) 0 → m ≡ countStep l w ((j - 1) % 5) s
-    → x ≡ counted heads slots j l → x ≡ counted heads slots (j - 1) m
-unfolding counted
-count-on heads slots l j h hw hs hm e =
-    let z : j ≡ suc (j - 1) = omega arith in
-    rw (hm, hw, hs) (e ∙ ap (λ (i : ℕ). counted heads slots i l) z)
-
-pub hand-on : (named : Bool) (heads slots l : List ℕ) (j : ℕ) {m x : List ℕ} {w s : ℕ} → 0 < j → w ≡ getD heads ((j - 1) / 5) 0 → s ≡ getD slots (j - 1) 0
-    → m ≡ handStep named l w ((j - 1) % 5) ((j - 1) / 5) s → x ≡ handedDown named heads slots j l → x ≡ handedDown named heads slots (j - 1) m
-unfolding handedDown
-hand-on named heads slots l j h hw hs hm e =
-    let z : j ≡ suc (j - 1) = omega arith in
-    rw (hm, hw, hs) (e ∙ ap (λ (i : ℕ). handedDown named heads slots i l) z)
-
-pub count-end : (heads slots l : List ℕ) (j : ℕ) {x : List ℕ} → j ≤ 0 → x ≡ counted heads slots j l → l ≡ x
-unfolding counted
-count-end heads slots l j h e = let z : j ≡ 0 = omega arith in sym (e ∙ ap (λ (i : ℕ). counted heads slots i l) z)
-
-pub hand-end : (named : Bool) (heads slots l : List ℕ) (j : ℕ) {x : List ℕ} → j ≤ 0 → x ≡ handedDown named heads slots j l → l ≡ x
-unfolding handedDown
-hand-end named heads slots l j h e = let z : j ≡ 0 = omega arith in sym (e ∙ ap (λ (i : ℕ). handedDown named heads slots i l) z)
-
 -- upward
 
-pub before-on : (named : Bool) (heads : List ℕ) (e : ℕ) {s w b o : ℕ} → s ≡ before named heads e → w ≡ getD heads e 0 → b ≡ boundOf named w → o ≡ oneOf b → bitOr s o ≡ before named heads (e + 1)
+pub var-on : (heads : List ℕ) (e : ℕ) {s w b o : ℕ} → s ≡ before false heads e → w ≡ getD heads e 0 → b ≡ boundVar w → o ≡ oneOf b → bitOr s o ≡ before false heads (e + 1)
+unfolding before boundOf
+var-on heads e hs hw hb ho = rw (add-one e, hs, ho, hb, hw)
+
+pub name-on : (heads : List ℕ) (e : ℕ) {s w b o : ℕ} → s ≡ before true heads e → w ≡ getD heads e 0 → b ≡ boundName w → o ≡ oneOf b → bitOr s o ≡ before true heads (e + 1)
+unfolding before boundOf
+name-on heads e hs hw hb ho = rw (add-one e, hs, ho, hb, hw)
+
+-- what is no binder changes nothing
+
+no-var : (w : ℕ) → isBinder w ≡ false → boundVar w ≡ 64
+unfolding isBinder boundVar
+no-var w h = at (eqb (w % 256) 0x35) (eqb (w % 256) 0x3E) h
+  where
+    at : (a b : Bool) → cond a true b ≡ false → cond a (w / 256 % 256) (cond b (w / 256 % 256) 64) ≡ 64
+    at true b e = absurd (true≢false e)
+    at false true e = absurd (true≢false e)
+    at false false e = refl
+
+no-name : (w : ℕ) → isBinder w ≡ false → boundName w ≡ 64
+unfolding isBinder boundName
+no-name w h = at (eqb (w % 256) 0x35) (eqb (w % 256) 0x3E) h
+  where
+    at : (a b : Bool) → cond a true b ≡ false → cond b (w / 65536 % 256) 64 ≡ 64
+    at true b e = absurd (true≢false e)
+    at false true e = absurd (true≢false e)
+    at false false e = refl
+
+none-bound : (isName : Bool) (w : ℕ) → isBinder w ≡ false → boundOf isName w ≡ 64
+unfolding boundOf
+none-bound true w h = no-name w h
+none-bound false w h = no-var w h
+
+past-64 : (isName : Bool) (heads : List ℕ) (e : ℕ) → bit (before isName heads e) 64 ≡ false
 unfolding before
-before-on named heads e hs hw hb ho = rw (add-one e, hs, ho, hb, hw)
+past-64 isName heads zero = bit-zero 64
+past-64 isName heads (suc e) = bit-or 64 (before isName heads e) (oneOf (boundOf isName (getD heads e 0))) ∙ ap₂ (λ (a b : Bool). a || b) (past-64 isName heads e) (one-past (boundOf isName (getD heads e 0)) 64 (omega arith))
+
+pub skip-bound : (isName : Bool) (heads : List ℕ) (e : ℕ) {s w : ℕ} {b : Bool} → s ≡ before isName heads e → w ≡ getD heads e 0 → b ≡ isBinder w → b ≡ false → s ≡ before isName heads (e + 1)
+unfolding before oneOf
+skip-bound isName heads e hs hw hb h =
+    let z : boundOf isName (getD heads e 0) ≡ 64 = none-bound isName (getD heads e 0) (ap isBinder (sym hw) ∙ sym hb ∙ h) in
+    rw (add-one e, z, or-zero-r (before isName heads e)) hs
+
+pub skip-new : (heads : List ℕ) (e : ℕ) {w : ℕ} {b : Bool} → w ≡ getD heads e 0 → b ≡ isBinder w → b ≡ false → isNew heads e ≡ true
+unfolding isNew
+skip-new heads e hw hb h =
+    let z : isBinder (getD heads e 0) ≡ false = ap isBinder (sym hw) ∙ sym hb ∙ h in
+    rw (no-var (getD heads e 0) z, no-name (getD heads e 0) z, past-64 false heads e, past-64 true heads e)
 
 pub names-on : (names : List ℕ) (i : ℕ) {s w o : ℕ} → s ≡ hostNames names i → w ≡ getD names (i + 2) 0 → o ≡ hostName w (i + 2) → bitOr s o ≡ hostNames names (i + 1)
 unfolding hostNames
@@ -104,9 +129,10 @@ scoped-is heads slots masks vars names e {m = m} hw hb h hm hd =
     let y : operandNames masks slots e (getD heads e 0) ≡ m = ap (operandNames masks slots e) (sym hw) ∙ sym hm in
     rw (z, y) (sym hd)
 
-pub scopes-start : (named : Bool) (heads slots : List ℕ) (n host : ℕ) → n - 1 < 512 → scopesBy named heads slots n host ≡ handedDown named heads slots (n * 5) (set (replicate 512 0) (n - 1) host)
+pub scopes-start : (named : Bool) (heads slots : List ℕ) (n host : ℕ) {x : List ℕ} → n - 1 < 512 → x ≡ handedDown named heads slots (n * 5) (set (replicate 512 0) (n - 1) host)
+    → x ≡ scopesBy named heads slots n host
 unfolding scopesBy putIn
-scopes-start named heads slots n host h = ap (λ (b : Bool). handedDown named heads slots (n * 5) (cond b (set (replicate 512 0) (n - 1) host) (replicate 512 0))) (lt-ltb (n - 1) 512 h)
+scopes-start named heads slots n host h e = e ∙ sym (ap (λ (b : Bool). handedDown named heads slots (n * 5) (cond b (set (replicate 512 0) (n - 1) host) (replicate 512 0))) (lt-ltb (n - 1) 512 h))
 
 -- the three checks together
 

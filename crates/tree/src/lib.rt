@@ -3,8 +3,8 @@ use names::at16;
 use names::at64;
 use names::has;
 ghost use mathlib.Core.Path.{_≡_};
-ghost use Prim.Native.Nat.{_+_, _≤_, _<_};
-ghost use mathlib.Core.Bool.{false, cond, not};
+ghost use Prim.Native.Nat.{_+_, _*_, _≤_, _<_};
+ghost use mathlib.Core.Bool.{true, false, cond, not};
 ghost use lib.ListN.{getD};
 ghost use lib.Bits.{bitOr};
 ghost use lib.Dec.{eqb};
@@ -14,7 +14,8 @@ ghost use Rattle.syntax.specs.ReadLaws.{JobOk};
 ghost use Rattle.syntax.specs.Tree.{firstBad, numbered, treeRefusal};
 ghost use Rattle.tree.specs.Answer.{refusalOf};
 ghost use Rattle.tree.specs.Holds.{Holds};
-ghost use Rattle.tree.specs.Passes.{arityOf, boundName, boundOf, boundVar, countStep, countsBy, handStep, handedTo, hostName, hostNames, hostVars, inLimits, isBody, isNew, isOperand, isScoped, masksBy, oneMore, oneOf, operandNames, rightCount, scopeRefusal, scopesBy, tableRefusal, treeBy, typeNames, typePlace, varFits};
+ghost use Rattle.tree.specs.Passes.{arityOf, boundName, boundVar, counted, handedDown, hostName, hostNames, hostVars, inLimits, isBody, isNew, isScoped, masksBy, oneMore, oneOf, operandNames, rightCount, scopeRefusal, tableRefusal, tallied, treeBy, typeNames, typePlace, varFits};
+ghost use Rattle.tree.specs.Places.{atFirst, atLast, firstOperands, handAt, handTo, isBinder, lastIsOperand, passAt, passTo, tallyAt};
 
 // An expression's number.
 pub struct Expr(pub u16);
@@ -36,7 +37,7 @@ fn one(n: u8) -> u64
 }
 
 // How many of the first places of a command's operands are expressions; 3C has its own rule.
-fn arity(byte: u64) -> u64
+fn arity(byte: u64) -> usize
     ensures { λ r. ⌜ r ≡ arityOf byte ⌝ }
 {
     match byte {
@@ -56,22 +57,30 @@ fn arity(byte: u64) -> u64
     }
 }
 
-// Whether place i of the command with this head is an expression. Of 3C these are the keys that are used, and the body.
-fn is_operand(head: u64, i: u64) -> bool
-    ensures { λ r. ⌜ r ≡ isOperand head i ⌝ }
+// Whether the last place of the command with this head is an expression: the body of 3C.
+fn ends_in_operand(head: u64) -> bool
+    ensures { λ r. ⌜ r ≡ lastIsOperand head ⌝ }
+{
+    head % 256 == 0x3C
+}
+
+// How many of the first four places of the command with this head are expressions. Of 3C these are the keys that are used.
+fn first_operands(head: u64) -> usize
+    ensures { λ r. ⌜ r ≡ firstOperands head ⌝ }
 {
     let byte = head % 256;
     if byte == 0x3C {
-        if i < head / 256 {
-            return true;
+        let keys = head / 256;
+        if keys < 4 {
+            return keys as usize;
         }
-        return i == 4;
+        return 4;
     }
-    i < arity(byte)
+    arity(byte)
 }
 
 // Whether place i is the body of a binder: of 35 and 3E.
-fn is_body(head: u64, i: u64) -> bool
+fn is_body(head: u64, i: usize) -> bool
     ensures { λ r. ⌜ r ≡ isBody head i ⌝ }
 {
     let byte = head % 256;
@@ -82,6 +91,17 @@ fn is_body(head: u64, i: u64) -> bool
         return i == 1;
     }
     false
+}
+
+// Whether the command is a binder: 35 or 3E.
+fn is_binder(head: u64) -> bool
+    ensures { λ r. ⌜ r ≡ isBinder head ⌝ }
+{
+    let byte = head % 256;
+    if byte == 0x35 {
+        return true;
+    }
+    byte == 0x3E
 }
 
 // The variable that the command binds; 64 for none.
@@ -109,16 +129,6 @@ fn bound_name(head: u64) -> u8
     64
 }
 
-// The one or the other.
-fn bound(named: bool, head: u64) -> u8
-    ensures { λ r. ⌜ r ≡ boundOf named head ⌝ }
-{
-    if named {
-        return bound_name(head);
-    }
-    bound_var(head)
-}
-
 // One use more; two and more are the same.
 fn one_more(x: u8) -> u8
     ensures { λ r. ⌜ r ≡ oneMore x ⌝ }
@@ -129,34 +139,49 @@ fn one_more(x: u8) -> u8
     2
 }
 
-// Counts the use of c in place i of the command with this head.
-fn tally(counts: &mut [u8; 512], head: u64, i: u64, c: usize)
-    ensures { λ r. ⌜ now (counts .exit) ≡ countStep (now (counts .entry)) head i c ⌝ }
+// Counts a use of c.
+fn tally(counts: &mut [u8; 512], c: usize)
+    ensures { λ r. ⌜ now (counts .exit) ≡ tallied (now (counts .entry)) c ⌝ }
 {
-    if is_operand(head, i) {
-        if c < 512 {
-            counts[c] = one_more(counts[c]);
-        }
+    if c < 512 {
+        counts[c] = one_more(counts[c]);
+    }
+}
+
+// Counts the use in the last place of expression e, if it is an operand.
+fn tally_last(counts: &mut [u8; 512], slots: &[u16], head: u64, e: usize)
+    requires { ⌜ e < 512 ⌝ }
+    ensures { λ r. ⌜ now (counts .exit) ≡ atLast (tallyAt (now (slots .entry)) e) head (now (counts .entry)) ⌝ }
+{
+    if ends_in_operand(head) {
+        tally(counts, at16(slots, e * 5 + 4) as usize);
+    }
+}
+
+// Counts the uses in the first n places of expression e, from the highest down.
+fn tally_first(counts: &mut [u8; 512], slots: &[u16], e: usize, n: usize)
+    requires { ⌜ (e < 512) × (n ≤ 4) ⌝ }
+    ensures { λ r. ⌜ now (counts .exit) ≡ atFirst (tallyAt (now (slots .entry)) e) n (now (counts .entry)) ⌝ }
+{
+    let mut i = n;
+    while 0 < i {
+        i = i - 1;
+        tally(counts, at16(slots, e * 5 + i) as usize);
     }
 }
 
 // The uses of each expression.
-fn count(heads: &[u64], slots: &[u16], cmds: usize) -> [u8; 512]
+fn count(heads: &[u64], slots: &[u16], cmds: usize, counts: &mut [u8; 512])
     requires { ⌜ cmds ≤ 512 ⌝ }
-    ensures { λ r. ⌜ r ≡ countsBy (now (heads .entry)) (now (slots .entry)) cmds ⌝ }
+    ensures { λ r. ⌜ now (counts .exit) ≡ counted (now (heads .entry)) (now (slots .entry)) (cmds * 5) (now (counts .entry)) ⌝ }
 {
-    let mut counts = [0u8; 512];
-    let mut j = cmds * 5;
-    while 0 < j {
-        j = j - 1;
-        tally(
-            &mut counts,
-            at64(heads, j / 5),
-            (j % 5) as u64,
-            at16(slots, j) as usize,
-        );
+    let mut e = cmds;
+    while 0 < e {
+        e = e - 1;
+        let head = at64(heads, e);
+        tally_last(counts, slots, head, e);
+        tally_first(counts, slots, e, first_operands(head));
     }
-    counts
 }
 
 // Whether expression e is used x times rightly: once, and the last of n not at all.
@@ -208,11 +233,15 @@ fn rebound(heads: &[u64], cmds: usize) -> Answer
     let mut e: usize = 0;
     while e < cmds {
         let head = at64(heads, e);
+        if is_binder(head) {} else {
+            e = e + 1;
+            continue;
+        }
         if is_new(vars, locals, head) {} else {
             return Answer::Refused(9, Expr(e as u16));
         }
-        vars = vars | one(bound(false, head));
-        locals = locals | one(bound(true, head));
+        vars = vars | one(bound_var(head));
+        locals = locals | one(bound_name(head));
         e = e + 1;
     }
     Answer::Tree
@@ -287,48 +316,110 @@ fn type_masks(types: &[u64], sets: &[u64], n: usize) -> [u64; 256]
     masks
 }
 
-// What an operand in place i sees where its expression sees the scope x.
-fn handed(named: bool, head: u64, i: u64, x: u64) -> u64
-    ensures { λ r. ⌜ r ≡ handedTo named head i x ⌝ }
-{
-    if is_body(head, i) {
-        return x | one(bound(named, head));
-    }
-    x
-}
-
-// Expression e hands its scope on to c, where c is the operand in place i.
-fn hand(named: bool, scopes: &mut [u64; 512], head: u64, i: u64, e: usize, c: usize)
+// Expression e hands its scopes on to c, the operand in place i of the command with this head.
+fn hand(vars: &mut [u64; 512], locals: &mut [u64; 512], head: u64, i: usize, e: usize, c: usize)
     requires { ⌜ e < 512 ⌝ }
-    ensures { λ r. ⌜ now (scopes .exit) ≡ handStep named (now (scopes .entry)) head i e c ⌝ }
+    ensures { λ r. ⌜ (now (vars .exit) ≡ handTo false (now (vars .entry)) head i e c) × (now (locals .exit) ≡ handTo true (now (locals .entry)) head i e c) ⌝ }
 {
-    if is_operand(head, i) {
-        if c < 512 {
-            scopes[c] = handed(named, head, i, scopes[e]);
+    if c < 512 {
+        if is_body(head, i) {
+            vars[c] = vars[e] | one(bound_var(head));
+            locals[c] = locals[e] | one(bound_name(head));
+            return;
         }
+        vars[c] = vars[e];
+        locals[c] = locals[e];
     }
 }
 
-// The variables or the names in scope at each expression, from the last one down.
-fn scopes<'a>(named: bool, heads: &'a [u64], slots: &'a [u16], cmds: usize, host: u64) -> [u64; 512]
-    requires { ⌜ (0 < cmds) × (cmds ≤ 512) ⌝ }
-    ensures { λ r. ⌜ r ≡ scopesBy named (now (heads .entry)) (now (slots .entry)) cmds host ⌝ }
+// Expression e hands its scopes on to its last place, if it is an operand.
+fn hand_last(vars: &mut [u64; 512], locals: &mut [u64; 512], slots: &[u16], head: u64, e: usize)
+    requires { ⌜ e < 512 ⌝ }
+    ensures { λ r. ⌜ (now (vars .exit) ≡ atLast (handAt false (now (slots .entry)) head e) head (now (vars .entry)))
+        × (now (locals .exit) ≡ atLast (handAt true (now (slots .entry)) head e) head (now (locals .entry))) ⌝ }
 {
-    let mut found = [0u64; 512];
-    found[cmds - 1] = host;
-    let mut j = cmds * 5;
-    while 0 < j {
-        j = j - 1;
-        hand(
-            named,
-            &mut found,
-            at64(heads, j / 5),
-            (j % 5) as u64,
-            j / 5,
-            at16(slots, j) as usize,
-        );
+    if ends_in_operand(head) {
+        hand(vars, locals, head, 4, e, at16(slots, e * 5 + 4) as usize);
     }
-    found
+}
+
+// Expression e, a binder, hands its scopes on to its first n places, from the highest down, with what it binds in its body.
+fn bind_first(
+    vars: &mut [u64; 512],
+    locals: &mut [u64; 512],
+    slots: &[u16],
+    head: u64,
+    e: usize,
+    n: usize,
+)
+    requires { ⌜ (e < 512) × (n ≤ 4) ⌝ }
+    ensures { λ r. ⌜ (now (vars .exit) ≡ atFirst (handAt false (now (slots .entry)) head e) n (now (vars .entry)))
+        × (now (locals .exit) ≡ atFirst (handAt true (now (slots .entry)) head e) n (now (locals .entry))) ⌝ }
+{
+    let mut i = n;
+    while 0 < i {
+        i = i - 1;
+        hand(vars, locals, head, i, e, at16(slots, e * 5 + i) as usize);
+    }
+}
+
+// Expression e hands its scopes on to c as they are.
+fn pass(vars: &mut [u64; 512], locals: &mut [u64; 512], e: usize, c: usize)
+    requires { ⌜ e < 512 ⌝ }
+    ensures { λ r. ⌜ (now (vars .exit) ≡ passTo (now (vars .entry)) e c) × (now (locals .exit) ≡ passTo (now (locals .entry)) e c) ⌝ }
+{
+    if c < 512 {
+        vars[c] = vars[e];
+        locals[c] = locals[e];
+    }
+}
+
+// Expression e hands its scopes on as they are to its first n places, from the highest down.
+fn pass_first(vars: &mut [u64; 512], locals: &mut [u64; 512], slots: &[u16], e: usize, n: usize)
+    requires { ⌜ (e < 512) × (n ≤ 4) ⌝ }
+    ensures { λ r. ⌜ (now (vars .exit) ≡ atFirst (passAt (now (slots .entry)) e) n (now (vars .entry)))
+        × (now (locals .exit) ≡ atFirst (passAt (now (slots .entry)) e) n (now (locals .entry))) ⌝ }
+{
+    let mut i = n;
+    while 0 < i {
+        i = i - 1;
+        pass(vars, locals, e, at16(slots, e * 5 + i) as usize);
+    }
+}
+
+// Expression e hands its scopes on to its first n places, from the highest down.
+fn hand_first(
+    vars: &mut [u64; 512],
+    locals: &mut [u64; 512],
+    slots: &[u16],
+    head: u64,
+    e: usize,
+    n: usize,
+)
+    requires { ⌜ (e < 512) × (n ≤ 4) ⌝ }
+    ensures { λ r. ⌜ (now (vars .exit) ≡ atFirst (handAt false (now (slots .entry)) head e) n (now (vars .entry)))
+        × (now (locals .exit) ≡ atFirst (handAt true (now (slots .entry)) head e) n (now (locals .entry))) ⌝ }
+{
+    if is_binder(head) {
+        bind_first(vars, locals, slots, head, e, n);
+        return;
+    }
+    pass_first(vars, locals, slots, e, n);
+}
+
+// The variables and the names in scope at each expression, from the last one down.
+fn scopes(heads: &[u64], slots: &[u16], cmds: usize, vars: &mut [u64; 512], locals: &mut [u64; 512])
+    requires { ⌜ cmds ≤ 512 ⌝ }
+    ensures { λ r. ⌜ (now (vars .exit) ≡ handedDown false (now (heads .entry)) (now (slots .entry)) (cmds * 5) (now (vars .entry)))
+        × (now (locals .exit) ≡ handedDown true (now (heads .entry)) (now (slots .entry)) (cmds * 5) (now (locals .entry))) ⌝ }
+{
+    let mut e = cmds;
+    while 0 < e {
+        e = e - 1;
+        let head = at64(heads, e);
+        hand_last(vars, locals, slots, head, e);
+        hand_first(vars, locals, slots, head, e, first_operands(head));
+    }
 }
 
 // The place of a command's type operand; 5 for none.
@@ -419,8 +510,11 @@ fn scope_check<'a>(
         ≡ scopeRefusal (now (heads .entry)) (now (slots .entry)) cmds (now (names .entry)) nnames (now (types .entry)) (now (sets .entry)) ntypes nvalues ⌝ }
 {
     let masks = type_masks(types, sets, ntypes);
-    let vars = scopes(false, heads, slots, cmds, host_vars(nvalues));
-    let locals = scopes(true, heads, slots, cmds, host_names(names, nnames));
+    let mut vars = [0u64; 512];
+    vars[cmds - 1] = host_vars(nvalues);
+    let mut locals = [0u64; 512];
+    locals[cmds - 1] = host_names(names, nnames);
+    scopes(heads, slots, cmds, &mut vars, &mut locals);
     unscoped(heads, slots, cmds, &masks, &vars, &locals)
 }
 
@@ -459,7 +553,8 @@ fn table_check<'a>(
     ensures { λ r. ⌜ refusalOf r
         ≡ tableRefusal (now (heads .entry)) (now (slots .entry)) cmds (now (names .entry)) nnames (now (types .entry)) (now (sets .entry)) ntypes nvalues ⌝ }
 {
-    let counts = count(heads, slots, cmds);
+    let mut counts = [0u8; 512];
+    count(heads, slots, cmds, &mut counts);
     match misused(&counts, cmds) {
         Answer::Refused(n, e) => Answer::Refused(n, e),
         Answer::Tree => match rebound(heads, cmds) {

@@ -1,49 +1,110 @@
-use Rattle.tree.specs.Passes.{handStep, putIn}
+use Rattle.tree.specs.Places.{handTo}
+use Rattle.tree.specs.Passes.{handedTo, putIn, boundOf}
 use borrow.Author.Tests.{lt-ltb, le-ltb}
 use borrow.Author.Needs.{needs}
 use Rattle.tree.proofs.hand.Statement.{statement}
 use Rattle.tree.proofs.hand.Tie as tie
 
-is-operand-requires : tie.Need-is-operand-requires
-is-operand-requires c κs = search needs
+is-body-requires : tie.Need-is-body-requires
+is-body-requires c κs = search needs
 
-mul-handed : tie.Need-mul-handed
-mul-handed c = search needs
+mul-vars : tie.Need-mul-vars
+mul-vars c = search needs
 
-element-copy-out-handed : tie.Need-element-copy-out-handed
-element-copy-out-handed c = search needs
+element-copy-out-vars : tie.Need-element-copy-out-vars
+element-copy-out-vars c = search needs
 
-handed-requires : tie.Need-handed-requires
-handed-requires c κs = search needs
+bound-var-requires : tie.Need-bound-var-requires
+bound-var-requires c κs = search needs
 
-mul-scopes : tie.Need-mul-scopes
-mul-scopes c = search needs
+one-requires : tie.Need-one-requires
+one-requires c κs = search needs
 
-element-write-scopes : tie.Need-element-write-scopes
-element-write-scopes c = search needs
+mul-vars-2 : tie.Need-mul-vars-2
+mul-vars-2 c = search needs
+
+element-write-vars : tie.Need-element-write-vars
+element-write-vars c = search needs
+
+mul-locals : tie.Need-mul-locals
+mul-locals c = search needs
+
+element-copy-out-locals : tie.Need-element-copy-out-locals
+element-copy-out-locals c = search needs
+
+bound-name-requires : tie.Need-bound-name-requires
+bound-name-requires c κs = search needs
+
+one-requires-2 : tie.Need-one-requires-2
+one-requires-2 c κs = search needs
+
+mul-locals-2 : tie.Need-mul-locals-2
+mul-locals-2 c = search needs
+
+element-write-locals : tie.Need-element-write-locals
+element-write-locals c = search needs
 
 returns : tie.Need-returns
-unfolding handStep putIn
-returns c = simp (← c .before .before .before .before .is-operand .ensures, c .before .before .before .if1 .taken, lt-ltb _ _ (c .before .before .if2 .taken), c .handed .ensures)
+unfolding handTo handedTo putIn boundOf
+returns c = (simp (lt-ltb _ _ (c .before .before .before .before .before .before .before .before .if1 .taken), ← c .before .before .before .before .before .before .before .is-body .ensures, c .before .before .before .before .before .before .if2 .taken, c .before .before .before .one .ensures, c .before .before .before .before .bound-var .ensures), simp (lt-ltb _ _ (c .before .before .before .before .before .before .before .before .if1 .taken), ← c .before .before .before .before .before .before .before .is-body .ensures, c .before .before .before .before .before .before .if2 .taken, c .one2 .ensures, c .before .bound-name .ensures))
+
+mul-vars-3 : tie.Need-mul-vars-3
+mul-vars-3 c = search needs
+
+element-copy-out-vars-2 : tie.Need-element-copy-out-vars-2
+element-copy-out-vars-2 c = search needs
+
+mul-vars-4 : tie.Need-mul-vars-4
+mul-vars-4 c = search needs
+
+element-write-vars-2 : tie.Need-element-write-vars-2
+element-write-vars-2 c = search needs
+
+mul-locals-3 : tie.Need-mul-locals-3
+mul-locals-3 c = search needs
+
+element-copy-out-locals-2 : tie.Need-element-copy-out-locals-2
+element-copy-out-locals-2 c = search needs
+
+mul-locals-4 : tie.Need-mul-locals-4
+mul-locals-4 c = search needs
+
+element-write-locals-2 : tie.Need-element-write-locals-2
+element-write-locals-2 c = search needs
 
 returns-2 : tie.Need-returns-2
-unfolding handStep putIn
-returns-2 c = simp (← c .before .before .is-operand .ensures, c .before .if1 .taken, le-ltb _ _ (c .if2 .left))
+unfolding handTo handedTo putIn
+returns-2 c = (simp (lt-ltb _ _ (c .before .before .before .before .if1 .taken), ← c .before .before .before .is-body .ensures, c .before .before .if2 .left), simp (lt-ltb _ _ (c .before .before .before .before .if1 .taken), ← c .before .before .before .is-body .ensures, c .before .before .if2 .left))
 
 returns-3 : tie.Need-returns-3
-unfolding handStep
-returns-3 c = simp (c .if1 .left, ← c .before .is-operand .ensures)
+unfolding handTo putIn
+returns-3 c = (simp (le-ltb _ _ (c .if1 .left)), simp (le-ltb _ _ (c .if1 .left)))
 
 pub hand-spec : {M : Type 1} → statement M
 hand-spec =
     tie.close
     (tie.spec
-    is-operand-requires
-    mul-handed
-    element-copy-out-handed
-    handed-requires
-    mul-scopes
-    element-write-scopes
+    is-body-requires
+    mul-vars
+    element-copy-out-vars
+    bound-var-requires
+    one-requires
+    mul-vars-2
+    element-write-vars
+    mul-locals
+    element-copy-out-locals
+    bound-name-requires
+    one-requires-2
+    mul-locals-2
+    element-write-locals
     returns
+    mul-vars-3
+    element-copy-out-vars-2
+    mul-vars-4
+    element-write-vars-2
+    mul-locals-3
+    element-copy-out-locals-2
+    mul-locals-4
+    element-write-locals-2
     returns-2
     returns-3)

@@ -5,7 +5,7 @@ use mathlib.Core.Bool.{true, false}
 use native.Mathlib.Omega.{arith}
 use Rattle.syntax.specs.Tree.{firstBad}
 use Rattle.tree.specs.Passes.{before, isNew}
-use Rattle.tree.proofs.Loops.{search-start, search-on, search-hit, search-end, before-on, new-is}
+use Rattle.tree.proofs.Loops.{search-start, search-on, search-hit, search-end, var-on, name-on, new-is, skip-bound, skip-new}
 use Rattle.tree.proofs.rebound.Statement.{statement}
 use Rattle.tree.proofs.rebound.Tie as tie
 
@@ -22,26 +22,8 @@ loop-holds c = (omega arith, refl, refl, search-start _ _)
 at64-requires : tie.Need-at64-requires Inv-loop μ-loop
 at64-requires c κs = search needs
 
-is-new-requires : tie.Need-is-new-requires Inv-loop μ-loop
-is-new-requires c κs = search needs
-
-cast-t9 : tie.Need-cast-t9 Inv-loop μ-loop
-cast-t9 c = search needs
-
-returns : tie.Need-returns Inv-loop μ-loop
-returns c = search-hit (isNew _) _ _ 9 (c .before .before .before .loop-test .taken) (new-is _ _ (c .before .before .before .before .loop .inv .1) (c .before .before .before .before .loop .inv .2) (c .before .before .at64 .ensures) (c .before .is-new .ensures) ∙ c .if1 .left) (c .before .before .before .before .loop .inv .3)
-
-bound-requires : tie.Need-bound-requires Inv-loop μ-loop
-bound-requires c κs = search needs
-
-one-requires : tie.Need-one-requires Inv-loop μ-loop
-one-requires c κs = search needs
-
-bound-requires-2 : tie.Need-bound-requires-2 Inv-loop μ-loop
-bound-requires-2 c κs = search needs
-
-one-requires-2 : tie.Need-one-requires-2 Inv-loop μ-loop
-one-requires-2 c κs = search needs
+is-binder-requires : tie.Need-is-binder-requires Inv-loop μ-loop
+is-binder-requires c κs = search needs
 
 add-e : tie.Need-add-e Inv-loop μ-loop
 add-e c = omega arith
@@ -50,7 +32,37 @@ loop-less : tie.Need-loop-less Inv-loop μ-loop
 loop-less c = omega arith
 
 loop-again : tie.Need-loop-again Inv-loop μ-loop
-loop-again c = (omega arith, before-on false _ _ (c .before .before .before .before .before .before .before .before .loop .inv .1) (c .before .before .before .before .before .before .at64 .ensures) (c .before .before .before .bound .ensures) (c .before .before .one .ensures), before-on true _ _ (c .before .before .before .before .before .before .before .before .loop .inv .2) (c .before .before .before .before .before .before .at64 .ensures) (c .before .bound2 .ensures) (c .one2 .ensures), search-on (isNew _) _ _ (c .before .before .before .before .before .before .before .loop-test .taken) (new-is _ _ (c .before .before .before .before .before .before .before .before .loop .inv .1) (c .before .before .before .before .before .before .before .before .loop .inv .2) (c .before .before .before .before .before .before .at64 .ensures) (c .before .before .before .before .before .is-new .ensures) ∙ c .before .before .before .before .if1 .taken) (c .before .before .before .before .before .before .before .before .loop .inv .3))
+loop-again c = (omega arith, skip-bound false _ _ (c .before .before .before .before .loop .inv .1) (c .before .before .at64 .ensures) (c .before .is-binder .ensures) (c .if1 .left), skip-bound true _ _ (c .before .before .before .before .loop .inv .2) (c .before .before .at64 .ensures) (c .before .is-binder .ensures) (c .if1 .left), search-on (isNew _) _ _ (c .before .before .before .loop-test .taken) (skip-new _ _ (c .before .before .at64 .ensures) (c .before .is-binder .ensures) (c .if1 .left)) (c .before .before .before .before .loop .inv .3))
+
+is-new-requires : tie.Need-is-new-requires Inv-loop μ-loop
+is-new-requires c κs = search needs
+
+cast-t10 : tie.Need-cast-t10 Inv-loop μ-loop
+cast-t10 c = search needs
+
+returns : tie.Need-returns Inv-loop μ-loop
+returns c = search-hit (isNew _) _ _ 9 (c .before .before .before .before .before .loop-test .taken) (new-is _ _ (c .before .before .before .before .before .before .loop .inv .1) (c .before .before .before .before .before .before .loop .inv .2) (c .before .before .before .before .at64 .ensures) (c .before .is-new .ensures) ∙ c .if2 .left) (c .before .before .before .before .before .before .loop .inv .3)
+
+bound-var-requires : tie.Need-bound-var-requires Inv-loop μ-loop
+bound-var-requires c κs = search needs
+
+one-requires : tie.Need-one-requires Inv-loop μ-loop
+one-requires c κs = search needs
+
+bound-name-requires : tie.Need-bound-name-requires Inv-loop μ-loop
+bound-name-requires c κs = search needs
+
+one-requires-2 : tie.Need-one-requires-2 Inv-loop μ-loop
+one-requires-2 c κs = search needs
+
+add-e-2 : tie.Need-add-e-2 Inv-loop μ-loop
+add-e-2 c = omega arith
+
+loop-less-2 : tie.Need-loop-less-2 Inv-loop μ-loop
+loop-less-2 c = omega arith
+
+loop-again-2 : tie.Need-loop-again-2 Inv-loop μ-loop
+loop-again-2 c = (omega arith, var-on _ _ (c .before .before .before .before .before .before .before .before .before .before .loop .inv .1) (c .before .before .before .before .before .before .before .before .at64 .ensures) (c .before .before .before .bound-var .ensures) (c .before .before .one .ensures), name-on _ _ (c .before .before .before .before .before .before .before .before .before .before .loop .inv .2) (c .before .before .before .before .before .before .before .before .at64 .ensures) (c .before .bound-name .ensures) (c .one2 .ensures), search-on (isNew _) _ _ (c .before .before .before .before .before .before .before .before .before .loop-test .taken) (new-is _ _ (c .before .before .before .before .before .before .before .before .before .before .loop .inv .1) (c .before .before .before .before .before .before .before .before .before .before .loop .inv .2) (c .before .before .before .before .before .before .before .before .at64 .ensures) (c .before .before .before .before .before .is-new .ensures) ∙ c .before .before .before .before .if2 .taken) (c .before .before .before .before .before .before .before .before .before .before .loop .inv .3))
 
 returns-2 : tie.Need-returns-2 Inv-loop μ-loop
 returns-2 c = search-end (isNew _) _ _ 9 (c .loop-test .left) (c .before .loop .inv .3)
@@ -63,14 +75,18 @@ rebound-spec =
     μ-loop
     loop-holds
     at64-requires
-    is-new-requires
-    cast-t9
-    returns
-    bound-requires
-    one-requires
-    bound-requires-2
-    one-requires-2
+    is-binder-requires
     add-e
     loop-less
     loop-again
+    is-new-requires
+    cast-t10
+    returns
+    bound-var-requires
+    one-requires
+    bound-name-requires
+    one-requires-2
+    add-e-2
+    loop-less-2
+    loop-again-2
     returns-2)

@@ -1,56 +1,45 @@
 use borrow.Author.Needs.{needs}
-use Prim.Native.Nat.{_≤_, _-_}
-use mathlib.Core.Path.{_≡_}
+use Prim.Native.Nat.{_*_, _≤_}
+use mathlib.Core.Path.{_≡_, refl}
 use native.Mathlib.Omega.{arith}
-use Rattle.tree.specs.Passes.{scopesBy, handedDown}
-use Rattle.tree.proofs.Loops.{scopes-start, hand-on, hand-end}
+use mathlib.Core.Bool.{true, false}
+use Rattle.tree.specs.Passes.{handedDown}
+use Rattle.tree.proofs.Places.{hand-on, hand-end, operands-few}
 use Rattle.tree.proofs.scopes.Statement.{statement}
 use Rattle.tree.proofs.scopes.Tie as tie
 
 abbrev Inv-loop : tie.InvT-loop
-Inv-loop named heads slots cmds host found₀ j₀ found j = (j ≤ 2560) × (scopesBy named heads slots cmds host ≡ handedDown named heads slots j found)
+Inv-loop heads slots cmds vars₀ locals₀ e₀ vars locals e = (e ≤ 512) × (handedDown false heads slots (cmds * 5) vars₀ ≡ handedDown false heads slots (e * 5) vars) × (handedDown true heads slots (cmds * 5) locals₀ ≡ handedDown true heads slots (e * 5) locals)
 
 abbrev μ-loop : tie.MeasureT-loop
-μ-loop named heads slots cmds host found₀ j₀ found j = j
-
-sub-found : tie.Need-sub-found Inv-loop μ-loop
-sub-found c = omega arith
-
-mul-found : tie.Need-mul-found Inv-loop μ-loop
-mul-found c = omega arith
-
-array-write-found : tie.Need-array-write-found Inv-loop μ-loop
-array-write-found c = omega arith
-
-mul-j : tie.Need-mul-j Inv-loop μ-loop
-mul-j c = omega arith
+μ-loop heads slots cmds vars₀ locals₀ e₀ vars locals e = e
 
 loop-holds : tie.Need-loop-holds Inv-loop μ-loop
-loop-holds c = (omega arith, scopes-start _ _ _ _ _ (omega arith))
+loop-holds c = (omega arith, refl, refl)
 
-sub-j : tie.Need-sub-j Inv-loop μ-loop
-sub-j c = omega arith
+sub-e : tie.Need-sub-e Inv-loop μ-loop
+sub-e c = omega arith
 
 at64-requires : tie.Need-at64-requires Inv-loop μ-loop
 at64-requires c κs = search needs
 
-at16-requires : tie.Need-at16-requires Inv-loop μ-loop
-at16-requires c κs = search needs
+hand-last-requires : tie.Need-hand-last-requires Inv-loop μ-loop
+hand-last-requires c κs = omega arith
 
-cast-hand : tie.Need-cast-hand Inv-loop μ-loop
-cast-hand c = search needs
+first-operands-requires : tie.Need-first-operands-requires Inv-loop μ-loop
+first-operands-requires c κs = search needs
 
-hand-requires : tie.Need-hand-requires Inv-loop μ-loop
-hand-requires c κs = search needs
+hand-first-requires : tie.Need-hand-first-requires Inv-loop μ-loop
+hand-first-requires c κs = (omega arith, operands-few _ (c .first-operands .ensures))
 
 loop-less : tie.Need-loop-less Inv-loop μ-loop
 loop-less c = omega arith
 
 loop-again : tie.Need-loop-again Inv-loop μ-loop
-loop-again c = (omega arith, hand-on _ _ _ _ _ (c .before .before .before .before .loop-test .taken) (c .before .before .at64 .ensures) (c .before .at16 .ensures) (c .hand .ensures) (c .before .before .before .before .before .loop .inv .1))
+loop-again c = (omega arith, hand-on _ _ _ _ _ (c .before .before .before .before .before .before .before .before .loop-test .taken) (c .before .before .before .before .before .before .before .at64 .ensures) (c .before .before .before .before .hand-last .ensures .0) (c .before .first-operands .ensures) (c .hand-first .ensures .0) (c .before .before .before .before .before .before .before .before .before .loop .inv .1), hand-on _ _ _ _ _ (c .before .before .before .before .before .before .before .before .loop-test .taken) (c .before .before .before .before .before .before .before .at64 .ensures) (c .before .before .before .before .hand-last .ensures .1) (c .before .first-operands .ensures) (c .hand-first .ensures .1) (c .before .before .before .before .before .before .before .before .before .loop .inv .2))
 
 returns : tie.Need-returns Inv-loop μ-loop
-returns c = hand-end _ _ _ _ _ (c .loop-test .left) (c .before .loop .inv .1)
+returns c = (hand-end _ _ _ _ _ (c .loop-test .left) (c .before .loop .inv .1), hand-end _ _ _ _ _ (c .loop-test .left) (c .before .loop .inv .2))
 
 pub scopes-spec : {M : Type 1} → statement M
 scopes-spec =
@@ -58,16 +47,12 @@ scopes-spec =
     (tie.spec
     Inv-loop
     μ-loop
-    sub-found
-    mul-found
-    array-write-found
-    mul-j
     loop-holds
-    sub-j
+    sub-e
     at64-requires
-    at16-requires
-    cast-hand
-    hand-requires
+    hand-last-requires
+    first-operands-requires
+    hand-first-requires
     loop-less
     loop-again
     returns)

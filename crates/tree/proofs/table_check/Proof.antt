@@ -1,5 +1,6 @@
 use mathlib.Core.Path.{sym, ap, _∙_}
 use Rattle.tree.specs.Answer.{refusalOf}
+use Rattle.tree.specs.Passes.{countsBy}
 use Rattle.tree.proofs.Loops.{found-8, found-9, past-9}
 use borrow.Author.Needs.{needs}
 use Rattle.tree.proofs.table_check.Statement.{statement}
@@ -30,12 +31,15 @@ scope-check-requires : tie.Need-scope-check-requires
 scope-check-requires c κs = search needs
 
 returns : tie.Need-returns
+unfolding countsBy
 returns c = found-8 _ _ _ _ _ _ _ _ _ (c .before .before .before .before .before .count .ensures) (sym (ap refusalOf (c .before .n .given .1)) ∙ c .before .before .before .misused .ensures)
 
 returns-2 : tie.Need-returns-2
+unfolding countsBy
 returns-2 c = found-9 _ _ _ _ _ _ _ _ _ (c .before .before .before .before .before .before .before .before .count .ensures) (sym (ap refusalOf (c .before .before .before .before .enum-told .given .1)) ∙ c .before .before .before .before .before .before .misused .ensures) (sym (ap refusalOf (c .before .n2 .given .1)) ∙ c .before .before .before .rebound .ensures)
 
 returns-3 : tie.Need-returns-3
+unfolding countsBy
 returns-3 c = past-9 _ _ _ _ _ _ _ _ _ (c .before .before .before .before .before .before .before .before .count .ensures) (sym (ap refusalOf (c .before .before .before .before .enum-told .given .1)) ∙ c .before .before .before .before .before .before .misused .ensures) (sym (ap refusalOf (c .before .enum-told2 .given .1)) ∙ c .before .before .before .rebound .ensures) (c .scope-check .ensures)
 
 pub table-check-spec : {M : Type 1} → statement M
