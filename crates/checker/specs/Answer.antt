@@ -4,10 +4,11 @@ use Prim.Native.Nat.{ℕ, zero, suc}
 use mathlib.Core.Bool.{false}
 use mathlib.Core.List.{List}
 use mathlib.Core.Option.{Option}
-use lib.ListN.{length, replicate}
+use lib.ListN.{length, replicate, getD}
 use Rattle.syntax.specs.Types.{Ty, num, TypeEntry, grow, tree}
 use Rattle.syntax.specs.Job.{Job}
 use Rattle.syntax.specs.Reading.{Read, refused, read, reading}
+use Rattle.syntax.specs.Tree.{past}
 use Rattle.syntax.specs.Words.{filled, nameWords, typeWords, setWords, valueWords, headWords, slotWords, entryIn}
 use Rattle.syntax.specs.WordLaws.{Bytes}
 use Rattle.typing.specs.Verdict as rules
@@ -53,11 +54,16 @@ unfoldable pub shapeFor : rules.Verdict → Read → Shape
 shapeFor (rules.accept T e) r = shapeRead r
 shapeFor (rules.refuse n) r = noShape
 
--- `check`: the verdict, the tables afterwards, and the counts of an accepted job
+-- the entry of the last of n expressions
+unfoldable pub lastIn : List ℕ → ℕ → ℕ
+lastIn entries n = getD entries (past n) 0
+
+-- `check`: the verdict, the tables afterwards, and the counts of an accepted job; the entry that an acceptance names is that of the last expression
 pub record CheckTo (bytes : List ℕ) (r : Checked) (w x : Tables) : Type 0 where
   pub verdict : verdictIn (x .types) (x .sets) (r .verdict) ≡ verdictWith w bytes
   pub tables : x ≡ tablesAfter w bytes
   pub shape : r .shape ≡ shapeFor (verdictWith w bytes) (reading bytes)
+  pub entry : (i s : ℕ) → r .verdict ≡ Accepted i s → i ≡ lastIn (x .entries) (r .shape .cmds)
 
 -- the tables as reading leaves them for the job J, with no entries and effects yet
 pub record Given (bytes : List ℕ) (J : Job) (g : Shape) (w : Tables) : Type 0 where

@@ -40,7 +40,7 @@ use Rattle.tree.specs.Filled.{filled-holds}
 use Rattle.checker.specs.declared.Verdict.{Verdict}
 use Rattle.checker.specs.declared.Verdict.the-variants.{Accepted, Refused}
 use Rattle.checker.specs.declared.Checked.{Checked}
-use Rattle.checker.specs.Answer.{tables, treeFrom, treeOf, verdictIn, noShape, refusedBy, shapeRead, shapeFor, CheckTo, Given, Judged, accepted, refused-by}
+use Rattle.checker.specs.Answer.{tables, treeFrom, treeOf, verdictIn, noShape, refusedBy, shapeRead, shapeFor, lastIn, CheckTo, Given, Judged, accepted, refused-by}
 
 -- Lengths
 
@@ -315,7 +315,11 @@ check-on {bytes} {r} {w} {x} {y} l h c =
       verdict = c .verdict ∙ v;
       tables = c .tables ∙ after-long x bytes k ∙ sym (kept-same (rules.verdictOf bytes) (reading bytes) w x l) ∙ sym (after-long w bytes h);
       shape = c .shape ∙ ap (λ (u : rules.Verdict). shapeFor u (reading bytes)) v;
+      entry = c .entry;
     }
+
+refused-not : {X : Type 0} {n p i s : ℕ} → Refused n p ≡ Accepted i s → X
+refused-not e = absurd (let z : _≡_ {A = ℕ} 0 1 = cc in omega arith)
 
 -- 1
 pub short-to : (bytes : List ℕ) (w : Tables) → short w ≡ true → CheckTo bytes (refusedBy 1 0) w w
@@ -325,6 +329,7 @@ short-to bytes w h =
       verdict = sym (ap (λ (b : Bool). cond b (rules.refuse (record { number = 1; place = 0 })) (rules.verdictOf bytes)) h);
       tables = sym (tables-short bytes w h);
       shape = sym (ap (λ (b : Bool). shapeFor (cond b (rules.refuse (record { number = 1; place = 0 })) (rules.verdictOf bytes)) (reading bytes)) h);
+      entry = λ i s e. refused-not e;
     }
 
 -- every other refusal
@@ -336,6 +341,7 @@ refused-to {bytes} {w} {x} {y} {n} {p} l h v c =
       verdict = sym z;
       tables = c ∙ sym (cleared-same w x l) ∙ sym (tables-refused bytes w h _ v);
       shape = sym (ap (λ (u : rules.Verdict). shapeFor u (reading bytes)) z);
+      entry = λ i s e. refused-not e;
     }
 
 pub judged-refused : {bytes : List ℕ} {J : Job} {v : Verdict} {x : Tables} {n p : ℕ} → Judged bytes J v x → v ≡ Refused n p → rules.verdictOf bytes ≡ rules.refuse (record { number = n; place = p })
@@ -350,6 +356,11 @@ judged-refused (refused-by m o x f) q = f ∙ (λ i. rules.refuse (record { numb
     place (Accepted i s) = 0
     place (Refused k l) = l
 
+-- the entry of the last expression stands in the table
+last-entry : (J : Job) (σ : Sofar) (g : Shape) (l : List ℕ) (k : ℕ) → g ≡ shapeOf J → l ≡ filled k 0 (σ .of) → lastEntry J σ ≡ lastIn l (g .cmds)
+unfolding lastIn lastOf shapeOf
+last-entry J σ g l k m n = rw (m, n) (sym (filled-at k (σ .of) (past (length (J .cmds)))))
+
 -- an acceptance
 pub accepted-to : {bytes : List ℕ} {J : Job} {v : Verdict} {g : Shape} {w x : Tables} {t u : ℕ} → reading bytes ≡ read J → g ≡ shapeOf J → Lengths w x → short w ≡ false → Judged bytes J v x → v ≡ Accepted t u
     → CheckTo bytes (record { verdict = Accepted t u; shape = g }) w x
@@ -360,8 +371,13 @@ accepted-to {bytes} {J} {g = g} {w} q m l h (accepted k σ x i s a b c d e f) z 
       verdict = unfold verdictIn in trees ∙ sym whole-verdict;
       tables = c ∙ sym (from-same J σ w x l) ∙ sym (tables-accepted (jobOps k) (λ K j. agree k j) bytes J q w h σ a f);
       shape = unfold shapeFor shapeRead in m ∙ sym (ap (λ (r : Read). shapeRead r) q) ∙ sym (ap (λ (y : rules.Verdict). shapeFor y (reading bytes)) whole-verdict);
+      entry = λ j o y. ap number (sym y) ∙ d ∙ last-entry J σ g (x .entries) (length (x .entries)) m (unfold filledFrom in ap (λ (y : Tables). y .entries) c);
     })
   where
+    number : Verdict → ℕ
+    number (Accepted j o) = j
+    number (Refused j o) = 0
+
     whole-verdict : verdictWith w bytes ≡ rules.accept (tree (σ .entries) i) s
     whole-verdict = with-long w bytes h ∙ f
 

@@ -26,3 +26,4 @@ pub mod Safety
 pub mod Demand3
 pub mod KeyLaws
 pub mod RunLaws
+pub mod StartingLaws

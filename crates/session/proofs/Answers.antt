@@ -8,7 +8,7 @@ use lib.ListN.{length, drop}
 use lib.Dec.{leb}
 use borrow.Author.Tests.{le-leb, lt-leb}
 use Rattle.syntax.specs.Types.{Ty}
-use Rattle.syntax.specs.Reading.{Refusal}
+use Rattle.syntax.specs.Reading.{Refusal, Read, read}
 use Rattle.syntax.specs.Job.{Job, sourceOf}
 use Rattle.syntax.specs.Commands.{Cmd}
 use Rattle.syntax.specs.Words.{codeIn}
@@ -23,8 +23,11 @@ use Rattle.calls.specs.Words.{callsIn, resultWords, over}
 use Rattle.calls.specs.Laws.{over-fits, result-length}
 use Rattle.calls.specs.Made.{Made}
 use Rattle.checker.specs.declared.Checked.{Checked}
+use Rattle.checker.specs.declared.Verdict.{Verdict as Answer}
 use Rattle.checker.specs.declared.Verdict.the-variants as verdicts
-use Rattle.checker.specs.Answer.{verdictIn, CheckTo}
+use Rattle.checker.specs.Answer.{verdictIn, lastIn, CheckTo}
+use Rattle.job.specs.declared.Shape.{Shape}
+use Rattle.job.specs.Answer.{shapeOf}
 use Rattle.begin.specs.Starts.{Ready}
 use Rattle.accepting.specs.Accepting.{Accepting, accepting}
 use Rattle.session.specs.Session.{roomFor, sessionVerdict, sessionTables, Answered, SessionTo}
@@ -49,6 +52,7 @@ session-short bytes ws a w h =
     record {
       verdict = rw (room-no ws a h);
       tables = rw (room-no ws a h);
+      entry = λ i s e J q. absurd (let z : _≡_ {A = ℕ} 0 1 = cc in omega arith);
       refused = λ q e. refl;
       accepted = λ T s e. absurd (let f : refuse (record { number = 1; place = 0 }) ≡ accept T s = rw (room-no ws a h) at e in let z : _≡_ {A = ℕ} 0 1 = cc in omega arith);
     }
@@ -70,6 +74,7 @@ session-refused bytes ws a r w x n p h c v =
     record {
       verdict = e ∙ sym b;
       tables = c .tables ∙ tables-room bytes ws a w h;
+      entry = λ i s k J q. absurd (let z : _≡_ {A = ℕ} 0 1 = cc in omega arith);
       refused = λ q k. refl;
       accepted = λ T s k. absurd (let z : _≡_ {A = ℕ} 0 1 = cc in omega arith);
     }
@@ -84,17 +89,26 @@ never : {A : Type 0} (t u : List ℕ) (i s : ℕ) (q : Refusal) → verdictIn t 
 unfolding verdictIn
 never t u i s q k = absurd (let z : _≡_ {A = ℕ} 0 1 = cc in omega arith)
 
+counted : (l : List ℕ) (J K : Job) → read J ≡ read K → lastIn l (shapeOf J .cmds) ≡ lastIn l (length (K .cmds))
+unfolding shapeOf
+counted l J K e = let z : J ≡ K = cc in ap (λ (L : Job). lastIn l (length (L .cmds))) z
+
 pub session-accepted : (bytes ws a b : List ℕ) (r : Checked) (w x : Tables) (i s : ℕ) → length ws ≤ length a / 2 → CheckTo bytes r w x → r .verdict ≡ verdicts.Accepted i s
     → ((J : Job) → Ready J (r .shape) (x .names) (x .types) (x .values) → ((k : ℕ) → codeIn (x .heads) (x .slots) k ≡ exprOf J k) → b ≡ over a (resultWords (callsOf J (callsIn ws))))
     → Bytes bytes → SessionTo bytes ws (verdicts.Accepted i s) w x a b
 session-accepted bytes ws a b r w x i s h c v f by = go (accepting bytes by r w x i s c v)
   where
+    number : Answer → ℕ
+    number (verdicts.Accepted j t) = j
+    number (verdicts.Refused j t) = 0
+
     go : {T : Ty} → Accepting bytes (r .shape) T s x → SessionTo bytes ws (verdicts.Accepted i s) w x a b
     go y =
         let e : verdictIn (x .types) (x .sets) (verdicts.Accepted i s) ≡ verdictWith w bytes = sym (ap (verdictIn (x .types) (x .sets)) v) ∙ c .verdict in
         record {
           verdict = e ∙ sym (with-room bytes ws a w h);
           tables = c .tables ∙ tables-room bytes ws a w h;
+          entry = λ j t k J q. ap number (sym k) ∙ c .entry i s v ∙ ap (λ (g : Shape). lastIn (x .entries) (g .cmds)) (y .ready .shape) ∙ counted (x .entries) (y .job) J (sym (y .is) ∙ q);
           refused = λ q k. never (x .types) (x .sets) i s q (e ∙ sym (with-room bytes ws a w h) ∙ k);
           accepted =
               λ T t k. record {

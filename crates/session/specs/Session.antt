@@ -15,7 +15,8 @@ use Rattle.semantics.specs.Calls.{Ran}
 use Rattle.semantics.specs.Demand3.{callsOf, Allowed}
 use Rattle.calls.specs.Words.{callsIn, resultWords}
 use Rattle.checker.specs.declared.Verdict.{Verdict as Answer}
-use Rattle.checker.specs.Answer.{verdictIn}
+use Rattle.checker.specs.declared.Verdict.the-variants.{Accepted}
+use Rattle.checker.specs.Answer.{verdictIn, lastIn}
 
 -- the answers have two places for each call
 unfoldable pub roomFor : List ℕ → List ℕ → Bool
@@ -43,5 +44,7 @@ pub record Answered (bytes words before after : List ℕ) : Type 0 where
 pub record SessionTo (bytes words : List ℕ) (r : Answer) (w x : Tables) (before after : List ℕ) : Type 0 where
   pub verdict : verdictIn (x .types) (x .sets) r ≡ sessionVerdict (roomFor words before) w bytes
   pub tables : x ≡ sessionTables (roomFor words before) w bytes
+  -- the entry that an acceptance names is that of the last expression
+  pub entry : (i s : ℕ) → r ≡ Accepted i s → (J : Job) → reading bytes ≡ read J → i ≡ lastIn (x .entries) (length (J .cmds))
   pub refused : (q : Refusal) → sessionVerdict (roomFor words before) w bytes ≡ refuse q → after ≡ before
   pub accepted : (T : Ty) (e : Effect) → sessionVerdict (roomFor words before) w bytes ≡ accept T e → Answered bytes words before after

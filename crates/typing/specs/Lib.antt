@@ -22,3 +22,4 @@ pub mod NumberedWords
 pub mod NumberedVerdict
 pub mod EntryLaws
 pub mod Reported
+pub mod RefusalLaws
