@@ -1,18 +1,15 @@
 -- The machine of a job's start, from the tables that hold the job.
-use mathlib.Core.Path.{_≡_, refl, sym, ap, _∙_}
-use Prim.Native.Nat.{ℕ, zero, suc, _-_, _≤_, _<_}
+use mathlib.Core.Path.{_≡_, sym, ap, _∙_}
+use Prim.Native.Nat.{ℕ, _-_, _≤_}
 use native.Mathlib.Omega.{arith}
-use mathlib.Core.Bool.{Bool, true, false, cond}
-use mathlib.Core.List.{List, [], _∷_, map}
+use mathlib.Core.List.{List, []}
 use lib.ListN.{length, length-map}
-use lib.Dec.{ltb}
-use borrow.Author.Tests.{ltb-false, lt-ltb}
 use Rattle.syntax.specs.Job.{Job, Src, sourceOf}
-use Rattle.syntax.specs.Tree.{root, past}
-use Rattle.semantics.specs.Machine.{Value, Two, Closure, Link, Frame, Control, enter, Thread, Store, Machine as Clean}
-use Rattle.semantics.specs.Start.{startOf, named, valued}
-use Rattle.store.specs.Meaning.{keysIn}
-use Rattle.store.specs.Tables.{capped, listOf, stackOf}
+use Rattle.syntax.specs.Tree.{root}
+use Rattle.syntax.specs.Context.{past-minus}
+use Rattle.semantics.specs.Machine.{Value, Two, Closure, Link, Frame, Control, enter, Machine as Clean}
+use Rattle.semantics.specs.Start.{startOf, valued}
+use Rattle.store.specs.Tables.{listOf, stackOf}
 use Rattle.store.specs.Words.{linkIn}
 use Rattle.store.proofs.Laws.{list-length}
 use Rattle.machine.specs.declared.Control.the-variants.{Enter}
@@ -20,6 +17,7 @@ use Rattle.machine.specs.View.{view, tables}
 use Rattle.start.specs.declared.Started.{Started}
 use Rattle.start.specs.Begun.{Begins, Begun, Holds}
 use Rattle.start.specs.Held.{filled-holds}
+use Rattle.start.proofs.Jobs.{capped-le}
 use Rattle.job.specs.declared.Shape.{Shape}
 use Rattle.job.specs.Answer.{shapeOf}
 use Rattle.tree.specs.Holds as tree
@@ -27,13 +25,6 @@ use Rattle.tree.specs.Filled as tree-filled
 use Rattle.begin.specs.Starts.{Lent, Ready, Built}
 use Rattle.machine.specs.declared.Machine.{Machine}
 use Rattle.machine.specs.View.{seen}
-
-capped-le : (n m : ℕ) → n ≤ m → capped n m ≡ n
-capped-le n m h = at (ltb n m) refl
-  where
-    at : (b : Bool) → ltb n m ≡ b → cond b n m ≡ n
-    at true e = refl
-    at false e = let k : m ≡ n = omega (arith, ltb-false n m e) in k
 
 -- a machine from its parts
 abbrev parts : Control → ℕ → ℕ → List Frame → List Value → List ℕ → List Two → List Closure → List Link → Clean
@@ -58,12 +49,8 @@ started S b g hk hc hb e he fr pa fu =
     (rw (capped-le (b .nbindings) 1024 (omega arith)) (g .bindings))
 
 pub root-is : (S : Src) (cmds e : ℕ) → cmds ≡ length (S .cmds) → cmds ≤ 512 → (cmds ≤ 512 → e ≡ cmds - 1) → e ≡ root S
-unfolding root past
-root-is S cmds e h k f = f k ∙ ap (λ (n : ℕ). n - 1) h ∙ back (length (S .cmds))
-  where
-    back : (n : ℕ) → n - 1 ≡ past n
-    back zero = refl
-    back (suc n) = let z : suc n - 1 ≡ n = omega arith in z
+unfolding root
+root-is S cmds e h k f = f k ∙ ap (λ (n : ℕ). n - 1) h ∙ past-minus (length (S .cmds))
 
 pub start-holds : {J : Job} {g : Shape} {n t s v h p : List ℕ} {kn kt ks kv kh kp : ℕ} → Lent J g n t s v h p kn kt ks kv kh kp → Holds J n (g .names) t v (g .values) (g .rights)
 unfolding shapeOf

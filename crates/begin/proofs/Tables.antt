@@ -1,35 +1,65 @@
--- The tables after a start, by what reading and the tree say.
-use mathlib.Core.Path.{_≡_, refl, sym, ap, _∙_, subst}
+-- The answer and the tables of a start, by what reading and the tree say.
+use mathlib.Core.Path.{_≡_, refl, sym, ap, _∙_}
 use Prim.Native.Nat.{ℕ}
 use native.Mathlib.Omega.{arith}
-use mathlib.Core.Bool.{Bool, true, false, cond}
+use mathlib.Core.Bool.{Bool, true, false, cond, not}
 use mathlib.Core.List.{List}
 use mathlib.Core.Option.{Option, none, some}
 use lib.ListN.{length, replicate}
+use lib.Dec.{ltb, leb}
+use borrow.Author.Tests.{leb-true, leb-false, lt-ltb, le-ltb}
+use Rattle.order.specs.Bools.{_or_}
 use Rattle.syntax.specs.Job.{Job, sourceOf}
-use Rattle.syntax.specs.Words.{filled, nameWords, typeWords, setWords, valueWords, headWords, slotWords}
+use Rattle.syntax.specs.Words.{nameWords, typeWords, setWords, valueWords, headWords, slotWords}
 use Rattle.syntax.specs.Reading.{Refusal, Read, refused, read, reading}
 use Rattle.syntax.specs.ReadLaws.{JobOk, read-ok}
 use Rattle.syntax.specs.WordLaws.{Bytes, job-fits}
 use Rattle.syntax.specs.Tree.{treeRefusal}
+use Rattle.typing.specs.Tables.{zeros}
+use Rattle.semantics.specs.Machine.{Machine as Clean}
 use Rattle.semantics.specs.Start.{startOf}
+use Rattle.semantics.specs.Starting.{Started, unless, startRead, starting, JobTables, short, startWith, cleared, filledBy, filledRead, keptOn, tablesAfterStart}
 use Rattle.machine.specs.declared.Machine.{Machine}
 use Rattle.machine.specs.View.{seen}
 use Rattle.job.specs.declared.Shape.{Shape}
 use Rattle.job.specs.declared.Refusal.{Refusal as Refused}
 use Rattle.job.specs.declared.Answer.{Answer}
 use Rattle.job.specs.declared.Answer.the-variants as answers
-use Rattle.job.specs.Answer.{longTables, shapeOf, answerOf, refusedBy, tableOf, afterOf, ReadTo, Holds, Zeroed}
+use Rattle.job.specs.Answer.{longEnough, longTables, shapeOf, answerOf, refusedBy, tableOf, afterOf, ReadTo, Holds, Zeroed}
 use Rattle.tree.specs.declared.Expr.{Expr}
 use Rattle.tree.specs.declared.Answer.{Answer as TreeAnswer}
 use Rattle.tree.specs.declared.Answer.the-variants as trees
 use Rattle.tree.specs.Answer.{refusalOf}
 use Rattle.tree.specs.Holds as tree
 use Rattle.begin.specs.declared.Opened.{Opened}
-use Rattle.begin.specs.declared.Told.{Told}
 use Rattle.begin.specs.declared.Told.the-variants as told
-use Rattle.begin.specs.Starts.{startRefusal, startWith, toldIn, zeroIf, startTable, Starts, Judged, Lent}
+use Rattle.begin.specs.Starts.{jobTables, Starts, clearedIf, Judged, Lent}
 use Rattle.begin.proofs.Building.{tree-holds}
+
+-- 1: some table is short where not all are long enough
+not-all : (a b c d e f : Bool) → (not a or not b or not c or not d or not e or not f) ≡ not (cond a (cond b (cond c (cond d (cond e f false) false) false) false) false)
+unfolding _or_
+not-all false b c d e f = refl
+not-all true false c d e f = refl
+not-all true true false d e f = refl
+not-all true true true false e f = refl
+not-all true true true true false f = refl
+not-all true true true true true f = refl
+
+shorter : (n most : ℕ) → ltb n most ≡ not (leb most n)
+shorter n most = at (leb most n) refl
+  where
+    at : (b : Bool) → leb most n ≡ b → ltb n most ≡ not b
+    at true e = le-ltb n most (leb-true most n e)
+    at false e = lt-ltb n most (leb-false most n e)
+
+module _ (n t s v h p : List ℕ) where
+  short-is : short (jobTables n t s v h p) ≡ not (longTables n t s v h p)
+  unfolding short longEnough
+  short-is =
+      (λ i.
+      shorter (length n) 64 i or shorter (length t) 2304 i or shorter (length s) 2304 i or shorter (length v) 64 i or shorter (length h) 512 i or shorter (length p) 2560 i)
+      ∙ not-all (leb 64 (length n)) (leb 2304 (length t)) (leb 2304 (length s)) (leb 64 (length v)) (leb 512 (length h)) (leb 2560 (length p))
 
 -- a job is read
 record JobRead (b : Bool) (R : Read) (g : Shape) : Type 0 where
@@ -44,114 +74,102 @@ job-read false R g e = absurd (let z : _≡_ {A = ℕ} 0 1 = cc in omega arith)
 job-read true (refused r) g e = absurd (let z : _≡_ {A = ℕ} 0 1 = cc in omega arith)
 job-read true (read J) g e = record { job = J; long = refl; is = refl; shape = cc }
 
-after-read : {b : Bool} {R : Read} (J : Job) (words : Job → List ℕ) (t : List ℕ) → b ≡ true → R ≡ read J → afterOf b words R t ≡ filled (length t) 0 (words J)
-unfolding afterOf tableOf
-after-read J words t e f = rw (e, f)
+-- the answer and the tables of a job that is read, by its tree
+answer-read : (w : JobTables) (bytes : List ℕ) (J : Job) → short w ≡ false → reading bytes ≡ read J → startWith w bytes ≡ unless (treeRefusal (sourceOf J)) (startOf (sourceOf J))
+unfolding startWith starting startRead
+answer-read w bytes J e f = rw (e, f)
 
-start-read : {b : Bool} {R : Read} (J : Job) (words : Job → List ℕ) (t : List ℕ) → b ≡ true → R ≡ read J
-    → startTable b words R t ≡ zeroIf (treeRefusal (sourceOf J)) (length t) (filled (length t) 0 (words J))
-unfolding startTable
-start-read J words t e f = rw (e, f)
+tables-read : (w : JobTables) (bytes : List ℕ) (J : Job) → short w ≡ false → reading bytes ≡ read J
+    → tablesAfterStart w bytes ≡ keptOn (unless (treeRefusal (sourceOf J)) (startOf (sourceOf J))) (read J) w
+unfolding tablesAfterStart starting startRead
+tables-read w bytes J e f = rw (e, f)
 
-with-read : {b : Bool} {R : Read} (J : Job) → b ≡ true → R ≡ read J → startWith b R ≡ treeRefusal (sourceOf J)
-unfolding startWith startRefusal
-with-read J e f = rw (e, f)
+kept-read : (o : Option Refusal) (m : Clean) (J : Job) (w x : JobTables) → x ≡ filledBy J w → cleared x ≡ cleared w → clearedIf o x ≡ keptOn (unless o m) (read J) w
+unfolding clearedIf keptOn unless filledRead
+kept-read none m J w x e f = e
+kept-read (some r) m J w x e f = f
 
--- one table: `t` before, `u` when the job is read, `v` when its tree is judged
-one : {b : Bool} {R : Read} (J : Job) (words : Job → List ℕ) (t u v : List ℕ) → b ≡ true → R ≡ read J → u ≡ afterOf b words R t → length u ≡ length t
-    → v ≡ zeroIf (treeRefusal (sourceOf J)) (length u) u → v ≡ startTable b words R t
-one J words t u v e f x l y =
-    y ∙ ap (λ (k : ℕ). zeroIf (treeRefusal (sourceOf J)) k u) l ∙ ap (λ z. zeroIf (treeRefusal (sourceOf J)) (length t) z) (x ∙ after-read J words t e f) ∙ sym (start-read J words t e f)
+module _ {bytes n t s v h p n' t' s' v' h' p' : List ℕ} {a : Answer} (x : ReadTo bytes a n t s v h p n' t' s' v' h' p') where
+  -- the tables after reading
+  read-to : (b : Bool) (R : Read) → longTables n t s v h p ≡ b → reading bytes ≡ R
+      → jobTables n' t' s' v' h' p'
+      ≡ jobTables (afterOf b nameWords R n) (afterOf b (λ J. typeWords (J .types)) R t) (afterOf b (λ J. setWords (J .types)) R s) (afterOf b valueWords R v) (afterOf b headWords R h) (afterOf b slotWords R p)
+  read-to b R l i =
+      (λ k. jobTables (x .names k) (x .types k) (x .sets k) (x .values k) (x .heads k) (x .slots k))
+      ∙ (λ k.
+      jobTables (afterOf (l k) nameWords (i k) n) (afterOf (l k) (λ J. typeWords (J .types)) (i k) t) (afterOf (l k) (λ J. setWords (J .types)) (i k) s) (afterOf (l k) valueWords (i k) v)
+      (afterOf (l k) headWords (i k) h) (afterOf (l k) slotWords (i k) p))
 
-pub start-job : (bytes : List ℕ) (a : Answer) (g : Shape) (r : Opened) (n t s v h p n' t' s' v' h' p' n″ t″ s″ v″ h″ p″ : List ℕ)
-    → ReadTo bytes a n t s v h p n' t' s' v' h' p' → a ≡ answers.Job g
-    → length n' ≡ length n → length t' ≡ length t → length s' ≡ length s → length v' ≡ length v → length h' ≡ length h → length p' ≡ length p
-    → ((J : Job) (kn kt ks kv kh kp : ℕ) → Lent J g n' t' s' v' h' p' kn kt ks kv kh kp → Judged J r n' t' s' v' h' p' n″ t″ s″ v″ h″ p″)
-    → Bytes bytes → Starts bytes r n t s v h p n″ t″ s″ v″ h″ p″
-start-job bytes a g r n t s v h p n' t' s' v' h' p' n″ t″ s″ v″ h″ p″ x e ln lt ls lv lh lp f by =
-    go (job-read (longTables n t s v h p) (reading bytes) g (sym e ∙ x .answer))
-  where
-    go : JobRead (longTables n t s v h p) (reading bytes) g → Starts bytes r n t s v h p n″ t″ s″ v″ h″ p″
-    go y =
-        let J = y .job in
-        let i = y .is in
-        let b = y .long in
-        let w =
-        f J (length n) (length t) (length s) (length v) (length h) (length p)
-        (record {
-          ok = read-ok bytes J i;
-          fits = job-fits bytes J by i;
-          shape = y .shape;
-          holds =
-              record {
-                names = x .names ∙ after-read J nameWords n b i;
-                types = x .types ∙ after-read J (λ K. typeWords (K .types)) t b i;
-                sets = x .sets ∙ after-read J (λ K. setWords (K .types)) s b i;
-                values = x .values ∙ after-read J valueWords v b i;
-                heads = x .heads ∙ after-read J headWords h b i;
-                slots = x .slots ∙ after-read J slotWords p b i;
-              };
-        }) in
-        record {
-          answer = w .answer ∙ sym (with-read J b i);
-          machine = λ K k o. let z : J ≡ K = cc in subst (λ j. seen (r .machine) ≡ startOf (sourceOf j)) z (w .machine o);
-          names = one J nameWords n n' n″ b i (x .names) ln (w .names);
-          types = one J (λ K. typeWords (K .types)) t t' t″ b i (x .types) lt (w .types);
-          sets = one J (λ K. setWords (K .types)) s s' s″ b i (x .sets) ls (w .sets);
-          values = one J valueWords v v' v″ b i (x .values) lv (w .values);
-          heads = one J headWords h h' h″ b i (x .heads) lh (w .heads);
-          slots = one J slotWords p p' p″ b i (x .slots) lp (w .slots);
-        }
+  pub start-job : (g : Shape) (r : Opened) (y : JobTables) → a ≡ answers.Job g
+      → length n' ≡ length n → length t' ≡ length t → length s' ≡ length s → length v' ≡ length v → length h' ≡ length h → length p' ≡ length p
+      → ((J : Job) (kn kt ks kv kh kp : ℕ) → Lent J g n' t' s' v' h' p' kn kt ks kv kh kp → Judged J r (jobTables n' t' s' v' h' p') y)
+      → Bytes bytes → Starts bytes r (jobTables n t s v h p) y
+  unfolding afterOf tableOf filledBy cleared zeros
+  start-job g r y e ln lt ls lv lh lp f by = go (job-read (longTables n t s v h p) (reading bytes) g (sym e ∙ x .answer))
+    where
+      go : JobRead (longTables n t s v h p) (reading bytes) g → Starts bytes r (jobTables n t s v h p) y
+      go z =
+          let J = z .job in
+          let is : jobTables n' t' s' v' h' p' ≡ filledBy J (jobTables n t s v h p) = read-to true (read J) (z .long) (z .is) in
+          let none-short : short (jobTables n t s v h p) ≡ false = short-is n t s v h p ∙ ap not (z .long) in
+          let same : cleared (jobTables n' t' s' v' h' p') ≡ cleared (jobTables n t s v h p) =
+          λ k. jobTables (replicate (ln k) 0) (replicate (lt k) 0) (replicate (ls k) 0) (replicate (lv k) 0) (replicate (lh k) 0) (replicate (lp k) 0) in
+          let w =
+          f J (length n) (length t) (length s) (length v) (length h) (length p)
+          (record {
+            ok = read-ok bytes J (z .is);
+            fits = job-fits bytes J by (z .is);
+            shape = z .shape;
+            holds =
+                record {
+                  names = ap (λ u. u .names) is;
+                  types = ap (λ u. u .types) is;
+                  sets = ap (λ u. u .sets) is;
+                  values = ap (λ u. u .values) is;
+                  heads = ap (λ u. u .heads) is;
+                  slots = ap (λ u. u .slots) is;
+                };
+          }) in
+          record {
+            answer = w .answer ∙ sym (answer-read (jobTables n t s v h p) bytes J none-short (z .is));
+            tables = w .tables ∙ kept-read (treeRefusal (sourceOf J)) (startOf (sourceOf J)) J _ _ is same ∙ sym (tables-read (jobTables n t s v h p) bytes J none-short (z .is));
+          }
 
--- reading refuses
-record Denied (b : Bool) (R : Read) (q : Refused) : Type 0 where
-  pub answer : some (record { number = q .number; place = q .place }) ≡ startWith b R
-  pub table : (words : Job → List ℕ) (t : List ℕ) → afterOf b words R t ≡ startTable b words R t
-
-denied : (b : Bool) (R : Read) (q : Refused) → answers.Refused q ≡ cond b (answerOf R) (refusedBy 1 0) → Denied b R q
-unfolding answerOf afterOf tableOf startTable startWith startRefusal
-denied false R q e = let z : q ≡ record { number = 1; place = 0 } = cc in record { answer = rw z; table = λ words t. refl }
-denied true (refused r) q e = let z : q ≡ record { number = r .number; place = r .place } = cc in record { answer = rw z; table = λ words t. refl }
-denied true (read J) q e = absurd (let z : _≡_ {A = ℕ} 0 1 = cc in omega arith)
-
-pub start-refused : (bytes : List ℕ) (a : Answer) (q : Refused) (m : Machine) (n t s v h p n' t' s' v' h' p' : List ℕ) → ReadTo bytes a n t s v h p n' t' s' v' h' p' → a ≡ answers.Refused q
-    → Starts bytes (record { told = told.Refused (q .number) (q .place); machine = m }) n t s v h p n' t' s' v' h' p'
-start-refused bytes a q m n t s v h p n' t' s' v' h' p' x e =
-    let d = denied (longTables n t s v h p) (reading bytes) q (sym e ∙ x .answer) in
-    record {
-      answer = d .answer;
-      machine = λ J i o. absurd (let z : _≡_ {A = ℕ} 0 1 = cc in omega arith);
-      names = x .names ∙ d .table nameWords n;
-      types = x .types ∙ d .table (λ K. typeWords (K .types)) t;
-      sets = x .sets ∙ d .table (λ K. setWords (K .types)) s;
-      values = x .values ∙ d .table valueWords v;
-      heads = x .heads ∙ d .table headWords h;
-      slots = x .slots ∙ d .table slotWords p;
-    }
+  -- reading refuses
+  pub start-refused : (q : Refused) (m : Machine) → a ≡ answers.Refused q
+      → Starts bytes (record { told = told.Refused (q .number) (q .place); machine = m }) (jobTables n t s v h p) (jobTables n' t' s' v' h' p')
+  unfolding answerOf afterOf tableOf startWith starting startRead tablesAfterStart keptOn cleared zeros
+  start-refused q m e = go (longTables n t s v h p) (reading bytes) refl refl (sym e ∙ x .answer)
+    where
+      go : (b : Bool) (R : Read) → longTables n t s v h p ≡ b → reading bytes ≡ R → answers.Refused q ≡ cond b (answerOf R) (refusedBy 1 0)
+          → Starts bytes (record { told = told.Refused (q .number) (q .place); machine = m }) (jobTables n t s v h p) (jobTables n' t' s' v' h' p')
+      go false R l i z =
+          let y : q ≡ record { number = 1; place = 0 } = cc in
+          let all-short : short (jobTables n t s v h p) ≡ true = short-is n t s v h p ∙ ap not l in
+          record { answer = rw (all-short, y); tables = rw all-short (read-to false R l i) }
+      go true (refused r) l i z =
+          let y : q ≡ record { number = r .number; place = r .place } = cc in
+          let none-short : short (jobTables n t s v h p) ≡ false = short-is n t s v h p ∙ ap not l in
+          record { answer = rw (none-short, i, y); tables = rw (none-short, i) (read-to true (refused r) l i) }
+      go true (read J) l i z = absurd (let z : _≡_ {A = ℕ} 0 1 = cc in omega arith)
 
 -- what the tree checks say of the job that the tables hold
 abbrev pub Checked : TreeAnswer → Shape → List ℕ → List ℕ → List ℕ → List ℕ → List ℕ → Type 0
 Checked a g h p n t s = (J : Job) → JobOk J → tree.Holds J h p (g .cmds) n (g .names) t s (g .types) (g .values) → refusalOf a ≡ treeRefusal (sourceOf J)
 
-pub judged-tree : {J : Job} {g : Shape} {n t s v h p : List ℕ} {kn kt ks kv kh kp : ℕ} (a : TreeAnswer) (m : Machine) → Lent J g n t s v h p kn kt ks kv kh kp → Checked a g h p n t s → a ≡ trees.Tree
-    → seen m ≡ startOf (sourceOf J) → Judged J (record { told = told.Started; machine = m }) n t s v h p n t s v h p
-unfolding zeroIf
-judged-tree {J} {n = n} {t = t} {s = s} {v = v} {h = h} {p = p} a m l f e b =
-    let z : none ≡ treeRefusal (sourceOf J) = sym (ap refusalOf e) ∙ f J (l .ok) (tree-holds l) in
-    record { answer = z; machine = λ o. b; names = rw (sym z); types = rw (sym z); sets = rw (sym z); values = rw (sym z); heads = rw (sym z); slots = rw (sym z) }
+module _ {J : Job} {g : Shape} {n t s v h p : List ℕ} {kn kt ks kv kh kp : ℕ} (a : TreeAnswer) (m : Machine) (l : Lent J g n t s v h p kn kt ks kv kh kp) (f : Checked a g h p n t s) where
+  says : refusalOf a ≡ treeRefusal (sourceOf J)
+  says = f J (l .ok) (tree-holds l)
 
-pub judged-refused : {J : Job} {g : Shape} {n t s v h p : List ℕ} {kn kt ks kv kh kp : ℕ} (a : TreeAnswer) (m : Machine) (k : ℕ) (x : Expr) (n' t' s' v' h' p' : List ℕ) → Lent J g n t s v h p kn kt ks kv kh kp
-    → Checked a g h p n t s → a ≡ trees.Refused k x → Zeroed n t s v h p n' t' s' v' h' p' → Judged J (record { told = told.Refused k (x .0); machine = m }) n t s v h p n' t' s' v' h' p'
-unfolding zeroIf
-judged-refused {J} {n = n} {t = t} {s = s} {v = v} {h = h} {p = p} a m k x n' t' s' v' h' p' l f e y =
-    let z : some (record { number = k; place = x .0 }) ≡ treeRefusal (sourceOf J) = sym (ap refusalOf e) ∙ f J (l .ok) (tree-holds l) in
-    record {
-      answer = z;
-      machine = λ o. absurd (let z : _≡_ {A = ℕ} 0 1 = cc in omega arith);
-      names = rw (sym z) (y .names);
-      types = rw (sym z) (y .types);
-      sets = rw (sym z) (y .sets);
-      values = rw (sym z) (y .values);
-      heads = rw (sym z) (y .heads);
-      slots = rw (sym z) (y .slots);
-    }
+  pub judged-tree : a ≡ trees.Tree → seen m ≡ startOf (sourceOf J) → Judged J (record { told = told.Started; machine = m }) (jobTables n t s v h p) (jobTables n t s v h p)
+  unfolding unless clearedIf
+  judged-tree e b =
+      let z : none ≡ treeRefusal (sourceOf J) = sym (ap refusalOf e) ∙ says in
+      record { answer = rw (sym z, b); tables = rw (sym z) }
+
+  pub judged-refused : (k : ℕ) (x : Expr) (n' t' s' v' h' p' : List ℕ) → a ≡ trees.Refused k x → Zeroed n t s v h p n' t' s' v' h' p'
+      → Judged J (record { told = told.Refused k (x .0); machine = m }) (jobTables n t s v h p) (jobTables n' t' s' v' h' p')
+  unfolding unless clearedIf cleared zeros
+  judged-refused k x n' t' s' v' h' p' e y =
+      let z : some (record { number = k; place = x .0 }) ≡ treeRefusal (sourceOf J) = sym (ap refusalOf e) ∙ says in
+      record { answer = rw (sym z); tables = rw (sym z) (λ i. jobTables (y .names i) (y .types i) (y .sets i) (y .values i) (y .heads i) (y .slots i)) }

@@ -14,7 +14,7 @@ ghost use Rattle.syntax.specs.Job.{Job, sourceOf};
 ghost use Rattle.semantics.specs.Start.{startOf};
 ghost use Rattle.machine.specs.View.{seen};
 ghost use Rattle.job.specs.Answer.{Zeroed};
-ghost use Rattle.begin.specs.Starts.{Starts, Judged, Lent, Ready, Built};
+ghost use Rattle.begin.specs.Starts.{jobTables, Starts, Judged, Lent, Ready, Built};
 
 // The job is started, or refused with a number and a place.
 pub enum Told {
@@ -22,7 +22,7 @@ pub enum Told {
     Refused(u8, usize),
 }
 
-// What starting a job gives. The machine of a refused job is an empty one.
+// What starting a job gives. The paper leaves the machine of a refused job free, and so does the contract.
 pub struct Opened {
     pub told: Told,
     pub machine: Machine,
@@ -55,11 +55,11 @@ fn machine_of(b: Started, cmds: usize) -> Machine
     let t = Thread {
         now: n,
         frames: 0,
-        cells: b.ncells,
-        keys: b.nkeys,
+        cells: b.ncells as u64,
+        keys: b.nkeys as u64,
         pairs: 0,
         functions: 0,
-        bindings: b.nbindings,
+        bindings: b.nbindings as u64,
     };
     let cells = b.cells;
     let keys = b.keys;
@@ -126,7 +126,7 @@ fn judged(
     heads: &mut [u64],
     slots: &mut [u16],
 ) -> Opened
-    ensures { λ r. ⌜ ((J : Job) (kn kt ks kv kh kp : ℕ) → Lent J g (now (names .entry)) (now (types .entry)) (now (sets .entry)) (now (values .entry)) (now (heads .entry)) (now (slots .entry)) kn kt ks kv kh kp → Judged J r (now (names .entry)) (now (types .entry)) (now (sets .entry)) (now (values .entry)) (now (heads .entry)) (now (slots .entry)) (now (names .exit)) (now (types .exit)) (now (sets .exit)) (now (values .exit)) (now (heads .exit)) (now (slots .exit))) ⌝ }
+    ensures { λ r. ⌜ ((J : Job) (kn kt ks kv kh kp : ℕ) → Lent J g (now (names .entry)) (now (types .entry)) (now (sets .entry)) (now (values .entry)) (now (heads .entry)) (now (slots .entry)) kn kt ks kv kh kp → Judged J r (jobTables (now (names .entry)) (now (types .entry)) (now (sets .entry)) (now (values .entry)) (now (heads .entry)) (now (slots .entry))) (jobTables (now (names .exit)) (now (types .exit)) (now (sets .exit)) (now (values .exit)) (now (heads .exit)) (now (slots .exit)))) ⌝ }
 {
     let a = tree::tree(
         heads,
@@ -169,7 +169,7 @@ pub fn start(
     heads: &mut [u64],
     slots: &mut [u16],
 ) -> Opened
-    ensures { λ r. ⌜ Starts (now (job .entry)) r (now (names .entry)) (now (types .entry)) (now (sets .entry)) (now (values .entry)) (now (heads .entry)) (now (slots .entry)) (now (names .exit)) (now (types .exit)) (now (sets .exit)) (now (values .exit)) (now (heads .exit)) (now (slots .exit)) ⌝ }
+    ensures { λ r. ⌜ Starts (now (job .entry)) r (jobTables (now (names .entry)) (now (types .entry)) (now (sets .entry)) (now (values .entry)) (now (heads .entry)) (now (slots .entry))) (jobTables (now (names .exit)) (now (types .exit)) (now (sets .exit)) (now (values .exit)) (now (heads .exit)) (now (slots .exit))) ⌝ }
 {
     let a = job::read(job, names, types, sets, values, heads, slots);
     match a {

@@ -1,15 +1,13 @@
 -- Numbers written one by one, a verdict in numbers, the room of a machine by the counts of its thread, and the two ways that a run ends.
-use mathlib.Core.Path.{_≡_, refl, sym, ap, _∙_}
+use mathlib.Core.Path.{_≡_, refl, sym, ap, _∙_, subst}
 use Prim.Native.Nat.{ℕ}
 use native.Mathlib.Omega.{arith}
 use mathlib.Core.List.{List, [], _∷_}
-use mathlib.Core.Option.{Option, none, some}
-use lib.ListN.{length, set}
-use lib.Seq.{sets}
+use lib.ListN.{set}
 use Rattle.syntax.specs.Commands.{Cmd}
 use Rattle.syntax.specs.Words.{codeIn}
-use Rattle.syntax.specs.Reading.{Refusal}
 use Rattle.semantics.specs.Machine.{Machine as Clean}
+use Rattle.semantics.specs.Starting.{JobTables, startWith}
 use Rattle.store.specs.Tables.{capped}
 use Rattle.store.specs.Words.{cellIn, pairIn, functionIn, linkIn, upIn}
 use Rattle.store.specs.Frames.{frameIn}
@@ -23,11 +21,11 @@ use Rattle.calls.specs.Made.{Made}
 use Rattle.begin.specs.declared.Told.{Told}
 use Rattle.begin.specs.declared.Told.the-variants as told
 use Rattle.begin.specs.declared.Opened.{Opened}
-use Rattle.begin.specs.Starts.{Starts, toldIn}
+use Rattle.begin.specs.Starts.{toldIn, Starts}
 use Rattle.checker.specs.declared.Verdict.{Verdict}
 use Rattle.checker.specs.declared.Verdict.the-variants as verdict
 use Rattle.capi.specs.Checks.{numberFor, outWords}
-use Rattle.capi.specs.Runs.{roomWords, countWords, numberOf, Goes, Stops, Runs}
+use Rattle.capi.specs.Runs.{roomWords, countWords, numberOf, Goes, Runs}
 
 pub counted : (t : Thread) (l : List ℕ) {l1 l2 l3 l4 l5 l6 : List ℕ} {a b c d e f : ℕ}
     → a ≡ capped (t .cells) 256 → b ≡ capped (t .keys) 128 → c ≡ capped (t .pairs) 512 → d ≡ capped (t .functions) 512 → e ≡ capped (t .frames) 256 → f ≡ capped (t .bindings) 1024
@@ -49,36 +47,31 @@ counts-are m =
 pub goes : {code : ℕ → Cmd ℕ} {words a a' k k' : List ℕ} {m : Clean} (last : Machine) → Made code words m a a' (seen last) → k' ≡ over k (countWords (last .thread)) → Goes code words m a a' k k'
 goes {k = k} last h e = record { last = seen last; made = h; rooms = e ∙ ap (λ (l : List ℕ). over k l) (counts-are last) }
 
-abbrev tagOf : Option Refusal → ℕ
-tagOf none = 0
-tagOf (some q) = 1
+module _ {bytes : List ℕ} {w x : JobTables} (o : Opened) (to : Starts bytes o w x) where
+  -- what the answer of the start stands for
+  outcome : {u : Told} → o .told ≡ u → startWith w bytes ≡ toldIn u (seen (o .machine))
+  outcome e = sym (to .answer) ∙ ap (λ (u : Told). toldIn u (seen (o .machine))) e
 
-abbrev placeOf : Option Refusal → ℕ
-placeOf none = 0
-placeOf (some q) = q .place
+  module _ {words a k k' : List ℕ} where
+    pub runs-started : {a' : List ℕ} → o .told ≡ told.Started → Goes (codeIn (x .heads) (x .slots)) words (seen (o .machine)) a a' k k' → Runs bytes 0 words w x a a' k k'
+    unfolding numberOf
+    runs-started {a'} e g =
+        record {
+          tables = to .tables;
+          number = sym (ap numberOf (outcome e));
+          goes = λ m z. let y : seen (o .machine) ≡ m = cc (sym (outcome e) ∙ z) in subst (λ (c : Clean). Goes (codeIn (x .heads) (x .slots)) words c a a' k k') y g;
+          stops = λ q z. absurd (let y : _≡_ {A = ℕ} 0 1 = cc (sym (outcome e) ∙ z) in omega arith);
+        }
 
-module _ {bytes words n t s v h p n' t' s' v' h' p' a k k' : List ℕ} (o : Opened) (to : Starts bytes o n t s v h p n' t' s' v' h' p') where
-  pub runs-started : {a' : List ℕ} → o .told ≡ told.Started → Goes (codeIn h' p') words (seen (o .machine)) a a' k k' → Runs bytes 0 words n t s v h p n' t' s' v' h' p' a a' k k'
-  unfolding numberOf
-  runs-started e g =
-      record {
-        opened = o;
-        starts = to;
-        number = sym (ap (λ (u : Told). numberOf (toldIn u)) e);
-        started = λ _. g;
-        refused = λ q z. absurd (let y : _≡_ {A = ℕ} 0 1 = sym (ap (λ (u : Told). tagOf (toldIn u)) e) ∙ ap tagOf z in omega arith);
-      }
-
-  pub runs-refused : (x y : ℕ) {r w : ℕ} → o .told ≡ told.Refused x y → r ≡ x → w ≡ y → k' ≡ set k 0 w → Runs bytes r words n t s v h p n' t' s' v' h' p' a a k k'
-  unfolding numberOf
-  runs-refused x y e c d z =
-      record {
-        opened = o;
-        starts = to;
-        number = c ∙ sym (ap (λ (u : Told). numberOf (toldIn u)) e);
-        started = λ g. absurd (let y : _≡_ {A = ℕ} 0 1 = sym (ap tagOf g) ∙ ap (λ (u : Told). tagOf (toldIn u)) e in omega arith);
-        refused = λ q g. record { answers = refl; rooms = z ∙ ap (λ (i : ℕ). set k 0 i) (d ∙ sym (ap (λ (u : Told). placeOf (toldIn u)) e) ∙ ap placeOf g) };
-      }
+    pub runs-refused : (n p : ℕ) {r d : ℕ} → o .told ≡ told.Refused n p → r ≡ n → d ≡ p → k' ≡ set k 0 d → Runs bytes r words w x a a k k'
+    unfolding numberOf
+    runs-refused n p {d = d} e c f z =
+        record {
+          tables = to .tables;
+          number = c ∙ sym (ap numberOf (outcome e));
+          goes = λ m y. absurd (let q : _≡_ {A = ℕ} 0 1 = cc (sym (outcome e) ∙ y) in omega arith);
+          stops = λ q y. let s : p ≡ q .place = cc (sym (outcome e) ∙ y) in record { answers = refl; rooms = z ∙ ap (λ (i : ℕ). set k 0 i) (f ∙ s) };
+        }
 
 two : (l : List ℕ) (a b : ℕ) {m k : List ℕ} → m ≡ set l 0 a → k ≡ set m 1 b → k ≡ over l (a ∷ b ∷ [])
 two l a b g h = h ∙ ap (λ (z : List ℕ). set z 1 b) g ∙ sets-over l (a ∷ b ∷ [])

@@ -1,20 +1,17 @@
 -- Running a job: it is started, and if that is not refused the calls are made on its machine.
-use mathlib.Core.Path.{_≡_, refl}
+use mathlib.Core.Path.{_≡_}
 use Prim.Native.Nat.{ℕ}
 use mathlib.Core.List.{List, [], _∷_}
-use mathlib.Core.Option.{Option, none, some}
 use lib.ListN.{length, set}
 use Rattle.syntax.specs.Commands.{Cmd}
 use Rattle.syntax.specs.Words.{codeIn}
 use Rattle.syntax.specs.Reading.{Refusal}
 use Rattle.semantics.specs.Machine.{Machine as Clean}
+use Rattle.semantics.specs.Starting.{Started, started, unstarted, JobTables, startWith, tablesAfterStart}
 use Rattle.store.specs.Tables.{capped}
 use Rattle.machine.specs.declared.Thread.{Thread}
-use Rattle.machine.specs.View.{seen}
 use Rattle.calls.specs.Words.{over}
 use Rattle.calls.specs.Made.{Made}
-use Rattle.begin.specs.declared.Opened.{Opened}
-use Rattle.begin.specs.Starts.{Starts, toldIn}
 
 -- the cells, keys, pairs, functions, frames and bindings that a machine uses
 unfoldable pub roomWords : Clean → List ℕ
@@ -25,9 +22,9 @@ unfoldable pub countWords : Thread → List ℕ
 countWords t = capped (t .cells) 256 ∷ capped (t .keys) 128 ∷ capped (t .pairs) 512 ∷ capped (t .functions) 512 ∷ capped (t .frames) 256 ∷ capped (t .bindings) 1024 ∷ []
 
 -- 0 if there is no refusal
-unfoldable pub numberOf : Option Refusal → ℕ
-numberOf none = 0
-numberOf (some q) = q .number
+unfoldable pub numberOf : Started → ℕ
+numberOf (started m) = 0
+numberOf (unstarted q) = q .number
 
 -- the calls `words` on machine m: a and a' are the answers before and after, k and k' the rooms
 pub record Goes (code : ℕ → Cmd ℕ) (words : List ℕ) (m : Clean) (a a' k k' : List ℕ) : Type 0 where
@@ -40,10 +37,9 @@ pub record Stops (q : Refusal) (a a' k k' : List ℕ) : Type 0 where
   pub answers : a' ≡ a
   pub rooms : k' ≡ set k 0 (q .place)
 
--- the answer r to `bytes` with the lent tables n t s v h p, which are n' t' s' v' h' p' afterwards, and the calls `words` with the answers and rooms
-pub record Runs (bytes : List ℕ) (r : ℕ) (words n t s v h p n' t' s' v' h' p' a a' k k' : List ℕ) : Type 0 where
-  pub opened : Opened
-  pub starts : Starts bytes opened n t s v h p n' t' s' v' h' p'
-  pub number : r ≡ numberOf (toldIn (opened .told))
-  pub started : toldIn (opened .told) ≡ none → Goes (codeIn h' p') words (seen (opened .machine)) a a' k k'
-  pub refused : (q : Refusal) → toldIn (opened .told) ≡ some q → Stops q a a' k k'
+-- the answer r to `bytes` with the lent tables w, which are x afterwards, and the calls `words` with the answers and rooms
+pub record Runs (bytes : List ℕ) (r : ℕ) (words : List ℕ) (w x : JobTables) (a a' k k' : List ℕ) : Type 0 where
+  pub tables : x ≡ tablesAfterStart w bytes
+  pub number : r ≡ numberOf (startWith w bytes)
+  pub goes : (m : Clean) → startWith w bytes ≡ started m → Goes (codeIn (x .heads) (x .slots)) words m a a' k k'
+  pub stops : (q : Refusal) → startWith w bytes ≡ unstarted q → Stops q a a' k k'

@@ -9,6 +9,7 @@ ghost use Rattle.syntax.specs.Words.{codeIn};
 ghost use Rattle.store.specs.Tables.{capped};
 ghost use Rattle.machine.specs.View.{seen};
 ghost use Rattle.calls.specs.Words.{over};
+ghost use Rattle.begin.specs.Starts.{jobTables};
 ghost use Rattle.checker.specs.Answer.{tables};
 ghost use Rattle.capi.specs.Checks.{numberFor, outWords, Checks};
 ghost use Rattle.capi.specs.Runs.{countWords, Goes, Runs};
@@ -41,13 +42,13 @@ fn put(s: &mut [u64], i: usize, x: u64)
 }
 
 // n, and never more than there are places.
-fn in_use(n: u16, most: u16) -> u64
+fn in_use(n: u64, most: u64) -> u64
     ensures { λ r. ⌜ r ≡ capped n most ⌝ }
 {
     if n < most {
-        return n as u64;
+        return n;
     }
-    most as u64
+    most
 }
 
 // How much of each kind is in use, as far as there are places to write it.
@@ -99,7 +100,7 @@ pub extern "C" fn jobdesk_run(
     answers: &mut [u64],
     rooms: &mut [u64],
 ) -> u64
-    ensures { λ r. ⌜ Runs (now (job .entry)) r (now (calls .entry)) (now (names .entry)) (now (types .entry)) (now (sets .entry)) (now (values .entry)) (now (heads .entry)) (now (slots .entry)) (now (names .exit)) (now (types .exit)) (now (sets .exit)) (now (values .exit)) (now (heads .exit)) (now (slots .exit)) (now (answers .entry)) (now (answers .exit)) (now (rooms .entry)) (now (rooms .exit)) ⌝ }
+    ensures { λ r. ⌜ Runs (now (job .entry)) r (now (calls .entry)) (jobTables (now (names .entry)) (now (types .entry)) (now (sets .entry)) (now (values .entry)) (now (heads .entry)) (now (slots .entry))) (jobTables (now (names .exit)) (now (types .exit)) (now (sets .exit)) (now (values .exit)) (now (heads .exit)) (now (slots .exit))) (now (answers .entry)) (now (answers .exit)) (now (rooms .entry)) (now (rooms .exit)) ⌝ }
 {
     let o = begin::start(job, names, types, sets, values, heads, slots);
     let told = o.told;

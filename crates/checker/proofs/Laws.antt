@@ -1,8 +1,6 @@
 -- Laws that the functions' proofs cite.
-use mathlib.Core.Path.{_≡_, refl}
-use Prim.Native.Nat.{ℕ, zero, suc, _-_}
-use native.Mathlib.Omega.{arith}
-use native.Mathlib.Numerals.{sub-one}
+use mathlib.Core.Path.{_≡_, refl, sym, ap}
+use Prim.Native.Nat.{ℕ}
 use mathlib.Core.Bool.{Bool, false}
 use mathlib.Core.List.{[], _∷_}
 use types.Run.{OneOf, miss}
@@ -18,13 +16,7 @@ use Rattle.tree.proofs.Answer.{the-type as answer-type}
 
 pub past-none : (n : ℕ) → n ≡ 0 → 0 ≡ past n
 unfolding past
-past-none zero h = refl
-past-none (suc n) h = absurd (omega arith)
-
-pub past-some : (n : ℕ) → (n ≡ 0 → ⊥) → n - 1 ≡ past n
-unfolding past
-past-some zero h = absurd (h refl)
-past-some (suc n) h = sub-one (suc n)
+past-none n h = ap past (sym h)
 
 pub is-whole : (a : Passed) → OneOf (0 ∷ []) (tagOf passed-type a) → a ≡ passed.Whole
 is-whole passed.Whole h = refl

@@ -1,11 +1,10 @@
 -- What the answers of the check stand for: the verdict by number and place, or by the tree of the job's type and its effect, and the tables afterwards.
 use mathlib.Core.Path.{_≡_}
-use Prim.Native.Nat.{ℕ, zero, suc}
+use Prim.Native.Nat.{ℕ, suc}
 use mathlib.Core.Bool.{false}
 use mathlib.Core.List.{List}
-use mathlib.Core.Option.{Option}
 use lib.ListN.{length, replicate, getD}
-use Rattle.syntax.specs.Types.{Ty, num, TypeEntry, grow, tree}
+use Rattle.syntax.specs.Types.{Ty, treeIn, tree}
 use Rattle.syntax.specs.Job.{Job}
 use Rattle.syntax.specs.Reading.{Read, refused, read, reading}
 use Rattle.syntax.specs.Tree.{past}
@@ -27,12 +26,8 @@ abbrev pub tables : List ℕ → List ℕ → List ℕ → List ℕ → List ℕ
 tables n t s v h p o e = record { names = n; types = t; sets = s; values = v; heads = h; slots = p; entries = o; effects = e }
 
 -- the tree of entry i of the type table and its sets
-unfoldable pub treeFrom : ℕ → (ℕ → Option TypeEntry) → ℕ → Ty
-treeFrom zero at i = num 0
-treeFrom (suc f) at i = grow (at i) (treeFrom f at)
-
 unfoldable pub treeOf : List ℕ → List ℕ → ℕ → Ty
-treeOf types sets i = treeFrom (suc i) (entryIn types sets) i
+treeOf types sets i = treeIn (suc i) (entryIn types sets) i
 
 -- the verdict that an answer stands for, by the type table afterwards and its sets
 unfoldable pub verdictIn : List ℕ → List ℕ → Verdict → rules.Verdict

@@ -1,22 +1,21 @@
 -- From what the parts of the check answer to the verdict of the rules and the tables.
 use mathlib.Core.Path.{_≡_, refl, sym, ap, _∙_, subst}
-use Prim.Native.Nat.{ℕ, zero, suc, _-_, _%_, _≤_}
+use Prim.Native.Nat.{ℕ, suc, _%_, _≤_}
 use native.Mathlib.Omega.{arith}
-use native.Mathlib.Nat.{sub-zero}
 use mathlib.Core.Bool.{Bool, true, false, cond}
 use mathlib.Core.List.{List, [], map}
 use mathlib.Core.Option.{none, some}
-use lib.ListN.{length, getD, getElem?, replicate, length-append, length-map, length-replicate}
+use lib.ListN.{length, getD, replicate, length-map}
 use lib.Dec.{ltb}
 use borrow.Author.Tests.{ltb-false, le-leb}
 use Rattle.order.specs.Bools.{_or_}
-use Rattle.syntax.specs.Types.{Ty, TypeEntry, grow, treeIn, tree}
+use Rattle.syntax.specs.Types.{Ty, treeIn, tree}
 use Rattle.syntax.specs.Job.{Job, sourceOf}
 use Rattle.syntax.specs.Reading.{Refusal, Read, refused, read, reading}
 use Rattle.syntax.specs.ReadLaws.{JobOk, read-ok, or-none}
 use Rattle.syntax.specs.Tree.{past, treeRefusal}
 use Rattle.syntax.specs.Words.{filled, nameWords, typeWord, setWord, typeWords, setWords, valueWords, headWords, slotWords}
-use Rattle.syntax.specs.WordLaws.{Bytes, JobFits, job-fits, filled-at}
+use Rattle.syntax.specs.WordLaws.{Bytes, JobFits, job-fits, filled-at, filled-none, filled-length}
 use Rattle.typing.specs.Verdict as rules
 use Rattle.typing.specs.Least.{types}
 use Rattle.typing.specs.Tables.{Tables, most-entries, short, zeros, cleared, effectOf, laidOut, filledBy, filledRead, keptOn, tablesAfter, verdictWith}
@@ -40,7 +39,7 @@ use Rattle.tree.specs.Filled.{filled-holds}
 use Rattle.checker.specs.declared.Verdict.{Verdict}
 use Rattle.checker.specs.declared.Verdict.the-variants.{Accepted, Refused}
 use Rattle.checker.specs.declared.Checked.{Checked}
-use Rattle.checker.specs.Answer.{tables, treeFrom, treeOf, verdictIn, noShape, refusedBy, shapeRead, shapeFor, lastIn, CheckTo, Given, Judged, accepted, refused-by}
+use Rattle.checker.specs.Answer.{tables, treeOf, verdictIn, noShape, refusedBy, shapeRead, shapeFor, lastIn, CheckTo, Given, Judged, accepted, refused-by}
 
 -- Lengths
 
@@ -80,33 +79,15 @@ long-by : (w : Tables) → Long w → longTables (w .names) (w .types) (w .sets)
 unfolding longEnough
 long-by w l = simp (le-leb _ _ (l .names), le-leb _ _ (l .types), le-leb _ _ (l .sets), le-leb _ _ (l .values), le-leb _ _ (l .heads), le-leb _ _ (l .slots))
 
-filled-length : (k : ℕ) (l : List ℕ) → length l ≤ k → length (filled k 0 l) ≡ k
-unfolding filled
-filled-length k l h = omega (arith, length-append l (replicate (k - length l) 0), length-replicate {A = ℕ} (k - length l) 0)
-
-filled-none : (k : ℕ) → filled k 0 [] ≡ replicate k 0
-unfolding filled
-filled-none k = ap (λ (n : ℕ). replicate n 0) (sub-zero k)
-
--- Trees by the table
-
-tree-same : (T : List TypeEntry) (f i : ℕ) → treeFrom f (getElem? T) i ≡ treeIn f T i
-unfolding treeFrom treeIn
-tree-same T zero i = refl
-tree-same T (suc f) i = λ k. grow (getElem? T i) (λ x. tree-same T f x k)
-
 tree-is : (σ : Sofar) → Fits σ → (n m i : ℕ) → treeOf (filled n 0 (typeWords (σ .entries))) (filled m 0 (setWords (σ .entries))) i ≡ tree (σ .entries) i
 unfolding treeOf tree
-tree-is σ g n m i = (λ k. treeFrom (suc i) (λ x. words-back σ g n m x k) i) ∙ tree-same (σ .entries) (suc i) i
+tree-is σ g n m i = λ k. treeIn (suc i) (λ x. words-back σ g n m x k) i
 
 -- A job that is read and a tree in scope
 
 module _ {bytes : List ℕ} {J : Job} {g : Shape} {w : Tables} (given : Given bytes J g w) where
   pub job-ok : JobOk J
   job-ok = read-ok bytes J (given .is-read)
-
-  ok : JobOk J
-  ok = read-ok bytes J (given .is-read)
 
   fits : JobFits J
   fits = job-fits bytes J (given .bytes-are) (given .is-read)
@@ -130,22 +111,22 @@ module _ {bytes : List ℕ} {J : Job} {g : Shape} {w : Tables} (given : Given by
   module _ (scoped : treeRefusal (sourceOf J) ≡ none) {anc : List ℕ} (anc-is : anc ≡ ancestorsBy (namesIn (w .names) (g .names))) {nt nv nc : ℕ} (nt-is : nt ≡ g .types % 65536) (nv-is : nv ≡ g .values % 65536) (nc-is : nc ≡ g .cmds % 65536) where
     names-are : namesIn (w .names) (g .names) ≡ J .names
     unfolding shapeOf
-    names-are = (λ i. namesIn (given .names i) (given .shape i .names)) ∙ names-held (length (w .names)) ok
+    names-are = (λ i. namesIn (given .names i) (given .shape i .names)) ∙ names-held (length (w .names)) job-ok
 
     anc-by : ancestorsBy (J .names) ≡ anc
     anc-by = sym (anc-is ∙ ap ancestorsBy names-are)
 
     types-count : length (J .types) ≡ nt
     unfolding shapeOf
-    types-count = let z : length (J .types) % 65536 ≡ length (J .types) = omega (arith, ok .few-types) in sym (nt-is ∙ (λ i. given .shape i .types % 65536) ∙ z)
+    types-count = let z : length (J .types) % 65536 ≡ length (J .types) = omega (arith, job-ok .few-types) in sym (nt-is ∙ (λ i. given .shape i .types % 65536) ∙ z)
 
     values-count : length (J .values) ≡ nv
     unfolding shapeOf
-    values-count = let z : length (J .values) % 65536 ≡ length (J .values) = omega (arith, ok .few-values) in sym (nv-is ∙ (λ i. given .shape i .values % 65536) ∙ z)
+    values-count = let z : length (J .values) % 65536 ≡ length (J .values) = omega (arith, job-ok .few-values) in sym (nv-is ∙ (λ i. given .shape i .values % 65536) ∙ z)
 
     cmds-count : length (J .cmds) ≡ nc
     unfolding shapeOf
-    cmds-count = let z : length (J .cmds) % 65536 ≡ length (J .cmds) = omega (arith, ok .few-cmds) in sym (nc-is ∙ (λ i. given .shape i .cmds % 65536) ∙ z)
+    cmds-count = let z : length (J .cmds) % 65536 ≡ length (J .cmds) = omega (arith, job-ok .few-cmds) in sym (nc-is ∙ (λ i. given .shape i .cmds % 65536) ∙ z)
 
     reached : Reached J (length (w .types)) (length (w .sets)) (length (w .entries)) (length (w .effects))
         (numberedBy anc (w .names) (w .values) (w .heads) (w .slots) nt nv nc (w .types) (w .sets) (w .entries) (w .effects)) (numbering (jobOps (length (w .names)) J) J)
@@ -155,7 +136,7 @@ module _ {bytes : List ℕ} {J : Job} {g : Shape} {w : Tables} (given : Given by
         subst (λ (x : Out). Reached J (length (w .types)) (length (w .sets)) (length (w .entries)) (length (w .effects)) x (numbering (jobOps (length (w .names)) J) J))
         (λ i. numberedBy (anc-by i) (sym (given .names) i) (sym (given .values) i) (sym (given .heads) i) (sym (given .slots) i) (types-count i) (values-count i) (cmds-count i)
         (sym (given .types) i) (sym (given .sets) i) (o i) (e i))
-        (numbered-right ok fits scoped (length (w .names)) (length (w .types)) (length (w .sets)) (length (w .entries)) (length (w .effects)) (length (w .values)) (length (w .heads)) (length (w .slots))
+        (numbered-right job-ok fits scoped (length (w .names)) (length (w .types)) (length (w .sets)) (length (w .entries)) (length (w .effects)) (length (w .values)) (length (w .heads)) (length (w .slots))
         (long .types) (long .sets) (long .entries) (long .effects))
 
     module _ {a : Passed} {ts ss os es : List ℕ} (after : Ended (numberedBy anc (w .names) (w .values) (w .heads) (w .slots) nt nv nc (w .types) (w .sets) (w .entries) (w .effects)) a ts ss os es) where
@@ -224,11 +205,11 @@ module _ {bytes : List ℕ} {J : Job} {g : Shape} {w : Tables} (given : Given by
         unfolding filledFrom
         typed-within f {t} t-is =
             let r : t ≡ lastEntry J σ = t-is ∙ (λ i. getD (came .entries i) (last-is i) 0) ∙ filled-at (length (w .entries)) (σ .of) (lastOf J) in
-            let c : Fits σ = inv-fits ok (omega arith) (came .state) in
+            let c : Fits σ = inv-fits job-ok (omega arith) (came .state) in
             let lt : length ts ≡ length (w .types) = ap length (came .types) ∙ filled-length (length (w .types)) (typeWords (σ .entries)) (omega (arith, c .few, long .types, length-map (σ .entries) typeWord)) in
             let ls : length ss ≡ length (w .sets) = ap length (came .sets) ∙ filled-length (length (w .sets)) (setWords (σ .entries)) (omega (arith, c .few, long .sets, length-map (σ .entries) setWord)) in
-            let lo : length os ≡ length (w .entries) = ap length (came .entries) ∙ filled-length (length (w .entries)) (σ .of) (omega (arith, came .state .count-of, long .entries, ok .few-cmds)) in
-            let le : length es ≡ length (w .effects) = ap length (came .effects) ∙ filled-length (length (w .effects)) (σ .effects) (omega (arith, came .state .count-effects, long .effects, ok .few-cmds)) in
+            let lo : length os ≡ length (w .entries) = ap length (came .entries) ∙ filled-length (length (w .entries)) (σ .of) (omega (arith, came .state .count-of, long .entries, job-ok .few-cmds)) in
+            let le : length es ≡ length (w .effects) = ap length (came .effects) ∙ filled-length (length (w .effects)) (σ .effects) (omega (arith, came .state .count-effects, long .effects, job-ok .few-cmds)) in
             let kt : ts ≡ filled (length ts) 0 (typeWords (σ .entries)) = came .types ∙ (λ i. filled (sym lt i) 0 (typeWords (σ .entries))) in
             let ks : ss ≡ filled (length ss) 0 (setWords (σ .entries)) = came .sets ∙ (λ i. filled (sym ls i) 0 (setWords (σ .entries))) in
             let ko : os ≡ filled (length os) 0 (σ .of) = came .entries ∙ (λ i. filled (sym lo i) 0 (σ .of)) in

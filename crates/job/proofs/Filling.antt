@@ -1,53 +1,22 @@
 -- Tables filled from the front: a store of the next entry, and what an entry reads.
-use mathlib.Core.Path.{_≡_, refl, sym, ap, ap₂, _∙_, subst}
-use Prim.Native.Nat.{ℕ, zero, suc, _+_, _-_, _*_, _≤_, _<_}
+use mathlib.Core.Path.{_≡_, refl, sym, ap, _∙_}
+use Prim.Native.Nat.{ℕ, suc, _+_, _-_, _≤_, _<_}
 use native.Mathlib.Omega.{arith}
-use native.Mathlib.Numerals.{add-one}
-use mathlib.Core.List.{List, [], _∷_, _++_, map, flatMap, append-assoc, append-nil}
-use mathlib.Core.Option.{Option, none, some, Option·none-ne-some, Option·some-injective}
-use lib.ListN.{length, getD, getElem?, set, replicate, length-append, length-replicate, length-map, List·getD-append}
-use lib.Seq.{set-append-seam}
-use Rattle.order.specs.OrderLaws.{length-snoc, getElem?-lt}
+use mathlib.Core.List.{List, [], _∷_, _++_, flatMap, append-assoc, append-nil}
+use lib.ListN.{length, getD, set, replicate}
+use Rattle.order.specs.OrderLaws.{length-snoc}
 use Rattle.syntax.specs.Words.{filled}
+use Rattle.syntax.specs.WordLaws.{filled-set}
 use Rattle.job.specs.Entries.{fiveAt}
 use Rattle.job.specs.declared.Form.{Form}
-
-pub filled-length : (n : ℕ) (l : List ℕ) → length l ≤ n → length (filled n 0 l) ≡ n
-unfolding filled
-filled-length n l h = length-append l (replicate (n - length l) 0) ∙ ap (λ (k : ℕ). length l + k) (length-replicate (n - length l) 0) ∙ omega arith
-
--- the next entry is stored
-pub filled-set : (n : ℕ) (l : List ℕ) (i x : ℕ) → length l < n → i ≡ length l → set (filled n 0 l) i x ≡ filled n 0 (l ++ (x ∷ []))
-unfolding filled
-filled-set n l i x h e =
-    let z : n - length l ≡ suc (n - suc (length l)) = omega arith in
-    ap₂ (λ (k j : ℕ). set (l ++ replicate k 0) j x) z e
-    ∙ set-append-seam l 0 (replicate (n - suc (length l)) 0) x
-    ∙ sym (append-assoc l (x ∷ []) (replicate (n - length (l ++ (x ∷ []))) 0) ∙ ap (λ (k : ℕ). l ++ x ∷ replicate (n - k) 0) (length-snoc l x))
 
 -- a table with the next entry stored is the table of the longer list
 pub stored : (n : ℕ) (l m : List ℕ) (i x : ℕ) {t u : List ℕ} → t ≡ filled n 0 l → u ≡ set t i x → length l < n → i ≡ length l → m ≡ l ++ (x ∷ []) → u ≡ filled n 0 m
 stored n l m i x e f h g d = f ∙ ap (λ (v : List ℕ). set v i x) e ∙ filled-set n l i x h g ∙ ap (λ (v : List ℕ). filled n 0 v) (sym d)
 
--- nothing is used yet
-pub filled-none : (n : ℕ) → replicate n 0 ≡ filled n 0 []
-unfolding filled
-filled-none n = ap (λ (k : ℕ). replicate k 0) (let z : n ≡ n - 0 = omega arith in z)
-
 pub filled-two : (n : ℕ) → 2 ≤ n → replicate n 0 ≡ filled n 0 (0 ∷ 0 ∷ [])
 unfolding filled
 filled-two n h = ap (λ (k : ℕ). replicate k 0) (let z : n ≡ suc (suc (n - 2)) = omega arith in z)
-
--- an entry that is used
-pub getD-map : {A : Type 0} (f : A → ℕ) (l : List A) (i : ℕ) (a : A) → getElem? l i ≡ some a → getD (map f l) i 0 ≡ f a
-getD-map f [] i a e = absurd (Option·none-ne-some a e)
-getD-map f (x ∷ l) zero a e = ap f (Option·some-injective x a e)
-getD-map f (x ∷ l) (suc i) a e = getD-map f l i a e
-
-pub filled-at : {A : Type 0} (f : A → ℕ) (n : ℕ) (l : List A) (i : ℕ) (a : A) → getElem? l i ≡ some a → getD (filled n 0 (map f l)) i 0 ≡ f a
-unfolding filled
-filled-at f n l i a e =
-    List·getD-append (map f l) (replicate (n - length (map f l)) 0) 0 i (let h = getElem?-lt l i a e in omega (arith, length-map l f)) ∙ getD-map f l i a e
 
 -- five entries at once
 pub filled-five : (n : ℕ) (l : List ℕ) (i : ℕ) (f : Form) → length l + 5 ≤ n → i ≡ length l

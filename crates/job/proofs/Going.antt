@@ -1,36 +1,38 @@
 -- Reading command by command: the tables hold the job read so far, and what is left decides the answer.
-use mathlib.Core.Path.{_≡_, refl, sym, ap, ap₂, _∙_, subst, subst⁻¹}
+use mathlib.Core.Path.{_≡_, refl, sym, ap, _∙_, subst}
 use Prim.Native.Nat.{ℕ, zero, suc, _+_, _-_, _*_, _≤_, _<_}
 use native.Mathlib.Omega.{arith}
 use native.Mathlib.Numerals.{add-one}
 use mathlib.Core.Bool.{Bool, true, false, cond, true≢false, false≢true}
 use mathlib.Core.List.{List, [], _∷_, _++_, map, flatMap}
 use mathlib.Core.Option.{Option, none, some}
-use lib.ListN.{length, getD, getElem?, set, drop, replicate, length-drop, length-map, length-append, length-replicate, length-set, getD-replicate}
+use lib.ListN.{length, getD, set, drop, replicate, length-drop, length-map, length-append, length-replicate, length-set}
 use lib.Seq.{getD-set-same, getD-set-other}
-use lib.Dec.{eqb, ltb, leb}
+use lib.Dec.{ltb, leb}
 use borrow.Author.Tests.{leb-true, ltb-true, ltb-false, eq-eqb, ne-eqb}
 use Rattle.order.specs.OrderLaws.{length-snoc}
 use Rattle.syntax.specs.Types.{TypeEntry, tree, depth}
+use Rattle.syntax.specs.TypeLaws.{tree-kept}
 use Rattle.syntax.specs.Commands.{Cmd, Op, opOf, width, sectionOf}
-use Rattle.syntax.specs.Job.{Name, HostValue, Job, uppers}
+use Rattle.syntax.specs.Job.{Name, HostValue, Job}
 use Rattle.syntax.specs.Words.{filled, nameWord, typeWord, setWord, valueWord, headWord, slots, nameWords, typeWords, setWords, valueWords, headWords, slotWords}
-use Rattle.syntax.specs.Reading.{State, Written, w-name, w-type, w-value, w-rights, w-cmd, typeOk, Step, refuse, proceed, finish, command, Read, refused, refusedAt, read, ended, onward, onOp, readFrom, noJob, reading}
+use Rattle.syntax.specs.Reading.{State, Written, w-name, w-type, w-value, w-rights, w-cmd, Step, refuse, proceed, finish, command, refusedAt, read, ended, onward, onOp, readFrom, noJob, reading}
 use Rattle.syntax.specs.ReadLaws.{TypesOk, Sofar, StepOk, step-refuse, step-proceed, step-finish, step-ok, at-start}
-use Rattle.syntax.specs.ReadFormed.{map-snoc, names-proper, tree-append}
+use Rattle.syntax.specs.ReadFormed.{map-snoc, names-proper, types-earlier}
+use Rattle.syntax.specs.WordLaws.{filled-none, filled-length, word-at}
 use Rattle.names.specs.Ancestors.{namesIn}
 use Rattle.names.specs.Tables as tables
 use Rattle.job.specs.Bytes.{widthByte, sectionByte, restOf}
-use Rattle.job.specs.Entries.{namesAfter, typesAfter, setsAfter, depthsAfter, valuesAfter, headsAfter, slotsAfter, shapeAfter, ancestorsAfter, judgedBy, judgedIn}
+use Rattle.job.specs.Entries.{namesAfter, typesAfter, setsAfter, depthsAfter, valuesAfter, headsAfter, slotsAfter, shapeAfter, judgedBy, judgedIn}
 use Rattle.job.specs.Answer.{shapeOf, refusedBy, answerOf, longEnough, longTables, Cleared, Holds, Filled, Put, Small, stopsOf, stoppedOf}
 use Rattle.job.specs.declared.Shape.{Shape}
 use Rattle.job.specs.declared.Answer.{Answer}
 use Rattle.job.specs.declared.Answer.the-variants as answers
 use Rattle.job.specs.declared.Entry.{Entry}
-use Rattle.job.specs.declared.Entry.the-variants.{Refuse, Named, Typed, Valued, Rights, Formed, Last}
-use Rattle.job.proofs.Ops.{byteOf, op-byte, section-is, width-is, width-none}
-use Rattle.job.proofs.Entered.{okW, grown, wordsOf, newDepth, entryW}
-use Rattle.job.proofs.Filling.{filled-length, stored, filled-none, filled-two, filled-at, filled-five, flat-snoc, five-entries}
+use Rattle.job.specs.declared.Entry.the-variants.{Refuse, Named, Typed, Valued, Rights, Formed}
+use Rattle.job.proofs.Ops.{op-byte, section-is, width-is, width-none}
+use Rattle.job.proofs.Entered.{grown, wordsOf, newDepth, entryW}
+use Rattle.job.proofs.Filling.{stored, filled-two, filled-five, flat-snoc, five-entries}
 use Rattle.job.proofs.Agree.{Kept, Adds, adds-name, adds-type, adds-value, adds-rights, adds-cmd, Agrees, ag-refuse, ag-last, ag-on, agrees}
 
 -- every table is as long as its limit
@@ -98,11 +100,11 @@ going-first bytes n t s v h p kn kt ks kv kh kp l en et es ev eh ep =
             holds =
                 record {
                   names = en ∙ filled-two kn (omega (arith, l .names));
-                  types = et ∙ filled-none kt;
-                  sets = es ∙ filled-none ks;
-                  values = ev ∙ filled-none kv;
-                  heads = eh ∙ filled-none kh;
-                  slots = ep ∙ filled-none kp;
+                  types = et ∙ sym (filled-none kt);
+                  sets = es ∙ sym (filled-none ks);
+                  values = ev ∙ sym (filled-none kv);
+                  heads = eh ∙ sym (filled-none kh);
+                  slots = ep ∙ sym (filled-none kp);
                 };
             depths-long = length-replicate {A = ℕ} 256 0;
             deep = λ i b. absurd (omega arith);
@@ -128,7 +130,7 @@ kept {J = J} {n = n} {kn = kn} {kt = kt} o a =
           ∙ tables.names-proper J (replicate (kn - length (nameWords J)) 0) proper few;
       ok = o .types;
       few-types = o .few-types;
-      words = λ i e z. ap (λ (l : List ℕ). getD l i 0) (a .holds .types) ∙ filled-at typeWord kt (J .types) i e z;
+      words = λ i e z. ap (λ (l : List ℕ). getD l i 0) (a .holds .types) ∙ word-at typeWord kt (J .types) i e z;
       deep = a .deep;
     }
 
@@ -188,7 +190,7 @@ module _ (J : Job) (g g' : Shape) (d n t s v h p d' n' t' s' v' h' p' : List ℕ
       at : (i : ℕ) → i ≤ length (J .types) → g .types ≡ length (J .types) → (c : Bool) → ltb i (length (J .types)) ≡ c → getD (set d (g .types) (newDepth J x)) i 0 ≡ depth (tree (J .types ++ (x ∷ [])) i)
       at i b e true z =
           let l = ltb-true i (length (J .types)) z in
-          getD-set-other d (g .types) i (newDepth J x) 0 (λ y. omega arith) ∙ a .deep i l ∙ sym (ap depth (tree-append (J .names) ok (x ∷ []) i l))
+          getD-set-other d (g .types) i (newDepth J x) 0 (λ y. omega arith) ∙ a .deep i l ∙ sym (ap depth (tree-kept (types-earlier (J .names) ok) (x ∷ []) i l))
       at i b e false z =
           let f = ltb-false i (length (J .types)) z in
           let j : i ≡ g .types = omega arith in

@@ -1,10 +1,10 @@
 -- Facts on bytes and lists that the readers and the stores rest on.
 use mathlib.Core.Path.{_≡_, refl, sym, ap, _∙_}
-use Prim.Native.Nat.{ℕ, zero, suc, _+_, _-_, _*_, _≤_, _<_}
+use Prim.Native.Nat.{ℕ, _+_, _-_, _*_, _≤_, _<_}
 use native.Mathlib.Omega.{arith}
 use mathlib.Core.List.{List, [], _∷_, _++_}
 use lib.ListN.{length, getD, set, take, drop, replicate, length-drop, drop-of-length-le}
-use lib.Seq.{take-all, set-out, drop-drop, take-take}
+use lib.Seq.{take-all, set-out}
 use Rattle.syntax.specs.Commands.{little}
 use Rattle.job.specs.Bytes.{restOf, widthByte}
 
@@ -52,10 +52,6 @@ set-past l i a h = sym (set-out l i a h)
 pub drop-past : (n : ℕ) (l : List ℕ) → length l < n → [] ≡ drop n l
 drop-past n l h = sym (drop-of-length-le l {i = n} (omega arith))
 
--- a part of the length that it is taken with
-pub part-length : (at w : ℕ) (s : List ℕ) → at + w ≤ length s → length (take (at + w - at) (drop at s)) ≡ w
-part-length at w s h = simp (lib.ListN.length-take, length-drop) (omega arith)
-
 pub part-width : (at w : ℕ) → at + w - at ≡ w
 part-width at w = omega arith
 
@@ -64,9 +60,6 @@ first-none [] h = refl
 first-none (a ∷ s) h = absurd (omega arith)
 
 -- a list filled from the front
-pub fill-length : (n : ℕ) (d : List ℕ) → n ≤ length d → length (replicate n 0 ++ drop n d) ≡ length d
-fill-length n d h = simp (lib.ListN.length-append, lib.ListN.length-replicate, length-drop) (omega arith)
-
 pub fill-all : (n : ℕ) (d s : List ℕ) → s ≡ replicate n 0 ++ drop n d → n ≤ length d → length d ≤ n → s ≡ replicate (length d) 0
 fill-all n d s e h k = let z : n ≡ length d = omega arith in e ∙ simp (z, lib.Seq.drop-length, mathlib.Core.List.append-nil)
 

@@ -1,19 +1,20 @@
 -- The commands by their bytes: sections, widths, places and limits are those of reading; operands by their offsets.
-use mathlib.Core.Path.{_≡_, refl, sym, ap, ap₂, _∙_, subst}
-use Prim.Native.Nat.{ℕ, zero, suc, _+_, _-_, _*_, _≤_, _<_}
+use mathlib.Core.Path.{_≡_, refl, sym, ap, ap₂, _∙_}
+use Prim.Native.Nat.{ℕ, zero, suc, _+_, _≤_, _<_}
 use native.Mathlib.Omega.{arith}
-use mathlib.Core.Bool.{Bool, true, false, cond, true≢false, false≢true}
-use mathlib.Core.List.{List, [], _∷_, _++_}
-use mathlib.Core.Option.{Option, none, some, Option·none-ne-some, Option·some-injective}
-use lib.ListN.{length, getD, take, drop}
+use mathlib.Core.Bool.{Bool, true, false, cond, false≢true}
+use mathlib.Core.List.{List, [], _∷_}
+use mathlib.Core.Option.{none, some, Option·none-ne-some, Option·some-injective}
+use lib.ListN.{length, take, drop}
 use lib.Seq.{drop-drop}
 use lib.Dec.{eqb, ltb, leb}
-use borrow.Author.Tests.{eqb-true, le-leb, leb-true, leb-false, lt-leb, le-ltb, lt-ltb, ltb-true, ltb-false}
+use borrow.Author.Tests.{eqb-true, le-leb, leb-true, leb-false, lt-leb}
 use Rattle.order.specs.Bools.{_and_, _or_}
-use Rattle.syntax.specs.Commands.{Op, o-host, o-local, o-number, o-pair, o-cell, o-function, o-limit, o-grant, o-value, o-rights, o-end, Coded, commands, findOp, opOf, operands, total, width, sectionOf, little, fields}
+use Rattle.syntax.specs.Commands.{Op, o-host, o-local, o-number, o-pair, o-cell, o-function, o-limit, o-grant, o-value, o-rights, o-end, Coded, commands, findOp, opOf, total, width, sectionOf, little, fields}
 use Rattle.syntax.specs.Commands.{x-number, x-top, x-variable, x-pair, x-part, x-function, x-apply, x-cell, x-assign, x-read, x-sum, x-test, x-limit, x-grant, x-newkey, x-associate}
 use Rattle.syntax.specs.Job.{Job}
-use Rattle.syntax.specs.Reading.{State, most-names, misplaced, full}
+use Rattle.syntax.specs.Reading.{State, misplaced, full}
+use Rattle.syntax.specs.ReadPlaces.{width-most, widest-few}
 use Rattle.job.specs.Bytes.{fieldAt, widthOn, widthByte, sectionByte, misplacedBy, fullBy}
 
 unfoldable pub byteOf : Op → ℕ
@@ -65,95 +66,42 @@ pub op-byte : (b : ℕ) (o : Op) → opOf b ≡ some o → b ≡ byteOf o
 unfolding opOf commands rightly byteOf
 op-byte b o e = found commands b o refl e
 
-pub byte-op : (o : Op) → opOf (byteOf o) ≡ some o
-unfolding opOf findOp commands byteOf
-byte-op o-host = refl
-byte-op o-local = refl
-byte-op o-number = refl
-byte-op o-pair = refl
-byte-op o-cell = refl
-byte-op o-function = refl
-byte-op o-limit = refl
-byte-op o-grant = refl
-byte-op o-value = refl
-byte-op o-rights = refl
-byte-op x-number = refl
-byte-op x-top = refl
-byte-op x-variable = refl
-byte-op x-pair = refl
-byte-op x-part = refl
-byte-op x-function = refl
-byte-op x-apply = refl
-byte-op x-cell = refl
-byte-op x-assign = refl
-byte-op x-read = refl
-byte-op x-sum = refl
-byte-op x-test = refl
-byte-op x-limit = refl
-byte-op x-grant = refl
-byte-op x-newkey = refl
-byte-op x-associate = refl
-byte-op o-end = refl
+-- the section of a command, by its byte and by its number
+sections : (o : Op) → (sectionByte (byteOf o) ≡ sectionOf o) × (sectionOf o < 6)
+unfolding sectionByte sectionOf byteOf
+sections o-host = (refl, omega arith)
+sections o-local = (refl, omega arith)
+sections o-number = (refl, omega arith)
+sections o-pair = (refl, omega arith)
+sections o-cell = (refl, omega arith)
+sections o-function = (refl, omega arith)
+sections o-limit = (refl, omega arith)
+sections o-grant = (refl, omega arith)
+sections o-value = (refl, omega arith)
+sections o-rights = (refl, omega arith)
+sections x-number = (refl, omega arith)
+sections x-top = (refl, omega arith)
+sections x-variable = (refl, omega arith)
+sections x-pair = (refl, omega arith)
+sections x-part = (refl, omega arith)
+sections x-function = (refl, omega arith)
+sections x-apply = (refl, omega arith)
+sections x-cell = (refl, omega arith)
+sections x-assign = (refl, omega arith)
+sections x-read = (refl, omega arith)
+sections x-sum = (refl, omega arith)
+sections x-test = (refl, omega arith)
+sections x-limit = (refl, omega arith)
+sections x-grant = (refl, omega arith)
+sections x-newkey = (refl, omega arith)
+sections x-associate = (refl, omega arith)
+sections o-end = (refl, omega arith)
 
 pub section-is : (o : Op) → sectionByte (byteOf o) ≡ sectionOf o
-unfolding sectionByte sectionOf byteOf
-section-is o-host = refl
-section-is o-local = refl
-section-is o-number = refl
-section-is o-pair = refl
-section-is o-cell = refl
-section-is o-function = refl
-section-is o-limit = refl
-section-is o-grant = refl
-section-is o-value = refl
-section-is o-rights = refl
-section-is x-number = refl
-section-is x-top = refl
-section-is x-variable = refl
-section-is x-pair = refl
-section-is x-part = refl
-section-is x-function = refl
-section-is x-apply = refl
-section-is x-cell = refl
-section-is x-assign = refl
-section-is x-read = refl
-section-is x-sum = refl
-section-is x-test = refl
-section-is x-limit = refl
-section-is x-grant = refl
-section-is x-newkey = refl
-section-is x-associate = refl
-section-is o-end = refl
+section-is o = sections o .0
 
 pub width-narrow : (o : Op) → width o < 255
-unfolding width total operands
-width-narrow o-host = omega arith
-width-narrow o-local = omega arith
-width-narrow o-number = omega arith
-width-narrow o-pair = omega arith
-width-narrow o-cell = omega arith
-width-narrow o-function = omega arith
-width-narrow o-limit = omega arith
-width-narrow o-grant = omega arith
-width-narrow o-value = omega arith
-width-narrow o-rights = omega arith
-width-narrow x-number = omega arith
-width-narrow x-top = omega arith
-width-narrow x-variable = omega arith
-width-narrow x-pair = omega arith
-width-narrow x-part = omega arith
-width-narrow x-function = omega arith
-width-narrow x-apply = omega arith
-width-narrow x-cell = omega arith
-width-narrow x-assign = omega arith
-width-narrow x-read = omega arith
-width-narrow x-sum = omega arith
-width-narrow x-test = omega arith
-width-narrow x-limit = omega arith
-width-narrow x-grant = omega arith
-width-narrow x-newkey = omega arith
-width-narrow x-associate = omega arith
-width-narrow o-end = omega arith
+width-narrow o = omega (arith, width-most o, widest-few (sectionOf o))
 
 pub width-is : (b : ℕ) (o : Op) → opOf b ≡ some o → widthByte b ≡ width o
 unfolding widthByte widthOn
@@ -229,41 +177,11 @@ at-room J (suc (suc (suc (suc zero)))) h = refl
 at-room J (suc (suc (suc (suc (suc zero))))) h = refl
 at-room J (suc (suc (suc (suc (suc (suc n)))))) h = absurd (omega arith)
 
-section-few : (o : Op) → sectionOf o < 6
-unfolding sectionOf
-section-few o-host = omega arith
-section-few o-local = omega arith
-section-few o-number = omega arith
-section-few o-pair = omega arith
-section-few o-cell = omega arith
-section-few o-function = omega arith
-section-few o-limit = omega arith
-section-few o-grant = omega arith
-section-few o-value = omega arith
-section-few o-rights = omega arith
-section-few x-number = omega arith
-section-few x-top = omega arith
-section-few x-variable = omega arith
-section-few x-pair = omega arith
-section-few x-part = omega arith
-section-few x-function = omega arith
-section-few x-apply = omega arith
-section-few x-cell = omega arith
-section-few x-assign = omega arith
-section-few x-read = omega arith
-section-few x-sum = omega arith
-section-few x-test = omega arith
-section-few x-limit = omega arith
-section-few x-grant = omega arith
-section-few x-newkey = omega arith
-section-few x-associate = omega arith
-section-few o-end = omega arith
-
 pub misplaced-is : (st : State) (o : Op) → misplaced st (sectionOf o) ≡ misplacedBy (st .section) (sectionByte (byteOf o)) (length (st .job .cmds))
-misplaced-is st o = at-section st (sectionOf o) (section-few o) ∙ ap (λ (k : ℕ). misplacedBy (st .section) k (length (st .job .cmds))) (sym (section-is o))
+misplaced-is st o = at-section st (sectionOf o) (sections o .1) ∙ ap (λ (k : ℕ). misplacedBy (st .section) k (length (st .job .cmds))) (sym (section-is o))
 
 pub full-is : (J : Job) (o : Op) → full J (sectionOf o) ≡ fullBy (sectionByte (byteOf o)) (length (J .names)) (length (J .types)) (length (J .values)) (length (J .cmds))
-full-is J o = at-room J (sectionOf o) (section-few o) ∙ ap (λ (k : ℕ). fullBy k (length (J .names)) (length (J .types)) (length (J .values)) (length (J .cmds))) (sym (section-is o))
+full-is J o = at-room J (sectionOf o) (sections o .1) ∙ ap (λ (k : ℕ). fullBy k (length (J .names)) (length (J .types)) (length (J .values)) (length (J .cmds))) (sym (section-is o))
 
 -- operands by their offsets
 unfoldable pub fieldsFrom : List ℕ → List ℕ → ℕ → List ℕ

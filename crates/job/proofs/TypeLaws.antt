@@ -1,62 +1,30 @@
 -- Declared types: their depths by the depths of their parts, their conditions, and what their words give back.
-use mathlib.Core.Path.{_≡_, refl, sym, ap, ap₂, _∙_, subst}
-use Prim.Native.Nat.{ℕ, zero, suc, max, _+_, _*_, _/_, _%_, _≤_, _<_}
+use mathlib.Core.Path.{_≡_, refl, sym, ap, ap₂, _∙_}
+use Prim.Native.Nat.{ℕ, suc, max, _+_, _≤_, _<_}
 use native.Mathlib.Omega.{arith}
 use native.Mathlib.Numerals.{add-one}
-use mathlib.Core.Bool.{Bool, true, false, cond, not, true≢false, false≢true}
-use mathlib.Core.List.{List, [], _∷_, _++_}
-use mathlib.Core.Option.{Option, none, some}
-use lib.ListN.{length, getD, getElem?}
+use mathlib.Core.Bool.{Bool, true, false, cond, not}
+use mathlib.Core.List.{List}
+use mathlib.Core.Option.{some}
+use lib.ListN.{length, getD}
 use lib.Dec.{eqb, ltb, leb}
-use borrow.Author.Tests.{eq-eqb, ne-eqb, eqb-true, eqb-false, lt-ltb, le-ltb, ltb-true, ltb-false, leb-true}
-use Rattle.order.specs.Bools.{_and_, _or_, and-l, and-r}
-use Rattle.order.specs.OrderLaws.{getElem?-append, getElem?-at, getElem?-lt}
-use Rattle.syntax.specs.Types.{Ty, num, pair, cell, fn, lim, grant, TypeEntry, e-num, e-pair, e-cell, e-fn, e-lim, e-grant, grow, treeIn, tree, depth}
-use Rattle.syntax.specs.Commands.{Op, o-number, o-pair, o-cell, o-function, o-limit, o-grant, operands}
-use Rattle.syntax.specs.Job.{Name, HostValue, Job}
-use Rattle.syntax.specs.Words.{typeWord, setWord, valueWord}
-use Rattle.syntax.specs.Reading.{declared, setOk, openName, partsOk, typeOk, unkeyedNumber, hostTypeOk, hostValueOk, w-type, w-value, written}
+use borrow.Author.Tests.{le-ltb, ltb-true, ltb-false}
+use Rattle.order.specs.Bools.{_and_}
+use Rattle.syntax.specs.Types.{TypeEntry, e-num, e-pair, e-cell, e-fn, e-lim, e-grant, grow, tree, depth}
+use Rattle.syntax.specs.TypeLaws.{tree-new}
+use Rattle.syntax.specs.Commands.{o-number, o-pair, o-cell, o-function, o-limit, o-grant, operands}
+use Rattle.syntax.specs.Job.{Job}
+use Rattle.syntax.specs.Words.{typeWord, setWord}
+use Rattle.syntax.specs.Reading.{declared, setOk, partsOk, typeOk, w-type, written}
 use Rattle.syntax.specs.ReadLaws.{TypesOk}
-use Rattle.syntax.specs.ReadFormed.{entry-parts, grow-same, tree-at}
-use Rattle.names.specs.Ancestors.{namesIn, declaredOf, setOkBy}
+use Rattle.syntax.specs.ReadFormed.{parts-earlier, types-earlier}
+use Rattle.names.specs.Ancestors.{declaredOf, setOkBy}
 use Rattle.job.specs.Bytes.{fieldAt}
-use Rattle.job.specs.Entries.{partDepth, deeperOf, twoDepths, typeBitsOf, typedOf, keyTypeOf, functionOf, typeBy, typeEntry, valuedOf, hostWordOk, valueEntry}
+use Rattle.job.specs.Entries.{partDepth, deeperOf, twoDepths, typeBitsOf, typedOf, keyTypeOf, functionOf, typeBy, typeEntry}
 use Rattle.job.specs.declared.Entry.{Entry}
-use Rattle.job.specs.declared.Entry.the-variants.{Refuse, Typed, Valued}
+use Rattle.job.specs.declared.Entry.the-variants.{Refuse, Typed}
 use Rattle.job.proofs.Ops.{byteOf, fieldsFrom}
 use Rattle.job.proofs.Entered.{okW, newDepth, entryW, judgedW}
-
-pub getElem?-some : {A : Type 0} (l : List A) (i : ℕ) → i < length l → (a : A) × (getElem? l i ≡ some a)
-getElem?-some [] i h = absurd (omega arith)
-getElem?-some (x ∷ l) zero h = (x, refl)
-getElem?-some (x ∷ l) (suc i) h = getElem?-some l i (omega arith)
-
--- The tree of a new last entry
-
-levels : (ds : List Name) {ts : List TypeEntry} → TypesOk ds ts → (f g i : ℕ) → i < f → i < g → treeIn f ts i ≡ treeIn g ts i
-unfolding treeIn grow
-levels ds b zero g i h k = absurd (omega arith)
-levels ds b (suc f) zero i h k = absurd (omega arith)
-levels ds {ts} b (suc f) (suc g) i h k = at (getElem? ts i) refl (λ a u v. levels ds b f g a u v)
-  where
-    at : (o : Option TypeEntry) → getElem? ts i ≡ o → ((a : ℕ) → a < f → a < g → treeIn f ts a ≡ treeIn g ts a) → grow o (treeIn f ts) ≡ grow o (treeIn g ts)
-    at none z s = refl
-    at (some e) z s = grow-same ds i e (entry-parts ds b i e z) (treeIn f ts) (treeIn g ts) (λ a u. s a (omega arith) (omega arith))
-
-longer : (ds : List Name) {ts : List TypeEntry} → TypesOk ds ts → (us : List TypeEntry) (f i : ℕ) → i < length ts → treeIn f (ts ++ us) i ≡ treeIn f ts i
-unfolding treeIn
-longer ds b us zero i h = refl
-longer ds {ts} b us (suc f) i h = at (getElem?-some ts i h) (λ a u. longer ds b us f a u)
-  where
-    at : (e : TypeEntry) × (getElem? ts i ≡ some e) → ((a : ℕ) → a < length ts → treeIn f (ts ++ us) a ≡ treeIn f ts a)
-        → grow (getElem? (ts ++ us) i) (treeIn f (ts ++ us)) ≡ grow (getElem? ts i) (treeIn f ts)
-    at (e, z) s = rw (getElem?-append ts us i e z, z) (grow-same ds i e (entry-parts ds b i e z) (treeIn f (ts ++ us)) (treeIn f ts) (λ a u. s a (omega arith)))
-
-pub tree-new : (ds : List Name) {ts : List TypeEntry} → TypesOk ds ts → (e : TypeEntry) → partsOk ds (length ts) e ≡ true → tree (ts ++ (e ∷ [])) (length ts) ≡ grow (some e) (tree ts)
-unfolding tree treeIn
-tree-new ds {ts} b e h =
-    ap (λ o. grow o (treeIn (length ts) (ts ++ (e ∷ [])))) (getElem?-at ts e (length ts) refl)
-    ∙ grow-same ds (length ts) e h (treeIn (length ts) (ts ++ (e ∷ []))) (tree ts) (λ a u. longer ds b (e ∷ []) (length ts) a u ∙ levels ds b (length ts) (suc a) a u (omega arith))
 
 -- Depths
 
@@ -83,7 +51,7 @@ module _ (J : Job) (ok : TypesOk (J .names) (J .types)) (depths : List ℕ) (dee
   unfolding judgedW okW entryW newDepth typeOk _and_
   judged-type e false h d f = sym (ap (λ (b : Bool). cond (b and leb (newDepth J e) 16) (Typed (typeWord e) (setWord e) (newDepth J e)) (Refuse 6)) h)
   judged-type e true h d f =
-      let z : newDepth J e ≡ suc d = ap depth (tree-new (J .names) ok e h) ∙ f refl in
+      let z : newDepth J e ≡ suc d = ap depth (tree-new (types-earlier (J .names) ok) e (parts-earlier (J .names) (length (J .types)) e h)) ∙ f refl in
       typed-is (typeWord e) (setWord e) d
       ∙ sym (ap (λ (b : Bool). cond (b and leb (newDepth J e) 16) (Typed (typeWord e) (setWord e) (newDepth J e)) (Refuse 6)) h
       ∙ ap (λ (k : ℕ). cond (leb k 16) (Typed (typeWord e) (setWord e) k) (Refuse 6)) z)

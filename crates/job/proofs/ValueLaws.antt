@@ -1,29 +1,27 @@
 -- Host values: what the words of a declared type say of it.
-use mathlib.Core.Path.{_≡_, refl, sym, ap, ap₂, _∙_, subst}
-use Prim.Native.Nat.{ℕ, zero, suc, _+_, _*_, _/_, _%_, _≤_, _<_}
+use mathlib.Core.Path.{_≡_, refl, sym, ap, _∙_}
+use Prim.Native.Nat.{ℕ, _+_, _*_, _/_, _%_, _≤_, _<_}
 use native.Mathlib.Omega.{arith}
-use mathlib.Core.Bool.{Bool, true, false, cond, not}
-use mathlib.Core.List.{List, [], _∷_, _++_}
-use mathlib.Core.Option.{Option, none, some}
+use mathlib.Core.Bool.{Bool, true, false, cond}
+use mathlib.Core.List.{List}
+use mathlib.Core.Option.{some}
 use lib.ListN.{length, getD, getElem?}
-use lib.Dec.{eqb, ltb, leb}
-use borrow.Author.Tests.{eq-eqb, ne-eqb, eqb-true, eqb-false, lt-ltb, le-ltb, ltb-true, ltb-false}
+use lib.Dec.{eqb, ltb}
+use borrow.Author.Tests.{eq-eqb, ne-eqb, eqb-true, eqb-false, lt-ltb, le-ltb, ltb-true}
 use Rattle.order.specs.Bools.{_and_, and-l, and-r}
-use Rattle.order.specs.OrderLaws.{getElem?-lt}
+use Rattle.order.specs.OrderLaws.{getElem?-some}
 use Rattle.syntax.specs.Types.{Ty, TypeEntry, e-num, e-pair, e-cell, e-fn, e-lim, e-grant, grow, tree}
 use Rattle.syntax.specs.Commands.{o-value, operands}
-use Rattle.syntax.specs.Job.{Name, HostValue, Job}
+use Rattle.syntax.specs.Job.{Name, Job}
 use Rattle.syntax.specs.Words.{typeWord, valueWord}
-use Rattle.syntax.specs.Reading.{declared, openName, partsOk, unkeyedNumber, hostTypeOk, hostValueOk, w-value, written}
+use Rattle.syntax.specs.Reading.{declared, openName, partsOk, unkeyedNumber, hostTypeOk, hostValueOk, written}
 use Rattle.syntax.specs.ReadLaws.{TypesOk}
 use Rattle.syntax.specs.ReadFormed.{entry-parts, tree-at}
 use Rattle.job.specs.Bytes.{fieldAt}
-use Rattle.job.specs.Entries.{valuedOf, hostWordOk, valueEntry}
-use Rattle.job.specs.declared.Entry.{Entry}
+use Rattle.job.specs.Entries.{hostWordOk, valueEntry}
 use Rattle.job.specs.declared.Entry.the-variants.{Refuse, Valued}
-use Rattle.job.proofs.Ops.{byteOf, fieldsFrom}
+use Rattle.job.proofs.Ops.{fieldsFrom}
 use Rattle.job.proofs.Entered.{okW, entryW, judgedW}
-use Rattle.job.proofs.TypeLaws.{getElem?-some}
 
 module _ (types : List ℕ) (ds : List Name) (w x : ℕ) where
   not-host : w % 256 < 20 → (w % 256 ≡ 18 → ⊥) → hostWordOk types ds w x ≡ false

@@ -1,30 +1,29 @@
 -- The lines that the functions put together are the desk program's.
 use mathlib.Core.Path.{_≡_, refl, sym, ap, _∙_, fun-ext}
-use Prim.Native.Nat.{ℕ, suc, _%_, _≤_, _<_}
+use Prim.Native.Nat.{ℕ, _%_, _≤_, _<_}
 use native.Mathlib.Omega.{arith}
 use mathlib.Core.Bool.{Bool, true, false, cond, false≢true}
-use mathlib.Core.List.{List, [], _∷_, _++_, append-nil}
-use lib.ListN.{length, getD, take, replicate, length-replicate, length-take}
+use mathlib.Core.List.{List, [], _++_, append-nil}
+use lib.ListN.{length, getD, take}
 use lib.Seq.{take-all, length-take-le}
-use lib.Dec.{eqb, ltb}
+use lib.Dec.{eqb}
 use borrow.Author.Tests.{ne-eqb}
-use Rattle.order.specs.Bools.{_or_}
 use Rattle.order.specs.Effects.{Effect}
 use mathlib.Core.Option.{none, some}
-use Rattle.syntax.specs.Types.{Ty, e-num, grow, tree}
+use Rattle.syntax.specs.Types.{Ty, e-num, grow, treeIn, tree}
 use Rattle.syntax.specs.Commands.{Cmd, mapCmd}
 use Rattle.syntax.specs.Operands.{nth}
 use Rattle.syntax.specs.Job.{Job, sourceOf}
-use Rattle.syntax.specs.Reading.{Refusal, Read, read, reading}
+use Rattle.syntax.specs.Reading.{Refusal, read, reading}
 use Rattle.syntax.specs.ReadFormed.{nth-map}
 use Rattle.syntax.specs.Words.{codeIn, entryBits, entryIn}
 use Rattle.syntax.specs.WordLaws.{Bytes}
 use Rattle.typing.specs.Verdict.{Verdict, accept, refuse, verdictOf}
 use Rattle.typing.specs.Tables.{Tables, short, verdictWith}
-use Rattle.semantics.specs.Machine.{Value, Control, hand, enter, Machine as Clean}
+use Rattle.semantics.specs.Machine.{hand, Machine as Clean}
 use Rattle.semantics.specs.Start.{startOf}
 use Rattle.semantics.specs.Room.{isDone, doneAt}
-use Rattle.semantics.specs.Calls.{Call, run-of, taken, finished, spent, noroom, stuck, denied, Ran, run}
+use Rattle.semantics.specs.Calls.{Call, taken, finished, spent, noroom, stuck, denied, Ran, run}
 use Rattle.semantics.specs.RunLaws.{Says, one-taken, one-done, one-stuck, one-denied, one-noroom, run-done, run-spent, run-stuck, run-denied, run-noroom, run-says}
 use Rattle.semantics.specs.TypeFree.{run-same}
 use Rattle.semantics.specs.Demand3.{exprOf}
@@ -44,7 +43,7 @@ use Rattle.report.specs.Text.{joined, typeSort, kindSort, kindNumber, acceptedA
 use Rattle.report.specs.Laws.{accepted-line, accepted-done, accepted-spent, accepted-no-room}
 use Rattle.checker.specs.declared.Checked.{Checked}
 use Rattle.checker.specs.declared.Verdict.the-variants as verdicts
-use Rattle.checker.specs.Answer.{tables, treeOf, treeFrom, verdictIn, CheckTo}
+use Rattle.checker.specs.Answer.{treeOf, verdictIn, CheckTo}
 use Rattle.accepting.specs.Accepting.{Accepting, accepting}
 use Rattle.begin.specs.Starts.{Ready}
 use Rattle.lines.specs.Places.{refusal-place}
@@ -82,7 +81,7 @@ module _ (byte q a b s : ℕ) (f : ℕ → Ty) where
 
 pub sort-is : (types sets : List ℕ) (i w : ℕ) (k : Sort) → ((q a b s : ℕ) (f : ℕ → Ty) → k ≡ typeSort (grow (entryBits (w % 256) q a b s) f)) → w ≡ getD types i 0
     → k ≡ typeSort (treeOf types sets i)
-unfolding treeOf treeFrom entryIn
+unfolding treeOf treeIn entryIn
 sort-is types sets i w k h e = rw (sym e) (h _ _ _ _ _)
 
 -- a machine that hands on a value, and one that is done
@@ -95,7 +94,7 @@ unfolding view isDone doneAt
 seen-enter m e h = rw h
 
 pub finished-hand : (T : Ty) (s : Effect) (o : Outcome) (v : Held) (first second both : List ℕ) (k : Sort) (x : ℕ) → first ≡ acceptedAs s (typeSort T) → o .machine .thread .now .control ≡ Hand v
-    → k ≡ kindSort (kindIn (v .kind)) → x ≡ kindNumber (kindIn (v .kind)) → second ≡ doneAs (o .taken) k x → both ≡ joined first second
+    → k ≡ kindSort (kindIn (v .kind) (v .payload)) → x ≡ kindNumber (kindIn (v .kind) (v .payload)) → second ≡ doneAs (o .taken) k x → both ≡ joined first second
     → both ≡ acceptedLine T s ++ ranLine finished (o .taken) (seen (o .machine))
 finished-hand T s o v first second both k x a c d e f g =
     rw (g, a, f, d, e) (accepted-done T s (o .taken) (seen (o .machine)) (valueIn v) (seen-hand (o .machine) v c))

@@ -42,28 +42,28 @@ fn type_sort(byte: u64) -> Sort
 }
 
 fn kind_sort(k: Kind) -> Sort
-    ensures { λ r. ⌜ r ≡ kindSort (kindIn k) ⌝ }
+    ensures { λ r. ⌜ ((n : ℕ) → r ≡ kindSort (kindIn k n)) ⌝ }
 {
     match k {
-        Kind::Number(_) => Sort::Number,
-        Kind::Pair(_) => Sort::Pair,
-        Kind::Cell(_) => Sort::Cell,
-        Kind::Function(_) => Sort::Function,
-        Kind::Limit(_) => Sort::Limit,
-        Kind::Grant(_) => Sort::Grant,
+        Kind::Number => Sort::Number,
+        Kind::Pair => Sort::Pair,
+        Kind::Cell => Sort::Cell,
+        Kind::Function => Sort::Function,
+        Kind::Limit => Sort::Limit,
+        Kind::Grant => Sort::Grant,
     }
 }
 
-fn kind_number(k: Kind) -> u32
-    ensures { λ r. ⌜ r ≡ kindNumber (kindIn k) ⌝ }
+fn kind_number(k: Kind, payload: u32) -> u32
+    ensures { λ r. ⌜ r ≡ kindNumber (kindIn k payload) ⌝ }
 {
     match k {
-        Kind::Number(n) => n,
-        Kind::Pair(n) => n,
-        Kind::Cell(n) => n,
-        Kind::Function(n) => n,
-        Kind::Limit(j) => j.0 as u32,
-        Kind::Grant(j) => j.0 as u32,
+        Kind::Number => payload,
+        Kind::Pair => payload,
+        Kind::Cell => payload,
+        Kind::Function => payload,
+        Kind::Limit => payload % 256,
+        Kind::Grant => payload % 256,
     }
 }
 
@@ -79,7 +79,7 @@ fn finished(first: Text, o: Outcome) -> Text
         Control::Hand(v) => {
             let k = v.kind;
             let sort = kind_sort(k);
-            let x = kind_number(k);
+            let x = kind_number(k, v.payload);
             let second = report::done(o.taken, sort, x);
             report::both(first, second)
         }

@@ -47,9 +47,9 @@ module _ (m : Clean) (t : Thread) (w : Tables) (o : Out) where
   unfolding view
   gave v e f = simp (e, f)
 
-  pub gave-new : (k : Kind) {v : Value} {r : Acted} → v ≡ unkeyedOf k → r ≡ giveOf t v → o ≡ give (unkeyed (kindIn k)) (view t w) → acted r w ≡ settled m o
+  pub gave-new : (k : Kind) (n : ℕ) {v : Value} {r : Acted} → v ≡ unkeyedOf k n → r ≡ giveOf t v → o ≡ give (unkeyed (kindIn k n)) (view t w) → acted r w ≡ settled m o
   unfolding view
-  gave-new k h e f = simp (e, h, f)
+  gave-new k n h e f = simp (e, h, f)
 
   pub goes : (e : Expr) (env : ℕ) (on : Keys) {r : Acted} → r ≡ goOf t e env on → o ≡ go (e .0) env (keysIn on) (view t w) → acted r w ≡ settled m o
   unfolding view
@@ -302,7 +302,7 @@ went-view self w b n keys pairs cs e = simp e
 pub made-all :
     (self : Thread) (w : Tables) (x r : ℕ) (b : Expr) (j : ℕ) (keys pairs bs cs : List ℕ) {l g p : Value} {t : Acted} →
     self .keys < 128 → self .pairs < 512 → self .bindings < 1023 →
-    l ≡ unkeyedOf (Limit (record { 0 = self .keys })) → g ≡ unkeyedOf (Grant (record { 0 = self .keys })) → p ≡ unkeyedOf (Pair (self .pairs)) →
+    l ≡ unkeyedOf Limit (self .keys) → g ≡ unkeyedOf Grant (self .keys) → p ≡ unkeyedOf Pair (self .pairs) →
     Put upIn 128 (w .keys) keys (self .keys) j → Put pairIn 512 (w .pairs) pairs (self .pairs) (record { one = valueIn l; two = valueIn g }) →
     Put linkIn 1024 (w .bindings) bs (self .bindings) (record { bind = b-name r (self .keys); next = self .now .env }) →
     Put linkIn 1024 bs cs (self .bindings + 1) (record { bind = b-var x (valueIn p); next = self .bindings + 1 }) →
@@ -311,5 +311,6 @@ pub made-all :
 made-all self w x r b j keys pairs bs cs hk hp hb el eg ep pk pp pb pc et =
     let s1 : self .bindings + 1 ≡ suc (self .bindings) = omega arith in
     let s2 : self .bindings + 2 ≡ suc (self .bindings + 1) = omega arith in
-    let q = new-made self w x r (b .0) j keys pairs bs cs (self .bindings + 1) (self .bindings + 2) s1 s2 hk hp hb pk (rw (el, eg) at pp) pb (rw ep at pc) in
+    let m : self .keys % 256 ≡ self .keys = omega arith in
+    let q = new-made self w x r (b .0) j keys pairs bs cs (self .bindings + 1) (self .bindings + 2) s1 s2 hk hp hb pk (rw (el, eg, m) at pp) pb (rw ep at pc) in
     record { answer = ap (λ (a : Acted). a .answer) et; gives = q ∙ went-view self w b (self .bindings + 2) keys pairs cs et }

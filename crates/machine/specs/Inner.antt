@@ -89,8 +89,8 @@ resumeOf t top env on =
       bindings = t .bindings;
     }
 
-abbrev pub unkeyedOf : Kind → Value
-unkeyedOf k = record { key = record { 0 = 0 }; kind = k }
+abbrev pub unkeyedOf : Kind → ℕ → Value
+unkeyedOf k n = record { key = record { 0 = 0 }; kind = k; payload = n }
 
 -- the keys of a limit, or a value that is no limit key
 abbrev pub limitsIn : Limits → (List ℕ → Out) → Out

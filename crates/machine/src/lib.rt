@@ -67,12 +67,12 @@ pub struct Now {
 // What changes at each step, and how many entries of each table are used.
 pub struct Thread {
     pub now: Now,
-    pub frames: u16,
-    pub cells: u16,
-    pub keys: u16,
-    pub pairs: u16,
-    pub functions: u16,
-    pub bindings: u16,
+    pub frames: u64,
+    pub cells: u64,
+    pub keys: u64,
+    pub pairs: u64,
+    pub functions: u64,
+    pub bindings: u64,
 }
 
 pub struct Acted {
@@ -136,12 +136,13 @@ fn close(done: bool, a: Answer) -> Answer
     }
 }
 
-fn unkeyed(k: Kind) -> Value
-    ensures { λ r. ⌜ r ≡ unkeyedOf k ⌝ }
+fn unkeyed(k: Kind, payload: u32) -> Value
+    ensures { λ r. ⌜ r ≡ unkeyedOf k payload ⌝ }
 {
     Value {
         key: Key(0),
         kind: k,
+        payload: payload,
     }
 }
 
@@ -209,19 +210,24 @@ fn limit_keys(a: Value, b: Value, c: Value, d: Value) -> Limits
     let j = b.kind;
     let k = c.kind;
     let l = d.kind;
-    let Kind::Limit(p) = i else {
+    let Kind::Limit = i else {
         return Limits::Other;
     };
-    let Kind::Limit(q) = j else {
+    let Kind::Limit = j else {
         return Limits::Other;
     };
-    let Kind::Limit(s) = k else {
+    let Kind::Limit = k else {
         return Limits::Other;
     };
-    let Kind::Limit(t) = l else {
+    let Kind::Limit = l else {
         return Limits::Other;
     };
-    Limits::All(Own(p, q, s, t))
+    Limits::All(Own(
+        store::key_in(a),
+        store::key_in(b),
+        store::key_in(c),
+        store::key_in(d),
+    ))
 }
 
 // The value in hand at place j of a frame that holds so many; past them v.
@@ -290,7 +296,7 @@ impl Thread {
         };
         let mut next = self;
         next.now = n;
-        next.frames = top;
+        next.frames = top as u64;
         next
     }
 
@@ -326,7 +332,7 @@ impl Thread {
         if n < 512 {
             store::put_pair(
                 pairs,
-                n,
+                n as u16,
                 Two {
                     first: x,
                     second: y,
@@ -334,7 +340,7 @@ impl Thread {
             );
             let mut next = back;
             next.pairs = n + 1;
-            let v = unkeyed(Kind::Pair(n as u32));
+            let v = unkeyed(Kind::Pair, n as u32);
             next.give(v)
         } else {
             self.stop(Answer::NoRoom)
@@ -352,14 +358,14 @@ impl Thread {
         ensures { λ r. ⌜ ((w : Tables) → acted r (putKeys (putPairs w (now (pairs .entry))) (now (keys .entry))) ≡ tried self back (putKeys (putPairs w (now (pairs .entry))) (now (keys .entry))) (actPart first (valueIn x))) ⌝ }
     {
         let k = x.kind;
-        let Kind::Pair(j) = k else {
+        let Kind::Pair = k else {
             return self.stop(Answer::Stuck);
         };
         if back.touch(x, keys) {} else {
             return self.stop(Answer::Denied);
         }
-        if j < store::cap(back.pairs, 512) as u32 {
-            let t = store::pair_at(pairs, j);
+        if (x.payload as u64) < store::cap(back.pairs, 512) {
+            let t = store::pair_at(pairs, x.payload);
             let one = t.first;
             let two = t.second;
             if first {
@@ -384,25 +390,25 @@ impl Thread {
         ensures { λ r. ⌜ ((w : Tables) → acted r (putBindings (putFunctions (putKeys w (now (keys .entry))) (now (functions .entry))) (now (bindings .exit))) ≡ tried self back (putBindings (putFunctions (putKeys w (now (keys .entry))) (now (functions .entry))) (now (bindings .entry))) (actApp (valueIn x) (valueIn y))) ⌝ }
     {
         let k = x.kind;
-        let Kind::Function(j) = k else {
+        let Kind::Function = k else {
             return self.stop(Answer::Stuck);
         };
         if back.touch(x, keys) {} else {
             return self.stop(Answer::Denied);
         }
-        if j < store::cap(back.functions, 512) as u32 {} else {
+        if (x.payload as u64) < store::cap(back.functions, 512) {} else {
             return self.stop(Answer::Stuck);
         }
         let n = back.bindings;
         if n < 1024 {
-            let f = store::closure_at(functions, j);
+            let f = store::closure_at(functions, x.payload);
             let body = f.body;
-            store::put_variable(bindings, n, f.var, y, f.env);
+            store::put_variable(bindings, n as u16, f.var, y, f.env);
             let now = back.now;
             let on = now.on;
             let mut next = back;
             next.bindings = n + 1;
-            next.go(body, n + 1, on)
+            next.go(body, (n + 1) as u16, on)
         } else {
             self.stop(Answer::NoRoom)
         }
@@ -416,7 +422,7 @@ impl Thread {
             store::put_cell(cells, n as u32, x);
             let mut next = back;
             next.cells = n + 1;
-            let v = unkeyed(Kind::Cell(n as u32));
+            let v = unkeyed(Kind::Cell, n as u32);
             next.give(v)
         } else {
             self.stop(Answer::NoRoom)
@@ -434,14 +440,14 @@ impl Thread {
         ensures { λ r. ⌜ ((w : Tables) → acted r (putCells (putKeys w (now (keys .entry))) (now (cells .exit))) ≡ tried self back (putCells (putKeys w (now (keys .entry))) (now (cells .entry))) (actAsg (valueIn x) (valueIn y))) ⌝ }
     {
         let k = x.kind;
-        let Kind::Cell(j) = k else {
+        let Kind::Cell = k else {
             return self.stop(Answer::Stuck);
         };
         if back.touch(x, keys) {} else {
             return self.stop(Answer::Denied);
         }
-        if j < store::cap(back.cells, 256) as u32 {
-            store::put_cell(cells, j, y);
+        if (x.payload as u64) < store::cap(back.cells, 256) {
+            store::put_cell(cells, x.payload, y);
             back.give(y)
         } else {
             self.stop(Answer::Stuck)
@@ -452,14 +458,14 @@ impl Thread {
         ensures { λ r. ⌜ ((w : Tables) → acted r (putCells (putKeys w (now (keys .entry))) (now (cells .entry))) ≡ tried self back (putCells (putKeys w (now (keys .entry))) (now (cells .entry))) (actRead (valueIn x))) ⌝ }
     {
         let k = x.kind;
-        let Kind::Cell(j) = k else {
+        let Kind::Cell = k else {
             return self.stop(Answer::Stuck);
         };
         if back.touch(x, keys) {} else {
             return self.stop(Answer::Denied);
         }
-        if j < store::cap(back.cells, 256) as u32 {
-            let v = store::cell_at(cells, j);
+        if (x.payload as u64) < store::cap(back.cells, 256) {
+            let v = store::cell_at(cells, x.payload);
             back.give(v)
         } else {
             self.stop(Answer::Stuck)
@@ -471,10 +477,10 @@ impl Thread {
     {
         let k = x.kind;
         let l = y.kind;
-        let Kind::Number(i) = k else {
+        let Kind::Number = k else {
             return self.stop(Answer::Stuck);
         };
-        let Kind::Number(j) = l else {
+        let Kind::Number = l else {
             return self.stop(Answer::Stuck);
         };
         if back.touch(x, keys) {} else {
@@ -483,7 +489,7 @@ impl Thread {
         if back.touch(y, keys) {} else {
             return self.stop(Answer::Denied);
         }
-        let v = unkeyed(Kind::Number(sum_of(sum, i, j)));
+        let v = unkeyed(Kind::Number, sum_of(sum, x.payload, y.payload));
         back.give(v)
     }
 
@@ -491,7 +497,7 @@ impl Thread {
         ensures { λ r. ⌜ ((w : Tables) → acted r (putKeys w (now (keys .entry))) ≡ tried self back (putKeys w (now (keys .entry))) (actTest (yes .0) (no .0) (valueIn x))) ⌝ }
     {
         let k = x.kind;
-        let Kind::Number(n) = k else {
+        let Kind::Number = k else {
             return self.stop(Answer::Stuck);
         };
         if back.touch(x, keys) {} else {
@@ -499,7 +505,7 @@ impl Thread {
         }
         let now = back.now;
         let on = now.on;
-        if n == 0 {
+        if x.payload == 0 {
             back.go(no, now.env, on)
         } else {
             back.go(yes, now.env, on)
@@ -535,7 +541,7 @@ impl Thread {
         ensures { λ r. ⌜ ((w : Tables) → acted r (putKeys w (now (keys .entry))) ≡ tried self back (putKeys w (now (keys .entry))) (actGrant (body .0) (valueIn x))) ⌝ }
     {
         let k = x.kind;
-        let Kind::Grant(j) = k else {
+        let Kind::Grant = k else {
             return self.stop(Answer::Stuck);
         };
         if back.touch(x, keys) {} else {
@@ -543,6 +549,7 @@ impl Thread {
         }
         let now = back.now;
         let on = now.on;
+        let j = store::key_in(x);
         let more = store::add(back.keys, on, j);
         back.go(body, now.env, more)
     }
@@ -561,7 +568,7 @@ impl Thread {
         ensures { λ t. ⌜ ((w : Tables) → acted t (putBindings (putPairs (putKeys w (now (keys .exit))) (now (pairs .exit))) (now (bindings .exit))) ≡ tried self back (putBindings (putPairs (putKeys w (now (keys .entry))) (now (pairs .entry))) (now (bindings .entry))) (actNewkey x r (body .0) (valueIn v))) ⌝ }
     {
         let k = v.kind;
-        let Kind::Limit(j) = k else {
+        let Kind::Limit = k else {
             return self.stop(Answer::Stuck);
         };
         if back.touch(v, keys) {} else {
@@ -579,6 +586,7 @@ impl Thread {
         if nb < 1023 {} else {
             return self.stop(Answer::NoRoom);
         }
+        let j = store::key_in(v);
         back.new_key(x, r, body, j, keys, pairs, bindings)
     }
 
@@ -602,32 +610,32 @@ impl Thread {
         let now = self.now;
         let on = now.on;
         let key = Key(nk as u8);
-        let limit = unkeyed(Kind::Limit(key));
-        let grant = unkeyed(Kind::Grant(key));
-        let pair = unkeyed(Kind::Pair(np as u32));
-        store::put_up(keys, nk, j);
+        let limit = unkeyed(Kind::Limit, nk as u32);
+        let grant = unkeyed(Kind::Grant, nk as u32);
+        let pair = unkeyed(Kind::Pair, np as u32);
+        store::put_up(keys, nk as u16, j);
         store::put_pair(
             pairs,
-            np,
+            np as u16,
             Two {
                 first: limit,
                 second: grant,
             },
         );
-        store::put_name(bindings, nb, r, key, now.env);
-        store::put_variable(bindings, nb + 1, x, pair, nb + 1);
+        store::put_name(bindings, nb as u16, r, key, now.env);
+        store::put_variable(bindings, (nb + 1) as u16, x, pair, (nb + 1) as u16);
         let mut next = self;
         next.keys = nk + 1;
         next.pairs = np + 1;
         next.bindings = nb + 2;
-        next.go(body, nb + 2, on)
+        next.go(body, (nb + 2) as u16, on)
     }
 
     fn act_associate(self, back: Thread, x: Value, y: Value, keys: &[u8; 128]) -> Acted
         ensures { λ r. ⌜ ((w : Tables) → acted r (putKeys w (now (keys .entry))) ≡ tried self back (putKeys w (now (keys .entry))) (actAssoc (valueIn x) (valueIn y))) ⌝ }
     {
         let l = y.kind;
-        let Kind::Limit(j) = l else {
+        let Kind::Limit = l else {
             return self.stop(Answer::Stuck);
         };
         if back.touch(x, keys) {} else {
@@ -636,8 +644,13 @@ impl Thread {
         if back.touch(y, keys) {} else {
             return self.stop(Answer::Denied);
         }
+        let j = store::key_in(y);
         let k = x.kind;
-        back.give(Value { key: j, kind: k })
+        back.give(Value {
+            key: j,
+            kind: k,
+            payload: x.payload,
+        })
     }
 
     fn push(self, e: Expr, first: Expr, frames: &mut [u64; 1536]) -> Acted
@@ -647,7 +660,7 @@ impl Thread {
         if n < 256 {
             let now = self.now;
             let on = now.on;
-            store::put_fresh(frames, n, e, now.env, on);
+            store::put_fresh(frames, n as u16, e, now.env, on);
             let mut next = self;
             next.frames = n + 1;
             next.go(first, now.env, on)
@@ -664,7 +677,7 @@ impl Thread {
             let now = self.now;
             store::put_closure(
                 functions,
-                n,
+                n as u16,
                 Closure {
                     var: x,
                     body: body,
@@ -673,7 +686,7 @@ impl Thread {
             );
             let mut next = self;
             next.functions = n + 1;
-            let v = unkeyed(Kind::Function(n as u32));
+            let v = unkeyed(Kind::Function, n as u32);
             next.give(v)
         } else {
             self.stop(Answer::NoRoom)
@@ -684,7 +697,7 @@ impl Thread {
         ensures { λ r. ⌜ ((w : Tables) → acted r (putBindings w (now (bindings .entry))) ≡ tried self self (putBindings w (now (bindings .entry))) (variable x)) ⌝ }
     {
         let now = self.now;
-        let n = store::cap(self.bindings, 1024);
+        let n = store::cap(self.bindings, 1024) as u16;
         let found = lookup(bindings, n, x, now.env);
         match found {
             Found::At(v) => self.give(v),
@@ -713,7 +726,7 @@ impl Thread {
         }
         match op {
             0x31 => {
-                let v = unkeyed(Kind::Limit(Key(1)));
+                let v = unkeyed(Kind::Limit, 1);
                 self.give(v)
             }
             0x32 => self.variable((x % 256) as u8, bindings),
@@ -723,7 +736,7 @@ impl Thread {
                 self.go(Expr(store::at16(slots, i * 5 + 4)), now.env, Keys(0, 0))
             }
             _ => {
-                let v = unkeyed(Kind::Number(x as u32));
+                let v = unkeyed(Kind::Number, x as u32);
                 self.give(v)
             }
         }
@@ -867,7 +880,7 @@ impl Thread {
     ) -> Acted
         ensures { λ r. ⌜ acted r (tables (now (frames .exit)) (now (cells .exit)) (now (keys .exit)) (now (pairs .exit)) (now (functions .exit)) (now (bindings .exit))) ≡ tried self self (tables (now (frames .entry)) (now (cells .entry)) (now (keys .entry)) (now (pairs .entry)) (now (functions .entry)) (now (bindings .entry))) (λ m. handTo (codeIn (now (heads .entry)) (now (slots .entry))) (valueIn v) (m .thread .frames) m) ⌝ }
     {
-        let n = store::cap(self.frames, 256);
+        let n = store::cap(self.frames, 256) as u16;
         if n == 0 {
             return self.stop(Answer::Finished);
         }

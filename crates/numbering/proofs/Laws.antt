@@ -1,10 +1,10 @@
 -- Laws that the functions' proofs cite: binders and entries by their kinds, and one turn of each loop.
 use mathlib.Core.Path.{_≡_, refl, sym, ap, _∙_, subst}
-use Prim.Native.Nat.{ℕ, zero, suc, _+_, _-_, _/_, _%_, _<_, _≤_}
+use Prim.Native.Nat.{ℕ, suc, _+_, _-_, _/_, _%_, _<_, _≤_}
 use native.Mathlib.Omega.{arith}
 use mathlib.Core.Bool.{Bool, true, false, cond}
 use mathlib.Core.List.{List, [], _∷_}
-use lib.ListN.{length, getD, set, replicate}
+use lib.ListN.{getD, set, replicate}
 use lib.Dec.{eqb}
 use borrow.Author.Tests.{ne-eqb}
 use types.Run.{OneOf, miss}
@@ -28,11 +28,6 @@ use Rattle.numbering.specs.declared.Passed.the-variants as passed
 use Rattle.numbering.specs.Binders.{binderOf, Bound, bound, boundOne, boundFrom, hostsFrom}
 use Rattle.numbering.specs.declared.Passed.{Passed}
 use Rattle.numbering.specs.Pass.{Work, work, nextOf, settled, Settled, Out, out, turn, resultBy, typedFrom, Ended, bindersBy, afterBinders, numberedBy}
-
-pub set-past : (l : List ℕ) (i x : ℕ) → length l ≤ i → l ≡ set l i x
-set-past [] i x h = refl
-set-past (y ∷ l) zero x h = absurd (omega arith)
-set-past (y ∷ l) (suc i) x h = ap (λ (m : List ℕ). y ∷ m) (set-past l i x (omega arith))
 
 -- Kinds
 

@@ -4,22 +4,24 @@ use Prim.Native.Nat.{ℕ, zero, suc, _+_, _*_, _/_, _%_, _<_, _≤_}
 use native.Mathlib.Omega.{arith}
 use mathlib.Core.Bool.{Bool, true, false, cond}
 use mathlib.Core.List.{List, [], _∷_, _++_, map, append-assoc, append-nil}
-use mathlib.Core.Option.{some, none}
+use mathlib.Core.Option.{some}
 use mathlib.Core.Logic.{_≢_}
 use lib.ListN.{length, getD, set, length-append, length-map, length-set, getElem?}
 use lib.Seq.{getD-set-same, getD-set-other}
 use lib.Dec.{eqb}
 use borrow.Author.Tests.{ne-eqb, eqb-true, eqb-false}
+use Rattle.order.specs.OrderLaws.{length-snoc}
 use Rattle.syntax.specs.Types.{TypeEntry, e-pair, e-lim, e-grant}
 use Rattle.syntax.specs.Commands.{Cmd, c-num, c-top, c-var, c-pair, c-part, c-fn, c-app, c-new, c-asg, c-read, c-sum, c-test, c-lim, c-grant, c-newkey, c-assoc}
 use Rattle.syntax.specs.Operands.{nth}
 use Rattle.syntax.specs.Words.{filled, typeBits, typeWord, setWord, typeWords, setWords, codeIn}
 use Rattle.syntax.specs.Job.{HostValue}
 use Rattle.syntax.specs.ReadFormed.{map-snoc}
+use Rattle.syntax.specs.WordLaws.{filled-set, filled-zero}
 use Rattle.typing.specs.Layout.{newKeys, keyEntries, Typing, typing, hostVars, boundVars, entryOf}
+use Rattle.typing.specs.NumberedTables.{withKey, key-split}
 use Rattle.numbering.specs.declared.Binder.{Binder}
 use Rattle.numbering.specs.declared.Binder.the-variants.{Nothing, Function, NewKey}
-use Rattle.numbering.specs.Fill.{filled-set, filled-zero}
 use Rattle.numbering.specs.Binders.{binderOf, layKey, Bound, bound, boundOne, boundFrom, hostsFrom}
 
 -- By commands
@@ -97,17 +99,11 @@ vars-by n (c-assoc a b) l = refl
 word-more : (k : ℕ) (T : List TypeEntry) (x : TypeEntry) (i w : ℕ) → i ≡ length T → w ≡ typeWord x → length T < k → set (filled k 0 (typeWords T)) i w ≡ filled k 0 (typeWords (T ++ (x ∷ [])))
 word-more k T x i w e f h =
     ap (λ (y : ℕ). set (filled k 0 (typeWords T)) i y) f
-    ∙ filled-set k (typeWords T) i (typeWord x) (e ∙ sym (length-map T typeWord)) (omega (arith, length-map T typeWord))
+    ∙ filled-set k (typeWords T) i (typeWord x) (omega (arith, length-map T typeWord)) (e ∙ sym (length-map T typeWord))
     ∙ ap (filled k 0) (sym (map-snoc typeWord T x))
 
-snoc-length : (T : List TypeEntry) (x : TypeEntry) → length (T ++ (x ∷ [])) ≡ suc (length T)
-snoc-length T x = omega (arith, length-append T (x ∷ []))
-
-abbrev withKey : List TypeEntry → ℕ → List TypeEntry
-withKey T r = ((T ++ (e-lim 0 r ∷ [])) ++ (e-grant 0 r ∷ [])) ++ (e-pair 0 (length T) (suc (length T)) ∷ [])
-
 key-length : (T : List TypeEntry) (r : ℕ) → length (withKey T r) ≡ length T + 3
-key-length T r = omega (arith, snoc-length ((T ++ (e-lim 0 r ∷ [])) ++ (e-grant 0 r ∷ [])) (e-pair 0 (length T) (suc (length T))), snoc-length (T ++ (e-lim 0 r ∷ [])) (e-grant 0 r), snoc-length T (e-lim 0 r))
+key-length T r = omega (arith, length-snoc ((T ++ (e-lim 0 r ∷ [])) ++ (e-grant 0 r ∷ [])) (e-pair 0 (length T) (suc (length T))), length-snoc (T ++ (e-lim 0 r ∷ [])) (e-grant 0 r), length-snoc T (e-lim 0 r))
 
 laid : (k : ℕ) (T : List TypeEntry) (r : ℕ) → length T + 3 ≤ k → length T + 3 ≤ 65536 → layKey (filled k 0 (typeWords T)) (length T) r ≡ filled k 0 (typeWords (withKey T r))
 unfolding layKey typeWord
@@ -121,14 +117,8 @@ laid k T r h small =
     ap (λ (l : List ℕ). set (set l (length T + 1) (typeBits 0x15 0 r 0)) (length T + 2) (typeBits 0x11 0 (length T % 65536) ((length T + 1) % 65536)))
     (word-more k T a (length T) (typeBits 0x14 0 r 0) refl refl (omega arith))
     ∙ ap (λ (l : List ℕ). set l (length T + 2) (typeBits 0x11 0 (length T % 65536) ((length T + 1) % 65536)))
-    (word-more k (T ++ (a ∷ [])) b (length T + 1) (typeBits 0x15 0 r 0) (omega (arith, snoc-length T a)) refl (omega (arith, snoc-length T a)))
-    ∙ word-more k ((T ++ (a ∷ [])) ++ (b ∷ [])) c (length T + 2) _ (omega (arith, snoc-length (T ++ (a ∷ [])) b, snoc-length T a)) s (omega (arith, snoc-length (T ++ (a ∷ [])) b, snoc-length T a))
-
-key-split : (T : List TypeEntry) (r : ℕ) (rs : List ℕ) → withKey T r ++ keyEntries (length (withKey T r)) rs ≡ T ++ keyEntries (length T) (r ∷ rs)
-unfolding keyEntries
-key-split T r rs =
-    let z : length (withKey T r) ≡ 3 + length T = omega (arith, key-length T r) in
-    ap (λ (n : ℕ). withKey T r ++ keyEntries n rs) z ∙ simp append-assoc
+    (word-more k (T ++ (a ∷ [])) b (length T + 1) (typeBits 0x15 0 r 0) (omega (arith, length-snoc T a)) refl (omega (arith, length-snoc T a)))
+    ∙ word-more k ((T ++ (a ∷ [])) ++ (b ∷ [])) c (length T + 2) _ (omega (arith, length-snoc (T ++ (a ∷ [])) b, length-snoc T a)) s (omega (arith, length-snoc (T ++ (a ∷ [])) b, length-snoc T a))
 
 -- the table and its count, when T stands in it
 pub record Keys (k : ℕ) (U : List TypeEntry) (x : Bound) : Type 0 where
@@ -145,7 +135,7 @@ module _ (k : ℕ) (l : List (Cmd ℕ)) (T : List TypeEntry) (vs : List ℕ)
       let us : List ℕ = set vs v ((length T + 2) % 65536) in
       let e : bound (length (withKey T r)) (filled k 0 (typeWords (withKey T r))) us ≡ bound (length T + 3) (layKey (filled k 0 (typeWords T)) (length T) r) us =
       λ i. bound (key-length T r i) (sym (laid k T r (omega arith) (omega arith)) i) us in
-      subst (λ (U : List TypeEntry). Keys k U (boundAll l (bound (length T + 3) (layKey (filled k 0 (typeWords T)) (length T) r) us))) (key-split T r (newKeys l))
+      subst (λ (U : List TypeEntry). Keys k U (boundAll l (bound (length T + 3) (layKey (filled k 0 (typeWords T)) (length T) r) us))) (sym (key-split T r (newKeys l)))
       (subst (λ (x : Bound). Keys k (withKey T r ++ keyEntries (length (withKey T r)) (newKeys l)) (boundAll l x)) e
       (rest (withKey T r) us (omega (arith, key-length T r)) (omega (arith, key-length T r))))
 

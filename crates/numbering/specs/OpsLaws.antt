@@ -1,5 +1,5 @@
 -- The operations by the tables of a job that was read are those of the order.
-use mathlib.Core.Path.{_≡_, refl, sym, ap, _∙_}
+use mathlib.Core.Path.{_≡_, sym, ap, _∙_}
 use Prim.Native.Nat.{ℕ, suc, _+_, _-_, _%_, _^_, _≤_, _<_}
 use native.Mathlib.Omega.{arith}
 use mathlib.Core.Bool.{true}
@@ -17,7 +17,7 @@ use Rattle.syntax.specs.ReadLaws.{JobOk}
 use Rattle.syntax.specs.ReadFormed as formed
 use Rattle.typing.specs.Least.{isUpper}
 use Rattle.typing.specs.Numbered.{Ops}
-use Rattle.typing.specs.NumberedTests.{Agree}
+use Rattle.typing.specs.NumberedOps.{Agree}
 use Rattle.names.specs.Ancestors.{nameOf, namesIn, ancestorsBy, ancestorsOf}
 use Rattle.names.specs.Tables.{namesIn-at, names-proper, upper-at, uppers-length}
 use Rattle.names.specs.Pass.{ancestors-by}
@@ -29,10 +29,6 @@ unfoldable pub jobOps : ℕ → Job → Ops
 jobOps k J = opsBy (ancestorsBy (J .names)) (filled k 0 (nameWords J))
 
 module _ (k : ℕ) {J : Job} (j : JobOk J) where
-  up-is : upOf (sourceOf J) ≡ uppers (J .names)
-  unfolding sourceOf
-  up-is = refl
-
   proper : Proper (uppers (J .names))
   proper = formed.names-proper (j .names)
 

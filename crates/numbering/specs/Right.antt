@@ -14,11 +14,12 @@ use Rattle.syntax.specs.ReadFormed.{map-snoc, nth-map, bindsVar-map, cmds-forme
 use Rattle.syntax.specs.Tree.{Entry, e-var, binds, treeRefusal}
 use Rattle.syntax.specs.Scope.{VarIn, v-here, var-twice}
 use Rattle.syntax.specs.Types.{tree}
-use Rattle.syntax.specs.Words.{filled, nameWords, typeWord, setWord, typeWords, setWords, valueWord, valueWords, headWords, slotWords, codeIn}
-use Rattle.syntax.specs.WordLaws.{JobFits, filled-at, word-at, code-back}
+use Rattle.syntax.specs.Words.{filled, nameWords, typeWord, setWord, typeWords, setWords, valueWords, headWords, slotWords, codeIn}
+use Rattle.syntax.specs.WordLaws.{JobFits, zeros-at, filled-at, filled-set, values-back, code-back}
 use Rattle.typing.specs.Layout.{newKeys, keyEntries, boundVars, hostVars, varEntry}
 use Rattle.typing.specs.Tables.{most-entries}
 use Rattle.typing.specs.Numbered.{Result, makes, points, wrong, resultAt, Sofar, settle, numberAt, next, Whole, whole, halted, onto, numberAll, startOf, numbering}
+use Rattle.typing.specs.NumberedTables.{keys-length}
 use Rattle.typing.specs.NumberedLaws.{Inv, Fits, inv-start, inv-next, inv-fits, inv-room, number-turn, number-end}
 use Rattle.typing.specs.NumberedWords.{words-back}
 use Rattle.names.specs.Ancestors.{ancestorsBy}
@@ -28,7 +29,6 @@ use Rattle.numbering.specs.declared.Passed.the-variants as passed
 use Rattle.numbering.specs.Binders.{binderOf, Bound, bound, hostsFrom}
 use Rattle.numbering.specs.Pass.{Work, work, settled, Out, out, turn, resultBy, typedFrom, bindersBy, afterBinders, numberedBy}
 use Rattle.numbering.specs.OpsLaws.{jobOps, agree}
-use Rattle.numbering.specs.Fill.{filled-set}
 use Rattle.numbering.specs.BinderLaws.{boundAll, bound-all, Keys, keys-all, sets-kept, entryOr, Binds, by-fn, by-key, Apart, vars-all, hosts-length, hosts-all, both}
 
 -- Variables are bound once
@@ -112,20 +112,7 @@ pub data Reached (J : Job) (kt ks ko ke : ℕ) : Out → Whole → Type 0 where
   r-halted : (n e : ℕ) (w : Work) → Reached J kt ks ko ke (out (passed.Halted n e) w) (halted (record { number = n; place = e }))
 
 words-more : (f : TypeEntry → ℕ) (k : ℕ) (T : List TypeEntry) (x : TypeEntry) → length T < k → set (filled k 0 (map f T)) (length T) (f x) ≡ filled k 0 (map f (T ++ (x ∷ [])))
-words-more f k T x h = filled-set k (map f T) (length T) (f x) (sym (length-map T f)) (omega (arith, length-map T f)) ∙ ap (filled k 0) (sym (map-snoc f T x))
-
-keys-length : (n : ℕ) (rs : List ℕ) → length (keyEntries n rs) ≡ 3 * length rs
-unfolding keyEntries
-keys-length n [] = refl
-keys-length n (r ∷ rs) = omega (arith, keys-length (3 + n) rs)
-
-zeros-at : (k i : ℕ) → _≡_ {A = ℕ} (getD (replicate k 0) i 0) 0
-zeros-at zero i = refl
-zeros-at (suc k) zero = refl
-zeros-at (suc k) (suc i) = zeros-at k i
-
-value-type : (t n : ℕ) → t < 256 → (0x20 + 256 * t + 16777216 * n) / 256 % 65536 ≡ t
-value-type t n h = omega arith
+words-more f k T x h = filled-set k (map f T) (length T) (f x) (omega (arith, length-map T f)) (sym (length-map T f)) ∙ ap (filled k 0) (sym (map-snoc f T x))
 
 module _ {J : Job} (j : JobOk J) (f : JobFits J) (scoped : treeRefusal (sourceOf J) ≡ none) (kn kt ks ko ke kv kh kp : ℕ)
     (long-types : most-entries ≤ kt) (long-sets : most-entries ≤ ks) (long-entries : 512 ≤ ko) (long-effects : 512 ≤ ke) where
@@ -161,12 +148,11 @@ module _ {J : Job} (j : JobOk J) (f : JobFits J) (scoped : treeRefusal (sourceOf
       (keys-all kt (J .cmds) (J .types) hosted (omega (arith, few)) (omega (arith, few)))
 
   host-var : (v : ℕ) → getD hosted v 0 ≡ entryOr (hostVars 0 (J .values)) v 0
-  unfolding valueWord
   host-var v =
       hosts-all (filled kv 0 (valueWords J)) (J .values) 0 (replicate 64 0) v
       (λ k h e.
       let z : 0 + k ≡ k = omega arith in
-      ap (λ (n : ℕ). getD (filled kv 0 (valueWords J)) n 0 / 256 % 65536) z ∙ ap (λ (n : ℕ). n / 256 % 65536) (word-at valueWord kv (J .values) k h e) ∙ value-type (h .ty) (h .init) (f .values k h e .ty))
+      ap (λ (n : ℕ). getD (filled kv 0 (valueWords J)) n 0 / 256 % 65536) z ∙ values-back J f kv k h e .0)
       (omega (arith, length-replicate {A = ℕ} 64 0, j .few-values))
       ∙ ap (entryOr (hostVars 0 (J .values)) v) (zeros-at 64 v)
 
@@ -198,16 +184,16 @@ module _ {J : Job} (j : JobOk J) (f : JobFits J) (scoped : treeRefusal (sourceOf
         let room : length (σ .entries) < most-entries = inv-room j h v in
         let a : length (σ .entries) + 1 ≡ length (σ .entries ++ (x ∷ [])) = omega (arith, length-append (σ .entries) (x ∷ [])) in
         let b : length (σ .entries) % 65536 ≡ length (σ .entries) = omega arith in
-        let c = ap (λ (n : ℕ). set (filled ko 0 (σ .of)) e n) b ∙ filled-set ko (σ .of) e (length (σ .entries)) (sym (v .count-of)) (omega (arith, v .count-of, j .few-cmds)) in
-        let d = filled-set ke (σ .effects) e s (sym (v .count-effects)) (omega (arith, v .count-effects, j .few-cmds)) in
+        let c = ap (λ (n : ℕ). set (filled ko 0 (σ .of)) e n) b ∙ filled-set ko (σ .of) e (length (σ .entries)) (omega (arith, v .count-of, j .few-cmds)) (sym (v .count-of)) in
+        let d = filled-set ke (σ .effects) e s (omega (arith, v .count-effects, j .few-cmds)) (sym (v .count-effects)) in
         λ i. work (a i) (words-more typeWord kt (σ .entries) x (omega arith) i) (words-more setWord ks (σ .entries) x (omega arith) i) (c i) (d i)
 
     points-more : (e : ℕ) (σ : Sofar) → e < length (J .cmds) → Inv J e σ → (p s : ℕ)
         → settled (points p s) e (workOf kt ks ko ke σ) ≡ workOf kt ks ko ke (record { entries = σ .entries; of = σ .of ++ (p ∷ []); effects = σ .effects ++ (s ∷ []) })
     unfolding settled
     points-more e σ h v p s =
-        let c = filled-set ko (σ .of) e p (sym (v .count-of)) (omega (arith, v .count-of, j .few-cmds)) in
-        let d = filled-set ke (σ .effects) e s (sym (v .count-effects)) (omega (arith, v .count-effects, j .few-cmds)) in
+        let c = filled-set ko (σ .of) e p (omega (arith, v .count-of, j .few-cmds)) (sym (v .count-of)) in
+        let d = filled-set ke (σ .effects) e s (omega (arith, v .count-effects, j .few-cmds)) (sym (v .count-effects)) in
         λ i. work (length (σ .entries)) (filled kt 0 (typeWords (σ .entries))) (filled ks 0 (setWords (σ .entries))) (c i) (d i)
 
     one : (r : Result) (e : ℕ) (σ : Sofar) → e < length (J .cmds) → Inv J e σ → (go : Work → Out) (on : Sofar → Whole)

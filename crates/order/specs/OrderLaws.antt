@@ -4,7 +4,7 @@ use Prim.Native.Nat.{ℕ, zero, suc, _≤_, _<_}
 use native.Mathlib.Omega.{arith}
 use native.Mathlib.Numerals.{add-one}
 use mathlib.Core.Bool.{Bool, true, false, cond, false≢true}
-use mathlib.Core.List.{List, [], _∷_, _++_}
+use mathlib.Core.List.{List, [], _∷_, _++_, List·Memᴰ, List·Memᴰ·head, List·Memᴰ·tail}
 use mathlib.Core.Option.{Option, none, some, Option·none-ne-some, Option·some-injective}
 use mathlib.Core.Logic.{_⊎_, inl, inr}
 use lib.ListN.{length, length-append, getElem?, set}
@@ -30,6 +30,16 @@ pub getElem?-lt {ℓ} : {A : Type ℓ} (l : List A) (i : ℕ) (a : A) → getEle
 getElem?-lt [] i a e = absurd (Option·none-ne-some a e)
 getElem?-lt (x ∷ l) zero a e = Prim.Native.Nat.suc-le-suc Prim.Native.Nat.zero-le
 getElem?-lt (x ∷ l) (suc i) a e = Prim.Native.Nat.suc-le-suc (getElem?-lt l i a e)
+
+pub getElem?-some {ℓ} : {A : Type ℓ} (l : List A) (i : ℕ) → i < length l → (a : A) × (getElem? l i ≡ some a)
+getElem?-some [] i h = absurd (omega arith)
+getElem?-some (x ∷ l) zero h = (x, refl)
+getElem?-some (x ∷ l) (suc i) h = getElem?-some l i (omega arith)
+
+pub getElem?-mem {ℓ} : {A : Type ℓ} (l : List A) (i : ℕ) (a : A) → getElem? l i ≡ some a → List·Memᴰ a l
+getElem?-mem [] i a e = absurd (Option·none-ne-some a e)
+getElem?-mem (x ∷ l) zero a e = List·Memᴰ·head (sym (Option·some-injective x a e))
+getElem?-mem (x ∷ l) (suc i) a e = List·Memᴰ·tail (getElem?-mem l i a e)
 
 -- what is below stays below when the list of upper numbers grows
 pub below-grow : {up : List ℕ} (m : List ℕ) {a b : ℕ} → Below up a b → Below (up ++ m) a b
@@ -69,6 +79,15 @@ getElem?-set {A} (x ∷ l) (suc i) v (suc j) a e = up (getElem?-set l i v j a e)
 -- upper numbers are smaller and never 0, but 0 and 1 are their own
 pub record Proper (up : List ℕ) : Type 0 where
   pub down : (a u : ℕ) → getElem? up a ≡ some u → ((u < a) × (0 < u)) ⊎ ((u ≡ a) × (a < 2))
+
+-- 0 and 1 alone
+pub proper-two : Proper (0 ∷ 1 ∷ [])
+proper-two = record { down = at }
+  where
+    at : (a u : ℕ) → getElem? (0 ∷ 1 ∷ []) a ≡ some u → ((u < a) × (0 < u)) ⊎ ((u ≡ a) × (a < 2))
+    at zero u e = inr (sym (Option·some-injective 0 u e), omega arith)
+    at (suc zero) u e = inr (sym (Option·some-injective 1 u e), omega arith)
+    at (suc (suc a)) u e = absurd (Option·none-ne-some u e)
 
 -- what the test finds holds
 belowIn→ : (up : List ℕ) (f a b : ℕ) → belowIn up f a b ≡ true → Below up a b

@@ -11,7 +11,7 @@ use lib.Dec.{eqb, leb}
 use borrow.Author.Tests.{ne-eqb, eqb-true, eqb-false, leb-true}
 use Rattle.order.specs.Bools.{_and_, and-l, and-r, or-cases}
 use Rattle.order.specs.Order.{Below, bot, here, there}
-use Rattle.order.specs.OrderLaws.{below-grow, getElem?-seam, getElem?-at, getElem?-append, getElem?-lt, length-snoc}
+use Rattle.order.specs.OrderLaws.{below-grow, getElem?-seam, getElem?-at, getElem?-append, getElem?-lt, length-snoc, proper-two}
 use Rattle.order.specs.Sets.{members, setOf}
 use Rattle.order.specs.SetLaws.{setOf-mem}
 use Rattle.order.specs.Effects.{Effect, names, EffBelow}
@@ -318,7 +318,7 @@ module _ (S : Src) (wr : WellRead S) where
     count = refl;
     few = omega arith;
     binds = [];
-    ko = record { proper = record { down = down }; two = omega arith };
+    ko = record { proper = proper-two; two = omega arith };
     env = record { chain = ch-nil; ok = eo-nil (record { step = mono }) (record { step = up }) };
     same = same;
     hosts = λ k d g h l. absurd (omega (arith, l));
@@ -326,11 +326,6 @@ module _ (S : Src) (wr : WellRead S) where
     novar = λ x T l. nothing x T l;
   }
     where
-      down : (a u : ℕ) → getElem? (0 ∷ 1 ∷ []) a ≡ some u → ((u < a) × (0 < u)) ⊎ ((u ≡ a) × (a < 2))
-      down zero u e = inr (sym (Option·some-injective 0 u e), omega arith)
-      down (suc zero) u e = inr (sym (Option·some-injective 1 u e), omega arith)
-      down (suc (suc a)) u e = absurd (Option·none-ne-some u e)
-
       mono : (a u : ℕ) → getElem? (upOf S) a ≡ some u → Below (0 ∷ 1 ∷ []) (base a) (base u)
       mono zero u e = bot
       mono (suc zero) u e = subst (λ t. Below (0 ∷ 1 ∷ []) 1 (base t)) (Option·some-injective 1 u e) here

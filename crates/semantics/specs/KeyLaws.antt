@@ -1,6 +1,6 @@
 -- What is enabled, exactly: no less than document 01's machine enables, and no more. Safety alone would not notice a machine that enables too much.
 use mathlib.Core.Path.{_≡_, refl, sym, _∙_, subst}
-use Prim.Native.Nat.{ℕ, zero, suc, _^_, _<_}
+use Prim.Native.Nat.{ℕ, suc, _^_, _<_}
 use native.Mathlib.Omega.{arith}
 use mathlib.Core.Bool.{Bool, true, false, false≢true}
 use mathlib.Core.List.{List, [], _∷_, _++_, map, List·Memᴰ, List·Memᴰ·head, List·Memᴰ·tail, Memᴰ·map, Memᴰ·of-map}
@@ -28,6 +28,7 @@ use Rattle.semantics.specs.Keys.{enabled, upto, narrow, add}
 use Rattle.semantics.specs.Step
 use Rattle.semantics.specs.Step.{Out, give, go, withCells, withBindings, withFrames, room, onNum, onFn, onCell, onLim, onGrant, found, one, two, branch, actApp, actAsg, actTest, limitKeys, touchAll, actLim, actGrant, worked, act, enterLim, enterCmd, resume, receive, handTo, stepOn, step}
 use Rattle.semantics.specs.Start.{named, keyNamed, startOf}
+use Rattle.semantics.specs.Enabled.{mem-upto}
 use Rattle.semantics.specs.Begin.{start-ok}
 
 -- Sets of keys
@@ -71,15 +72,6 @@ enabled-below {up} ok on {k} {a} e b = at (enabled-from up on a e)
     at : (a ≡ 0) ⊎ BelowOne up a (members on) → enabled up on k ≡ true
     at (inl z) = zero-enabled up on k (below-zero ok (subst (λ t. Below up k t) z b))
     at (inr z) = some-enabled ok on k (z .0, z .1, below-trans b (z .2))
-
-mem-upto : (n k : ℕ) → k < n → List·Memᴰ k (upto n)
-unfolding upto
-mem-upto zero k h = absurd (omega arith)
-mem-upto (suc n) k h = at (eqb k n) refl (mem-upto n k)
-  where
-    at : (b : Bool) → eqb k n ≡ b → (k < n → List·Memᴰ k (upto n)) → List·Memᴰ k (n ∷ upto n)
-    at true e f = List·Memᴰ·head (eqb-true k n e)
-    at false e f = let z : k ≢ n = eqb-false k n e in List·Memᴰ·tail (f (omega arith))
 
 -- after a limit: "what is below both an old enabled key and one of its own"
 pub limit-exactly : {up : List ℕ} → Proper up → (on : ℕ) (own : List ℕ) (k : ℕ) → k < length up

@@ -1,6 +1,6 @@
 -- The tables of a job hold its names and its host values.
 use Prim.Native.Nat.{ℕ, suc, _+_, _-_, _*_, _/_, _%_, _<_, _≤_}
-use mathlib.Core.Path.{_≡_, refl, ap, ap₂, sym, _∙_, subst}
+use mathlib.Core.Path.{_≡_, refl, ap, ap₂, sym, _∙_}
 use mathlib.Core.Bool.{Bool, true, false, cond, false≢true}
 use mathlib.Core.List.{List, [], _∷_, map}
 use mathlib.Core.Option.{Option, none, some}
@@ -8,16 +8,17 @@ use native.Mathlib.Omega.{arith}
 use borrow.Author.Tests.{ltb-true, ltb-false, eqb-true}
 use lib.Dec.{ltb}
 use lib.ListN.{length, getD, getElem?, take, length-take}
-use Rattle.order.specs.Bools.{_and_, and-l, and-r}
+use Rattle.order.specs.Bools.{and-l, and-r}
 use Rattle.order.specs.OrderLaws.{getElem?-lt}
 use Rattle.order.specs.Sets.{setOf}
 use Rattle.order.specs.Effects as effects
 use Rattle.syntax.specs.Types.{Ty, num, pair, cell, fn, lim, grant, TypeEntry, e-num, e-pair, e-cell, e-fn, e-lim, e-grant, grow, treeIn, tree}
 use Rattle.syntax.specs.Job.{Name, HostValue, Job, valueOf, sourceOf}
-use Rattle.syntax.specs.Words.{typeWord, valueWord}
+use Rattle.syntax.specs.Words.{typeWord}
 use Rattle.syntax.specs.Reading.{declared, partsOk, typeOk, unkeyedNumber, hostTypeOk, hostValueOk}
 use Rattle.syntax.specs.ReadLaws.{JobOk, built-at}
-use Rattle.syntax.specs.ReadFormed.{upper-ok}
+use Rattle.syntax.specs.ReadFormed.{upper-ok, entry-parts}
+use Rattle.syntax.specs.WordLaws.{value-back}
 use Rattle.semantics.specs.Start.{Named, addNames, named, keyNamed, Valued, valued, addValues}
 use Rattle.names.specs.Ancestors.{namesIn}
 use Rattle.names.specs.Tables.{names-held}
@@ -85,15 +86,6 @@ head-of ds i n f (some (e-grant q r)) w few le p g h =
     let z : r < 2 + length ds = ltb-true r (2 + length ds) (and-r _ _ x) in
     ap headOf (g (e-grant q r) refl) ∙ head-grant q r (omega arith) (omega arith)
 
--- a host value by its word
-value-type : (h : HostValue ℕ) → h .ty < 65536 → valueWord h / 256 % 65536 ≡ h .ty
-unfolding valueWord
-value-type h l = let e : (0x20 + 256 * (h .ty) + 16777216 * (h .init)) / 256 ≡ h .ty + 65536 * (h .init) = omega arith in rw e (omega arith)
-
-value-number : (h : HostValue ℕ) → h .ty < 65536 → h .init < 4294967296 → valueWord h / 16777216 % 4294967296 ≡ h .init
-unfolding valueWord
-value-number h l k = let e : (0x20 + 256 * (h .ty) + 16777216 * (h .init)) / 16777216 ≡ h .init = omega arith in rw e (omega arith)
-
 values-all :
     (T : List TypeEntry) (types values : List ℕ) (l : List (HostValue ℕ)) (v : ℕ) →
     ((k : ℕ) (h : HostValue ℕ) → getElem? l k ≡ some h → hostOf types (getD values (v + k) 0) ≡ valueOf T h) → valuesFrom types values v (length l) ≡ map (valueOf T) l
@@ -117,25 +109,21 @@ module _ {J : Job} (j : JobOk J) {names : List ℕ} {nnames : ℕ} {types values
   value-is i h e =
       let k = built-at _ (j .values) i h e in
       let l : h .ty < length (J .types) = ltb-true (h .ty) (length (J .types)) (and-l _ _ k) in
-      let s : h .ty < 65536 = omega (arith, j .few-types) in
-      let w : getD values i 0 / 256 % 65536 ≡ h .ty = ap (λ (x : ℕ). x / 256 % 65536) (o .value i h e) ∙ value-type h s in
-      let n : getD values i 0 / 16777216 % 4294967296 ≡ h .init = ap (λ (x : ℕ). x / 16777216 % 4294967296) (o .value i h e) ∙ value-number h s (o .number i h e) in
+      let s : h .ty < 256 = omega (arith, j .few-types) in
+      let b = value-back h (record { ty = s; init = o .number i h e }) in
+      let w : getD values i 0 / 256 % 65536 ≡ h .ty = ap (λ (x : ℕ). x / 256 % 65536) (o .value i h e) ∙ b .0 in
+      let n : getD values i 0 / 16777216 % 4294967296 ≡ h .init = ap (λ (x : ℕ). x / 16777216 % 4294967296) (o .value i h e) ∙ b .1 in
       ap₂ (λ (x : Ty) (y : ℕ). record { ty = x; init = y })
       (ap (λ (x : ℕ). headOf (getD types x 0)) w
-      ∙ head-of (J .names) (h .ty) (h .init) (treeIn (h .ty) (J .types)) (getElem? (J .types) (h .ty)) (getD types (h .ty) 0) (omega (arith, j .few-names)) (omega (arith, j .few-types)) (parts (h .ty)) (o .type (h .ty)) (and-r _ _ k))
+      ∙ head-of (J .names) (h .ty) (h .init) (treeIn (h .ty) (getElem? (J .types))) (getElem? (J .types) (h .ty)) (getD types (h .ty) 0) (omega (arith, j .few-names)) (omega (arith, j .few-types)) (entry-parts (J .names) (j .types) (h .ty)) (o .type (h .ty)) (and-r _ _ k))
       n
-    where
-      parts : (t : ℕ) (x : TypeEntry) → getElem? (J .types) t ≡ some x → partsOk (J .names) t x ≡ true
-      parts t x z =
-          let q = getElem?-lt (J .types) t x z in
-          let u : length (take t (J .types)) ≡ t = omega (arith, length-take t (J .types)) in
-          subst (λ (m : ℕ). partsOk (J .names) m x ≡ true) u (and-l _ _ (built-at _ (j .types) t x z))
 
   pub values-are : valuesFrom types values 0 (length (J .values)) ≡ map (valueOf (J .types)) (J .values)
   values-are = values-all (J .types) types values (J .values) 0 (λ k h e. let a : 0 + k ≡ k = omega arith in ap (λ (i : ℕ). hostOf types (getD values i 0)) a ∙ value-is k h e)
 
-cap-within : (n most : ℕ) → n ≤ most → capped n most ≡ n
-cap-within n most h = at (ltb n most) refl
+-- a count that is within its places
+pub capped-le : (n most : ℕ) → n ≤ most → capped n most ≡ n
+capped-le n most h = at (ltb n most) refl
   where
     at : (b : Bool) → ltb n most ≡ b → cond b n most ≡ n
     at true e = refl
@@ -159,7 +147,7 @@ begun {J} j {names} {nnames} {types} {values} {nvalues} {rights} o n m of bound 
   where
     all : namedIn (r .keys) of bound (r .nkeys) (n + 2) ≡ named (sourceOf J)
     all =
-        let e : n ≡ length (J .names) = en ∙ ap (λ (i : ℕ). capped i 62) (o .all-names) ∙ cap-within (length (J .names)) 62 (omega (arith, j .few-names)) in
+        let e : n ≡ length (J .names) = en ∙ ap (λ (i : ℕ). capped i 62) (o .all-names) ∙ capped-le (length (J .names)) 62 (omega (arith, j .few-names)) in
         sn .same ∙ ap (λ (ds : List Name). addNames ds unnamed) (ap (namesIn names) e ∙ names-are j o)
 
     key : keyIn of (n + 2) ≡ keyNamed (sourceOf J)
@@ -167,7 +155,7 @@ begun {J} j {names} {nnames} {types} {values} {nvalues} {rights} o n m of bound 
 
     held : valuedIn (r .cells) (r .bindings) (r .ncells) (r .nkeys - 2 + m) ≡ valued (sourceOf J)
     held =
-        let e : m ≡ length (J .values) = em ∙ ap (λ (i : ℕ). capped i 64) (o .all-values) ∙ cap-within (length (J .values)) 64 (omega (arith, j .few-values)) in
+        let e : m ≡ length (J .values) = em ∙ ap (λ (i : ℕ). capped i 64) (o .all-values) ∙ capped-le (length (J .values)) 64 (omega (arith, j .few-values)) in
         sv .same
         ∙ ap (λ (f : ℕ → ℕ). addValues f 0 (valuesFrom types values 0 m) (record { cells = []; bindings = listOf linkIn bound (r .nkeys - 2) })) key
         ∙ ap (λ (l : List (HostValue Ty)). addValues (keyNamed (sourceOf J)) 0 l (record { cells = []; bindings = listOf linkIn bound (r .nkeys - 2) })) (ap (valuesFrom types values 0) e ∙ values-are j o)

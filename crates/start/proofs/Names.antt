@@ -7,7 +7,7 @@ use mathlib.Core.Option.{some}
 use native.Mathlib.Omega.{arith}
 use native.Mathlib.Numerals.{add-one}
 use borrow.Author.Tests.{eq-eqb, ne-eqb}
-use lib.ListN.{length, getD, getElem?}
+use lib.ListN.{length, getD, getElem?, set}
 use lib.ListN.{List·getD-eq-default}
 use Rattle.order.specs.OrderLaws.{length-snoc}
 use Rattle.syntax.specs.Job.{Name}
@@ -17,6 +17,7 @@ use Rattle.names.specs.Ancestors.{nameOf, namesIn}
 use Rattle.store.specs.Words.{upIn, linkIn}
 use Rattle.store.specs.Tables.{Wrote, listOf}
 use Rattle.store.proofs.Laws.{list-length, list-grown, list-get}
+use Rattle.store.proofs.Writes.{up-put}
 use Rattle.start.specs.Entries.{keyIn, Within, namedIn, unnamed, NameEntered, NamesEntered}
 
 get-some : {A : Type 0} (l : List A) (i : ℕ) (a d : A) → getElem? l i ≡ some a → getD l i d ≡ a
@@ -30,6 +31,10 @@ key-at of n q h = sym (get-some (listOf upIn of n) q (getD of q 0) 0 (list-get u
 
 pub key-past : (of : List ℕ) (n q : ℕ) → n ≤ q → 0 ≡ keyIn of n q
 key-past of n q h = sym (List·getD-eq-default (listOf upIn of n) 0 (omega (arith, list-length upIn of n)))
+
+-- the key of a name is stored
+pub key-stored : (of : List ℕ) (i k : ℕ) → i < length of → Wrote upIn of (set of i k) i k
+key-stored of i k h = up-put of (set of i k) i k (length of) refl (record { same = refl }) .wrote h
 
 -- one name more
 pub add-snoc : (l : List Name) (d : Name) (s : Named) → addNames (l ++ (d ∷ [])) s ≡ addName d (addNames l s)

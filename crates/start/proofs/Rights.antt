@@ -1,36 +1,27 @@
 -- The keys of the names that the rights have, added one after another.
 use Prim.Native.Nat.{ℕ, _-_, _%_, _^_, _<_, _≤_}
-use mathlib.Core.Path.{_≡_, refl, ap, sym, _∙_}
-use mathlib.Core.Bool.{Bool, true, false, cond, _||_}
+use mathlib.Core.Path.{_≡_, ap, sym, _∙_}
+use mathlib.Core.Bool.{Bool, true, cond}
 use mathlib.Core.List.{List, map}
 use native.Mathlib.Omega.{arith}
 use borrow.Author.Tests.{lt-ltb}
 use lib.Dec.{ltb}
-use lib.Bits.{bitAnd, bitOr, or-zero-l, or-zero-r}
-use Rattle.order.specs.Sets.{bit, membersFrom, members, setOf}
-use Rattle.order.specs.SetLaws.{set-ext, bit-or}
+use lib.Bits.{bitAnd, bitOr, or-zero-l, or-zero-r, or-comm}
+use Rattle.order.specs.Sets.{membersFrom, members, setOf}
+use Rattle.order.specs.SetLaws.{or-assoc}
 use Rattle.order.specs.Effects.{names}
 use Rattle.names.specs.Ancestors.{lowest, nonzero}
 use Rattle.names.specs.Walk.{members-step, names-members}
 use Rattle.store.specs.Meaning.{keysIn}
 use Rattle.store.specs.Tables.{capped}
 use Rattle.start.specs.Entries.{Within}
+use Rattle.start.proofs.Jobs.{capped-le}
 
 cap-within : (k n : ℕ) → k < n → n ≤ 128 → ltb k (capped n 128) ≡ true
-cap-within k n h l = at (ltb n 128) refl
-  where
-    at : (b : Bool) → ltb n 128 ≡ b → ltb k (cond b n 128) ≡ true
-    at true e = lt-ltb k n h
-    at false e = lt-ltb k 128 (omega arith)
+cap-within k n h l = ap (ltb k) (capped-le n 128 l) ∙ lt-ltb k n h
 
 or-swap : (a b c : ℕ) → bitOr a (bitOr b c) ≡ bitOr (bitOr b a) c
-or-swap a b c = set-ext (bitOr a (bitOr b c)) (bitOr (bitOr b a) c) (λ i. simp bit-or (at (bit a i) (bit b i) (bit c i)))
-  where
-    at : (x y z : Bool) → (x || (y || z)) ≡ ((y || x) || z)
-    at true true z = refl
-    at true false z = refl
-    at false true z = refl
-    at false false z = refl
+or-swap a b c = sym (or-assoc a b c) ∙ ap (λ x. bitOr x c) (or-comm a b)
 
 module _ (f : ℕ → ℕ) where
   pub no-key : (s : ℕ) → setOf (map f (names s)) ≡ bitOr (keysIn (record { 0 = 0; 1 = 0 })) (setOf (map f (members (s - s % 2))))

@@ -34,6 +34,10 @@ module _ (key : ℕ → ℕ) (w c : ℕ) where
   unfolding headOf hostValue
   value-none x y z = simp (ne-eqb _ _ x, ne-eqb _ _ y, ne-eqb _ _ z)
 
+-- a key in 8 bits
+pub low-key : (k : ℕ) → k < 256 → k % 256 ≡ k
+low-key k h = omega arith
+
 -- the cell that it takes
 cell-some : (w n : ℕ) → w % 256 ≡ 0x12 → hostCell (headOf w) n ≡ unkeyed (k-num n) ∷ []
 unfolding headOf hostCell

@@ -44,21 +44,13 @@ fn key_of(of: &[u8; 64], n: usize, q: usize) -> u8
     0
 }
 
-// Past the end nothing is stored.
-fn put8(s: &mut [u8], i: usize, x: u8)
-    ensures { λ _. ⌜ Stored (now (s .entry)) (now (s .exit)) i x ⌝ }
-{
-    if i < s.len() {
-        s[i] = x;
-    }
-}
-
 // The key of name i is k.
 fn put_key(of: &mut [u8; 64], i: usize, k: u8)
     requires { ⌜ i < 64 ⌝ }
     ensures { λ _. ⌜ Wrote upIn (now (of .entry)) (now (of .exit)) i k ⌝ }
 {
-    put8(&mut of[..], i, k);
+    let s = &mut of[..];
+    s[i] = k;
 }
 
 // Name a, after those before it: a host name has the next key, below its upper name's, and is bound to it. Returns the number of keys.
@@ -116,22 +108,27 @@ fn host_value(of: &[u8; 64], n: usize, w: u64, c: u16) -> Value
 {
     let q = key_of(of, n, (w / 256 % 256) as usize);
     let r = key_of(of, n, (w / 65536 % 256) as usize);
+    let number = r as u32;
     match w % 256 {
         0x12 => Value {
             key: Key(q),
-            kind: Kind::Cell(c as u32),
+            kind: Kind::Cell,
+            payload: c as u32,
         },
         0x14 => Value {
             key: Key(q),
-            kind: Kind::Limit(Key(r)),
+            kind: Kind::Limit,
+            payload: number,
         },
         0x15 => Value {
             key: Key(q),
-            kind: Kind::Grant(Key(r)),
+            kind: Kind::Grant,
+            payload: number,
         },
         _ => Value {
             key: Key(0),
-            kind: Kind::Number(0),
+            kind: Kind::Number,
+            payload: 0,
         },
     }
 }
@@ -146,7 +143,8 @@ fn number_cell(cells: &mut [u64; 256], i: u16, x: u32)
         i as u32,
         Value {
             key: Key(0),
-            kind: Kind::Number(x),
+            kind: Kind::Number,
+            payload: x,
         },
     );
 }
@@ -211,7 +209,7 @@ fn enabled_keys(of: &[u8; 64], n: usize, nkeys: u16, rights: u64) -> Keys
     while 0 < rest {
         let i = u64::trailing_zeros(rest) as usize;
         let k = key_of(of, n, i);
-        on = store::add(nkeys, on, Key(k));
+        on = store::add(nkeys as u64, on, Key(k));
         rest = rest & (rest - 1);
     }
     on

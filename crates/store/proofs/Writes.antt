@@ -21,21 +21,13 @@ use Rattle.store.specs.Tables.{Stored, Wrote, Put}
 -- the word of a value has the value's parts
 pub packed :
     (v : Value) (k t n : ℕ) {r : ℕ} → r ≡ n + t * 4294967296 + k * 1099511627776 →
-    k < 256 → t < 256 → n < 4294967296 → v .key .0 ≡ k → kindIn (v .kind) ≡ kindAt t n → wordIn r ≡ valueIn v
+    k < 256 → t < 256 → n < 4294967296 → v .key .0 ≡ k → kindIn (v .kind) (v .payload) ≡ kindAt t n → wordIn r ≡ valueIn v
 unfolding wordIn
 packed v k t n {r} e hk ht hn ek et =
     let a : r / 1099511627776 % 256 ≡ v .key .0 = omega arith in
     let b : r / 4294967296 % 256 ≡ t = omega arith in
     let d : r % 4294967296 ≡ n = omega arith in
     simp (a, b, d, et)
-
-pub packed-key :
-    (v : Value) (k t n : ℕ) {r : ℕ} → r ≡ n + t * 4294967296 + k * 1099511627776 →
-    k < 256 → t < 256 → (x : Key) → x .0 < 256 → n ≡ x .0 → v .key .0 ≡ k →
-    (f : ℕ → SKind) → ((m : ℕ) → kindAt t m ≡ f (m % 256)) → kindIn (v .kind) ≡ f (x .0) → wordIn r ≡ valueIn v
-packed-key v k t n e hk ht x hx en ek f ef ev =
-    let h : n % 256 ≡ x .0 = omega arith in
-    packed v k t n e hk ht (omega arith) ek (ev ∙ sym (ef n ∙ ap f h))
 
 -- the three numbers of a word
 module _ (w a b d : ℕ) (e : w ≡ a + b * 256 + d * 16777216) (ha : a < 256) (hb : b < 65536) (hd : d < 65536) where

@@ -1,7 +1,7 @@
 // Values, sets of keys and the entries of the machine's tables, in words of 64 bits.
 ghost use mathlib.Core.Path.{_≡_};
 ghost use mathlib.Core.Bool.{cond, true};
-ghost use Prim.Native.Nat.{_<_, _≤_, _+_, _*_, _%_, _^_};
+ghost use Prim.Native.Nat.{ℕ, _<_, _≤_, _+_, _*_, _%_, _^_};
 ghost use lib.ListN.{getD, length};
 ghost use lib.Dec.{eqb, ltb};
 ghost use lib.Bits.{bitOr};
@@ -9,8 +9,8 @@ ghost use Rattle.order.specs.Bools.{_and_};
 ghost use Rattle.order.specs.Order.{below};
 ghost use Rattle.order.specs.Sets.{bit, some-of};
 ghost use Rattle.semantics.specs.Keys.{enabled, narrow};
-ghost use Rattle.store.specs.Meaning.{keysIn, valueIn, twoIn, closureIn, bindingIn, variableIn, nameIn, ownIn};
-ghost use Rattle.store.specs.Words.{wordIn, cellIn, pairIn, functionIn, linkIn, upIn};
+ghost use Rattle.store.specs.Meaning.{keysIn, kindIn, valueIn, twoIn, closureIn, bindingIn, variableIn, nameIn, ownIn};
+ghost use Rattle.store.specs.Words.{kindAt, wordIn, cellIn, pairIn, functionIn, linkIn, upIn};
 ghost use Rattle.store.specs.Frames.{headAt, heldIn, heldOf, freshOf, frameIn, Held};
 ghost use Rattle.store.specs.Tables.{Stored, Put, capped, listOf, stackOf};
 ghost use Rattle.store.specs.Walk.{walk, bothOf, bitsOf, span};
@@ -27,19 +27,20 @@ pub struct Keys(pub u64, pub u64);
 // The keys of a limit: four, some of them the same.
 pub struct Own(pub Key, pub Key, pub Key, pub Key);
 
-// A number; the number of a pair, cell or function; the key that a limit or grant key stands for.
 pub enum Kind {
-    Number(u32),
-    Pair(u32),
-    Cell(u32),
-    Function(u32),
-    Limit(Key),
-    Grant(Key),
+    Number,
+    Pair,
+    Cell,
+    Function,
+    Limit,
+    Grant,
 }
 
+// A value with its key. The payload is a number; the number of a pair, cell or function; or, by its low 8 bits, the key that a limit or grant key stands for.
 pub struct Value {
     pub key: Key,
     pub kind: Kind,
+    pub payload: u32,
 }
 
 pub struct Two {
@@ -73,43 +74,51 @@ pub struct Head {
     pub on: Keys,
 }
 
-fn small(n: u32) -> u8
-    ensures { λ r. ⌜ r ≡ n % 256 ⌝ }
+// The key that a limit or grant key stands for.
+pub fn key_in(v: Value) -> Key
+    ensures { λ r. ⌜ r .0 ≡ v .payload % 256 ⌝ }
 {
-    (n % 256) as u8
+    Key((v.payload % 256) as u8)
+}
+
+// The kind of number t.
+fn kind_of(t: u64) -> Kind
+    ensures { λ r. ⌜ ((n : ℕ) → kindIn r n ≡ kindAt t n) ⌝ }
+{
+    match t {
+        0 => Kind::Number,
+        1 => Kind::Pair,
+        2 => Kind::Cell,
+        3 => Kind::Function,
+        4 => Kind::Limit,
+        _ => Kind::Grant,
+    }
 }
 
 pub fn unpack(w: u64) -> Value
     ensures { λ r. ⌜ valueIn r ≡ wordIn w ⌝ }
 {
     let n = (w % 4294967296) as u32;
-    let t = w / 4294967296 % 256;
     let key = Key((w / 1099511627776 % 256) as u8);
-    match t {
-        0 => Value {
-            key: key,
-            kind: Kind::Number(n),
-        },
-        1 => Value {
-            key: key,
-            kind: Kind::Pair(n),
-        },
-        2 => Value {
-            key: key,
-            kind: Kind::Cell(n),
-        },
-        3 => Value {
-            key: key,
-            kind: Kind::Function(n),
-        },
-        4 => Value {
-            key: key,
-            kind: Kind::Limit(Key(small(n))),
-        },
-        _ => Value {
-            key: key,
-            kind: Kind::Grant(Key(small(n))),
-        },
+    let kind = kind_of(w / 4294967296 % 256);
+    Value {
+        key: key,
+        kind: kind,
+        payload: n,
+    }
+}
+
+// The number of a kind.
+fn kind_number(k: Kind) -> u64
+    ensures { λ r. ⌜ ((n : ℕ) → kindIn k n ≡ kindAt r n) × (r < 256) ⌝ }
+{
+    match k {
+        Kind::Number => 0,
+        Kind::Pair => 1,
+        Kind::Cell => 2,
+        Kind::Function => 3,
+        Kind::Limit => 4,
+        Kind::Grant => 5,
     }
 }
 
@@ -125,14 +134,8 @@ pub fn pack(v: Value) -> u64
 {
     let key = v.key;
     let kind = v.kind;
-    match kind {
-        Kind::Number(n) => word(key.0, 0, n),
-        Kind::Pair(n) => word(key.0, 1, n),
-        Kind::Cell(n) => word(key.0, 2, n),
-        Kind::Function(n) => word(key.0, 3, n),
-        Kind::Limit(k) => word(key.0, 4, k.0 as u32),
-        Kind::Grant(k) => word(key.0, 5, k.0 as u32),
-    }
+    let tag = kind_number(kind);
+    word(key.0, tag, v.payload)
 }
 
 // The number at i; past the end 0.
@@ -172,7 +175,7 @@ fn put8(s: &mut [u8], i: usize, x: u8)
 }
 
 // The smaller of a count and the number of places.
-pub fn cap(n: u16, most: u16) -> u16
+pub fn cap(n: u64, most: u64) -> u64
     ensures { λ r. ⌜ (r ≡ capped n most) × (r ≤ most) ⌝ }
 {
     if n < most { n } else { most }
@@ -373,7 +376,7 @@ fn any(on: Keys) -> bool
 }
 
 // Is k, or a key above it in the tree, in the set?
-fn walk_up(keys: &[u8; 128], n: u16, on: Keys, k: u8) -> bool
+fn walk_up(keys: &[u8; 128], n: u64, on: Keys, k: u8) -> bool
     ensures { λ r. ⌜ r ≡ walk (listOf upIn (now (keys .entry)) n) (bit (keysIn on)) (ltb 0 (keysIn on)) n k ⌝ }
 {
     let mut x = k;
@@ -385,7 +388,7 @@ fn walk_up(keys: &[u8; 128], n: u16, on: Keys, k: u8) -> bool
         if has(on, x) {
             return true;
         }
-        let i = x as u16;
+        let i = x as u64;
         if n <= i {
             return false;
         }
@@ -399,7 +402,7 @@ fn walk_up(keys: &[u8; 128], n: u16, on: Keys, k: u8) -> bool
 }
 
 // Is the key enabled?
-pub fn enabled(keys: &[u8; 128], n: u16, on: Keys, k: Key) -> bool
+pub fn enabled(keys: &[u8; 128], n: u64, on: Keys, k: Key) -> bool
     ensures { λ r. ⌜ r ≡ enabled (listOf upIn (now (keys .entry)) (capped n 128)) (keysIn on) (k .0) ⌝ }
 {
     if k.0 == 0 {
@@ -430,7 +433,7 @@ fn is_own(own: Own, k: u8) -> bool
 }
 
 // Is k, or a key above it in the tree, one of the keys?
-fn walk_own(keys: &[u8; 128], n: u16, own: Own, k: u8) -> bool
+fn walk_own(keys: &[u8; 128], n: u64, own: Own, k: u8) -> bool
     ensures { λ r. ⌜ r ≡ walk (listOf upIn (now (keys .entry)) n) (λ x. some-of (eqb x) (ownIn own)) true n k ⌝ }
 {
     let mut x = k;
@@ -442,7 +445,7 @@ fn walk_own(keys: &[u8; 128], n: u16, own: Own, k: u8) -> bool
         if is_own(own, x) {
             return true;
         }
-        let i = x as u16;
+        let i = x as u64;
         if n <= i {
             return false;
         }
@@ -456,7 +459,7 @@ fn walk_own(keys: &[u8; 128], n: u16, own: Own, k: u8) -> bool
 }
 
 // Is k below both an enabled key and one of the limit's own?
-fn both(keys: &[u8; 128], n: u16, on: Keys, own: Own, k: u8) -> bool
+fn both(keys: &[u8; 128], n: u64, on: Keys, own: Own, k: u8) -> bool
     requires { ⌜ n ≤ 128 ⌝ }
     ensures { λ r. ⌜ r ≡ bothOf (listOf upIn (now (keys .entry)) n) (keysIn on) (ownIn own) k ⌝ }
 {
@@ -480,7 +483,7 @@ fn one_bit(yes: bool, j: u8) -> u64
 }
 
 // How many of n keys lie from `base` on, 64 at most.
-fn width(n: u16, base: u16) -> u16
+fn width(n: u64, base: u64) -> u64
     ensures { λ r. ⌜ (r ≡ span n base) × (r ≤ 64) ⌝ }
 {
     if n < base {
@@ -491,11 +494,11 @@ fn width(n: u16, base: u16) -> u16
 }
 
 // Of the keys from `base` on, those below both, as bits.
-fn gather(keys: &[u8; 128], n: u16, on: Keys, own: Own, base: u8) -> u64
+fn gather(keys: &[u8; 128], n: u64, on: Keys, own: Own, base: u8) -> u64
     requires { ⌜ (base ≤ 64) × (n ≤ 128) ⌝ }
     ensures { λ r. ⌜ r ≡ bitsOf (bothOf (listOf upIn (now (keys .entry)) n) (keysIn on) (ownIn own)) base (span n base) ⌝ }
 {
-    let m = width(n, base as u16) as u8;
+    let m = width(n, base as u64) as u8;
     let mut acc: u64 = 0;
     let mut j: u8 = 0;
     while j < m {
@@ -507,7 +510,7 @@ fn gather(keys: &[u8; 128], n: u16, on: Keys, own: Own, base: u8) -> u64
 }
 
 // The keys that are below both an enabled key and one of the limit's own.
-pub fn narrow(keys: &[u8; 128], n: u16, on: Keys, own: Own) -> Keys
+pub fn narrow(keys: &[u8; 128], n: u64, on: Keys, own: Own) -> Keys
     ensures { λ r. ⌜ keysIn r ≡ narrow (listOf upIn (now (keys .entry)) (capped n 128)) (keysIn on) (ownIn own) ⌝ }
 {
     let m = cap(n, 128);
@@ -515,12 +518,12 @@ pub fn narrow(keys: &[u8; 128], n: u16, on: Keys, own: Own) -> Keys
 }
 
 // The set with a key added, if it is one of the n keys that there are.
-pub fn add(n: u16, on: Keys, k: Key) -> Keys
+pub fn add(n: u64, on: Keys, k: Key) -> Keys
     ensures { λ r. ⌜ keysIn r ≡ cond (ltb (k .0) (capped n 128)) (bitOr (2 ^ (k .0)) (keysIn on)) (keysIn on) ⌝ }
 {
     let m = cap(n, 128);
     let i = k.0;
-    if m <= i as u16 {
+    if m <= i as u64 {
         return on;
     }
     if i < 64 {

@@ -1,16 +1,17 @@
 -- The context in which an expression stands, by the path from the last expression down to it; and what the tests of numbers 8, 9 and 10 say of it.
 use mathlib.Core.Path.{_≡_, refl, sym, ap, _∙_, subst, subst⁻¹}
-use Prim.Native.Nat.{ℕ, zero, suc, _+_, _≤_, _<_}
+use Prim.Native.Nat.{ℕ, zero, suc, _+_, _-_, _≤_, _<_}
 use native.Mathlib.Omega.{arith}
+use native.Mathlib.Numerals.{sub-one}
 use mathlib.Core.Bool.{Bool, true, false}
-use mathlib.Core.List.{List, [], _∷_, _++_, List·Memᴰ, List·Memᴰ·head, List·Memᴰ·tail, Memᴰ·append-left, Memᴰ·append-right, List·Memᴰ·append-cases, Memᴰ·cast}
-use mathlib.Core.Option.{none, some, Option·none-ne-some, Option·some-injective}
+use mathlib.Core.List.{List, _++_, List·Memᴰ, Memᴰ·append-left, Memᴰ·append-right, List·Memᴰ·append-cases, Memᴰ·cast}
+use mathlib.Core.Option.{none, some, Option·some-injective}
 use mathlib.Core.Logic.{_≢_, _⊎_, inl, inr}
 use lib.ListN.{length, getElem?}
 use lib.Dec.{eqb}
 use borrow.Author.Tests.{eq-eqb, ne-eqb, eqb-true, eqb-false}
 use Rattle.order.specs.Bools.{_and_, and-l, and-r}
-use Rattle.order.specs.OrderLaws.{getElem?-lt}
+use Rattle.order.specs.OrderLaws.{getElem?-lt, getElem?-mem}
 use Rattle.order.specs.Sets.{all-of}
 use Rattle.order.specs.SetLaws.{all-of→}
 use Rattle.syntax.specs.Types.{Ty, namesIn}
@@ -39,10 +40,15 @@ outer-down h (o-low l) = o-low l
 outer-down h (o-host m) = o-host m
 outer-down h (o-bound q k m) = o-bound q (omega arith) m
 
-past-lt : (n : ℕ) → 0 < n → past n < n
+pub past-lt : (n : ℕ) → 0 < n → past n < n
 unfolding past
 past-lt zero h = absurd (omega arith)
 past-lt (suc n) h = omega arith
+
+pub past-minus : (n : ℕ) → n - 1 ≡ past n
+unfolding past
+past-minus zero = refl
+past-minus (suc n) = sub-one (suc n)
 
 past-top : (n e : ℕ) → e < n → e ≤ past n
 unfolding past
@@ -56,11 +62,6 @@ in-plain k m = Memᴰ·append-left (inner k) m
 pub in-inner : {T : Type 0} (k : Cmd T) {c : ℕ} → List·Memᴰ c (inner k) → List·Memᴰ c (kids k)
 unfolding kids
 in-inner k m = Memᴰ·append-right (plain k) m
-
-value-mem : (l : List (HostValue Ty)) (i : ℕ) (h : HostValue Ty) → getElem? l i ≡ some h → List·Memᴰ h l
-value-mem [] i h e = absurd (Option·none-ne-some h e)
-value-mem (x ∷ l) zero h e = List·Memᴰ·head (sym (Option·some-injective x h e))
-value-mem (x ∷ l) (suc i) h e = List·Memᴰ·tail (value-mem l i h e)
 
 -- a job that is read, whose expressions are a tree in scope
 module _ (S : Src) (ok : Formed S) (tree : treeRefusal S ≡ none) where
@@ -215,7 +216,7 @@ module _ (S : Src) (ok : Formed S) (tree : treeRefusal S ≡ none) where
   ctx-types {n} {x} {T} x-root v m = at (open-cases (S .names) n (of-host (host-var S v)))
     where
       of-host : (h : HostValue Ty) × (getElem? (S .values) x ≡ some h) × (h .ty ≡ T) → openName (S .names) n ≡ true
-      of-host z = ok .host-type (z .0) (value-mem (S .values) x (z .0) (z .1)) n (subst⁻¹ (λ (A : Ty). List·Memᴰ n (namesIn A)) (z .2) m)
+      of-host z = ok .host-type (z .0) (getElem?-mem (S .values) x (z .0) (z .1)) n (subst⁻¹ (λ (A : Ty). List·Memᴰ n (namesIn A)) (z .2) m)
 
       at : (n < 2) ⊎ (hostName (S .names) n ≡ true) → Outer S (root S) n
       at (inl h) = o-low h

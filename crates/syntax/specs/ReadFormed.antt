@@ -4,17 +4,18 @@ use Prim.Native.Nat.{ℕ, zero, suc, _+_, _-_, _≤_, _<_}
 use native.Mathlib.Omega.{arith}
 use mathlib.Core.Bool.{Bool, true, false, not, true≢false, false≢true}
 use mathlib.Core.List.{List, [], _∷_, _++_, map, List·Memᴰ, List·Memᴰ·head, List·Memᴰ·tail, List·Memᴰ·not-nil, List·Memᴰ·cases-cons, List·Memᴰ·append-cases, List·Memᴰ·eq-of-singleton, Memᴰ·of-map}
-use mathlib.Core.Option.{Option, none, some, Option·none-ne-some, Option·some-injective}
+use mathlib.Core.Option.{Option, none, some}
 use mathlib.Core.Logic.{_⊎_, inl, inr}
-use lib.ListN.{length, length-map, length-take, getElem?, take}
+use lib.ListN.{length, length-map, length-take, getElem?, take, drop, take-append-drop}
 use lib.Dec.{eqb, ltb, leb}
 use borrow.Author.Tests.{lt-ltb, ltb-true, ltb-false, leb-true, eqb-true, eqb-false, not-true}
 use Rattle.order.specs.Bools.{_and_, _or_, and-l, and-r, or-cases, or-l, or-r, and2}
 use Rattle.order.specs.SetLaws.{all-of→}
-use Rattle.order.specs.OrderLaws.{Proper, proper-snoc, getElem?-append, getElem?-lt, length-snoc}
+use Rattle.order.specs.OrderLaws.{Proper, proper-two, proper-snoc, getElem?-append, getElem?-lt, length-snoc}
 use Rattle.order.specs.Effects.{Effect, names}
 use Rattle.order.specs.EffectLaws.{name-mem}
 use Rattle.syntax.specs.Types.{Ty, num, pair, cell, fn, lim, grant, TypeEntry, e-num, e-pair, e-cell, e-fn, e-lim, e-grant, grow, treeIn, tree, depth, namesIn}
+use Rattle.syntax.specs.TypeLaws.{Part, of-pair-1, of-pair-2, of-cell, of-fn-1, of-fn-2, Earlier, tree-entry, tree-kept}
 use Rattle.syntax.specs.Commands.{Cmd, c-num, c-top, c-var, c-pair, c-part, c-fn, c-app, c-new, c-asg, c-read, c-sum, c-test, c-lim, c-grant, c-newkey, c-assoc, mapCmd}
 use Rattle.syntax.specs.Operands.{nth, plain, inner, kids, typesOf, usesVar, bindsVar, bindsName}
 use Rattle.syntax.specs.Job.{Name, HostValue, Job, uppers, valueOf, sourceOf}
@@ -77,35 +78,21 @@ uppers-snoc : (ds : List Name) (d : Name) → uppers (ds ++ (d ∷ [])) ≡ uppe
 unfolding uppers
 uppers-snoc ds d = ap (λ m. 0 ∷ 1 ∷ m) (map-snoc (λ x. x .upper) ds d)
 
-uppers-length : (ds : List Name) → length (uppers ds) ≡ 2 + length ds
+pub uppers-length : (ds : List Name) → length (uppers ds) ≡ 2 + length ds
 unfolding uppers
 uppers-length ds = omega (arith, length-map ds (λ (x : Name). x .upper))
 
 pub names-proper : {ds : List Name} → NamesOk ds → Proper (uppers ds)
 unfolding uppers
-names-proper nothing = record { down = first }
-  where
-    first : (a u : ℕ) → getElem? (0 ∷ 1 ∷ []) a ≡ some u → ((u < a) × (0 < u)) ⊎ ((u ≡ a) × (a < 2))
-    first zero u e = inr (sym (Option·some-injective 0 u e), omega arith)
-    first (suc zero) u e = inr (sym (Option·some-injective 1 u e), omega arith)
-    first (suc (suc a)) u e = absurd (Option·none-ne-some u e)
+names-proper nothing = proper-two
 names-proper (more {l} b d e) =
     let u = upper-ok l d e in subst⁻¹ (λ z. Proper z) (uppers-snoc l d) (proper-snoc (names-proper b) (u .some-upper) (omega (arith, uppers-length l, u .earlier)))
 
-take-split : {A : Type 0} (i : ℕ) (l : List A) → (m : List A) × (l ≡ take i l ++ m)
-take-split i l = (lib.ListN.drop i l, sym (lib.ListN.take-append-drop i l))
-
 pub host-upper : {ds : List Name} → NamesOk ds → (i : ℕ) (d : Name) → getElem? ds i ≡ some d → d .host ≡ true → hostName ds (d .upper) ≡ true
 host-upper {ds} b i d e h =
-    let z = take-split i ds in
-    subst⁻¹ (λ l. hostName l (d .upper) ≡ true) (z .1) (host-grow (take i ds) (z .0) (d .upper) (upper-ok (take i ds) d (built-at nameOk b i d e) .host-upper h))
+    subst (λ l. hostName l (d .upper) ≡ true) (take-append-drop i ds) (host-grow (take i ds) (drop i ds) (d .upper) (upper-ok (take i ds) d (built-at nameOk b i d e) .host-upper h))
 
 -- Declared types
-
-getElem?-some : {A : Type 0} (l : List A) (i : ℕ) → i < length l → (a : A) × (getElem? l i ≡ some a)
-getElem?-some [] i h = absurd (omega arith)
-getElem?-some (x ∷ l) zero h = (x, refl)
-getElem?-some (x ∷ l) (suc i) h = getElem?-some l i (omega arith)
 
 -- the parts of entry i are earlier entries, and its names are declared
 pub entry-parts : (ds : List Name) {ts : List TypeEntry} → TypesOk ds ts → (i : ℕ) (e : TypeEntry) → getElem? ts i ≡ some e → partsOk ds i e ≡ true
@@ -113,48 +100,20 @@ unfolding typeOk
 entry-parts ds {ts} b i e h =
     let z : length (take i ts) ≡ i = omega (arith, length-take i ts, getElem?-lt ts i e h) in subst (λ n. partsOk ds n e ≡ true) z (and-l _ _ (built-at _ b i e h))
 
--- an entry's tree is decided by the trees of earlier entries
-pub grow-same : (ds : List Name) (n : ℕ) (e : TypeEntry) → partsOk ds n e ≡ true → (f g : ℕ → Ty) → ((a : ℕ) → a < n → f a ≡ g a) → grow (some e) f ≡ grow (some e) g
-unfolding grow partsOk
-grow-same ds n (e-num q) h f g s = refl
-grow-same ds n (e-pair q a b) h f g s =
-    let x = s a (ltb-true a n (and-r _ _ (and-l _ _ h))) in let y = s b (ltb-true b n (and-r _ _ h)) in rw (x, y)
-grow-same ds n (e-cell q a) h f g s = let x = s a (ltb-true a n (and-r _ _ h)) in rw x
-grow-same ds n (e-fn q a b p) h f g s =
-    let x = s a (ltb-true a n (and-r _ _ (and-l _ _ (and-l _ _ h)))) in let y = s b (ltb-true b n (and-r _ _ (and-l _ _ h))) in rw (x, y)
-grow-same ds n (e-lim q r) h f g s = refl
-grow-same ds n (e-grant q r) h f g s = refl
+pub parts-earlier : (ds : List Name) (n : ℕ) (e : TypeEntry) → partsOk ds n e ≡ true → (c : ℕ) → Part c e → c < n
+unfolding partsOk
+parts-earlier ds n (e-pair q a b) h c of-pair-1 = ltb-true c n (and-r _ _ (and-l _ _ h))
+parts-earlier ds n (e-pair q a b) h c of-pair-2 = ltb-true c n (and-r _ _ h)
+parts-earlier ds n (e-cell q a) h c of-cell = ltb-true c n (and-r _ _ h)
+parts-earlier ds n (e-fn q a b p) h c of-fn-1 = ltb-true c n (and-r _ _ (and-l _ _ (and-l _ _ h)))
+parts-earlier ds n (e-fn q a b p) h c of-fn-2 = ltb-true c n (and-r _ _ (and-l _ _ h))
 
--- more levels than i give the same tree
-tree-levels : (ds : List Name) {ts : List TypeEntry} → TypesOk ds ts → (f g i : ℕ) → i < f → i < g → treeIn f ts i ≡ treeIn g ts i
-unfolding treeIn grow
-tree-levels ds b zero g i h k = absurd (omega arith)
-tree-levels ds b (suc f) zero i h k = absurd (omega arith)
-tree-levels ds {ts} b (suc f) (suc g) i h k = at (getElem? ts i) refl (λ a u v. tree-levels ds b f g a u v)
-  where
-    at : (o : Option TypeEntry) → getElem? ts i ≡ o → ((a : ℕ) → a < f → a < g → treeIn f ts a ≡ treeIn g ts a) → grow o (treeIn f ts) ≡ grow o (treeIn g ts)
-    at none z s = refl
-    at (some e) z s = grow-same ds i e (entry-parts ds b i e z) (treeIn f ts) (treeIn g ts) (λ a u. s a (omega arith) (omega arith))
+pub types-earlier : (ds : List Name) {ts : List TypeEntry} → TypesOk ds ts → Earlier ts
+types-earlier ds b = record { part = λ i x e. parts-earlier ds i x (entry-parts ds b i x e) }
 
 -- the tree of an entry is made of the trees of its parts
 pub tree-at : (ds : List Name) {ts : List TypeEntry} → TypesOk ds ts → (i : ℕ) (e : TypeEntry) → getElem? ts i ≡ some e → tree ts i ≡ grow (some e) (tree ts)
-unfolding tree treeIn
-tree-at ds {ts} b i e h =
-    ap (λ o. grow o (treeIn i ts)) h ∙ grow-same ds i e (entry-parts ds b i e h) (treeIn i ts) (tree ts) (λ a u. tree-levels ds b i (suc a) a u (omega arith))
-
--- the trees of declared types stay the same when entries are added at the end
-tree-longer : (ds : List Name) {ts : List TypeEntry} → TypesOk ds ts → (us : List TypeEntry) (f i : ℕ) → i < length ts → treeIn f (ts ++ us) i ≡ treeIn f ts i
-unfolding treeIn
-tree-longer ds b us zero i h = refl
-tree-longer ds {ts} b us (suc f) i h = at (getElem?-some ts i h) (λ a u. tree-longer ds b us f a u)
-  where
-    at : (e : TypeEntry) × (getElem? ts i ≡ some e) → ((a : ℕ) → a < length ts → treeIn f (ts ++ us) a ≡ treeIn f ts a)
-        → grow (getElem? (ts ++ us) i) (treeIn f (ts ++ us)) ≡ grow (getElem? ts i) (treeIn f ts)
-    at (e, z) s = rw (getElem?-append ts us i e z, z) (grow-same ds i e (entry-parts ds b i e z) (treeIn f (ts ++ us)) (treeIn f ts) (λ a u. s a (omega arith)))
-
-pub tree-append : (ds : List Name) {ts : List TypeEntry} → TypesOk ds ts → (us : List TypeEntry) (i : ℕ) → i < length ts → tree (ts ++ us) i ≡ tree ts i
-unfolding tree
-tree-append ds b us i h = tree-longer ds b us (suc i) i h
+tree-at ds b i e h = tree-entry (types-earlier ds b) i e h
 
 -- no declared type is deeper than 16
 pub tree-depth : (ds : List Name) {ts : List TypeEntry} → TypesOk ds ts → (i : ℕ) → i < length ts → depth (tree ts i) ≤ most-depth
@@ -163,8 +122,12 @@ tree-depth ds nothing i h = absurd (omega arith)
 tree-depth ds (more {l} b e z) i h = at (ltb i (length l)) refl (λ k. tree-depth ds b i k)
   where
     at : (c : Bool) → ltb i (length l) ≡ c → (i < length l → depth (tree l i) ≤ most-depth) → depth (tree (l ++ (e ∷ [])) i) ≤ most-depth
-    at true x s = let k = ltb-true i (length l) x in rw (tree-append ds b (e ∷ []) i k) (s k)
+    at true x s = let k = ltb-true i (length l) x in rw (tree-kept (types-earlier ds b) (e ∷ []) i k) (s k)
     at false x s = let k : i ≡ length l = omega (arith, ltb-false i (length l) x, length-snoc l e) in rw k (leb-true _ _ (and-r _ _ z))
+
+pub declared-lt : (ds : List Name) (q : ℕ) → declared ds q ≡ true → q < 2 + length ds
+unfolding declared
+declared-lt ds q e = ltb-true q (2 + length ds) e
 
 -- a written set has declared names alone
 set-declared : (ds : List Name) (s : Effect) → setOk ds s ≡ true → {n : ℕ} → List·Memᴰ n (names s) → declared ds n ≡ true
@@ -217,14 +180,14 @@ grow-declared ds n (e-fn q a b p) h f s x m = at (List·Memᴰ·cases-cons m)
 grow-declared ds n (e-lim q r) h f s x m = two-declared ds q r (and-l _ _ (and-l _ _ h)) (and-r _ _ (and-l _ _ h)) m
 grow-declared ds n (e-grant q r) h f s x m = two-declared ds q r (and-l _ _ (and-l _ _ h)) (and-r _ _ (and-l _ _ h)) m
 
-levels-declared : (ds : List Name) {ts : List TypeEntry} → TypesOk ds ts → (f i : ℕ) (x : ℕ) → List·Memᴰ x (namesIn (treeIn f ts i)) → declared ds x ≡ true
+levels-declared : (ds : List Name) {ts : List TypeEntry} → TypesOk ds ts → (f i : ℕ) (x : ℕ) → List·Memᴰ x (namesIn (treeIn f (getElem? ts) i)) → declared ds x ≡ true
 unfolding treeIn grow namesIn
 levels-declared ds b zero i x m = rw (List·Memᴰ·eq-of-singleton m) (zero-declared ds)
 levels-declared ds {ts} b (suc f) i x m = at (getElem? ts i) refl (λ a y w. levels-declared ds b f a y w) m
   where
-    at : (o : Option TypeEntry) → getElem? ts i ≡ o → ((a y : ℕ) → List·Memᴰ y (namesIn (treeIn f ts a)) → declared ds y ≡ true) → List·Memᴰ x (namesIn (grow o (treeIn f ts))) → declared ds x ≡ true
+    at : (o : Option TypeEntry) → getElem? ts i ≡ o → ((a y : ℕ) → List·Memᴰ y (namesIn (treeIn f (getElem? ts) a)) → declared ds y ≡ true) → List·Memᴰ x (namesIn (grow o (treeIn f (getElem? ts)))) → declared ds x ≡ true
     at none z s w = rw (List·Memᴰ·eq-of-singleton w) (zero-declared ds)
-    at (some e) z s w = grow-declared ds i e (entry-parts ds b i e z) (treeIn f ts) (λ a u y v. s a y v) x w
+    at (some e) z s w = grow-declared ds i e (entry-parts ds b i e z) (treeIn f (getElem? ts)) (λ a u y v. s a y v) x w
 
 -- every name in a declared type is declared
 pub tree-declared : (ds : List Name) {ts : List TypeEntry} → TypesOk ds ts → (i x : ℕ) → List·Memᴰ x (namesIn (tree ts i)) → declared ds x ≡ true
@@ -266,11 +229,11 @@ host-typed {ds} {ts} b t n e = at (getElem? ts t) (λ x z. and-l _ _ (built-at _
     key : (q r : ℕ) → (declared ds q and declared ds r and not (eqb r 0)) ≡ true → (openName ds q and openName ds r and eqb n 0) ≡ true → (openName ds q ≡ true) × (hostName ds r ≡ true)
     key q r x y = (and-l _ _ (and-l _ _ y), open-host ds r (and-r _ _ (and-l _ _ y)) (and-r _ _ x))
 
-    at : (o : Option TypeEntry) → ((x : TypeEntry) → o ≡ some x → partsOk ds (length (take t ts)) x ≡ true) → hostTypeOk ds (grow o (treeIn t ts)) n ≡ true → HostTyped ds (grow o (treeIn t ts))
+    at : (o : Option TypeEntry) → ((x : TypeEntry) → o ≡ some x → partsOk ds (length (take t ts)) x ≡ true) → hostTypeOk ds (grow o (treeIn t (getElem? ts))) n ≡ true → HostTyped ds (grow o (treeIn t (getElem? ts)))
     at none f h = absurd (false≢true h)
     at (some (e-num q)) f h = absurd (false≢true h)
     at (some (e-pair q x y)) f h = absurd (false≢true h)
-    at (some (e-cell q x)) f h = unkeyed ds q (treeIn t ts x) (and-l _ _ h) (and-r _ _ h)
+    at (some (e-cell q x)) f h = unkeyed ds q (treeIn t (getElem? ts) x) (and-l _ _ h) (and-r _ _ h)
     at (some (e-fn q x y s)) f h = absurd (false≢true h)
     at (some (e-lim q r)) f h = let z = key q r (f (e-lim q r) refl) h in ht-lim (z .0) (z .1)
     at (some (e-grant q r)) f h = let z = key q r (f (e-grant q r) refl) h in ht-grant (z .0) (z .1)
@@ -291,100 +254,37 @@ host-names ds (ht-grant {q} {r} x y) m = two ds q r x (host-open ds r y) m
 -- Expressions
 
 module _ {T U : Type 0} (f : T → U) where
+  -- other type operands change nothing else
+  mapped : (k : Cmd T) → (kids (mapCmd f k) ≡ kids k) × (bindsVar (mapCmd f k) ≡ bindsVar k) × (bindsName (mapCmd f k) ≡ bindsName k) × (typesOf (mapCmd f k) ≡ map f (typesOf k))
+  unfolding kids plain inner bindsVar bindsName typesOf mapCmd
+  mapped (c-num n) = (refl, refl, refl, refl)
+  mapped c-top = (refl, refl, refl, refl)
+  mapped (c-var v) = (refl, refl, refl, refl)
+  mapped (c-pair a b) = (refl, refl, refl, refl)
+  mapped (c-part a i) = (refl, refl, refl, refl)
+  mapped (c-fn v t b) = (refl, refl, refl, refl)
+  mapped (c-app a b) = (refl, refl, refl, refl)
+  mapped (c-new t a) = (refl, refl, refl, refl)
+  mapped (c-asg a b) = (refl, refl, refl, refl)
+  mapped (c-read a) = (refl, refl, refl, refl)
+  mapped (c-sum i a b) = (refl, refl, refl, refl)
+  mapped (c-test a b c t) = (refl, refl, refl, refl)
+  mapped (c-lim ks b) = (refl, refl, refl, refl)
+  mapped (c-grant a b) = (refl, refl, refl, refl)
+  mapped (c-newkey v r a b t) = (refl, refl, refl, refl)
+  mapped (c-assoc a b) = (refl, refl, refl, refl)
+
   pub kids-map : (k : Cmd T) → kids (mapCmd f k) ≡ kids k
-  unfolding kids plain inner mapCmd
-  kids-map (c-num n) = refl
-  kids-map c-top = refl
-  kids-map (c-var v) = refl
-  kids-map (c-pair a b) = refl
-  kids-map (c-part a i) = refl
-  kids-map (c-fn v t b) = refl
-  kids-map (c-app a b) = refl
-  kids-map (c-new t a) = refl
-  kids-map (c-asg a b) = refl
-  kids-map (c-read a) = refl
-  kids-map (c-sum i a b) = refl
-  kids-map (c-test a b c t) = refl
-  kids-map (c-lim ks b) = refl
-  kids-map (c-grant a b) = refl
-  kids-map (c-newkey v r a b t) = refl
-  kids-map (c-assoc a b) = refl
+  kids-map k = mapped k .0
 
   pub bindsVar-map : (k : Cmd T) → bindsVar (mapCmd f k) ≡ bindsVar k
-  unfolding bindsVar mapCmd
-  bindsVar-map (c-num n) = refl
-  bindsVar-map c-top = refl
-  bindsVar-map (c-var v) = refl
-  bindsVar-map (c-pair a b) = refl
-  bindsVar-map (c-part a i) = refl
-  bindsVar-map (c-fn v t b) = refl
-  bindsVar-map (c-app a b) = refl
-  bindsVar-map (c-new t a) = refl
-  bindsVar-map (c-asg a b) = refl
-  bindsVar-map (c-read a) = refl
-  bindsVar-map (c-sum i a b) = refl
-  bindsVar-map (c-test a b c t) = refl
-  bindsVar-map (c-lim ks b) = refl
-  bindsVar-map (c-grant a b) = refl
-  bindsVar-map (c-newkey v r a b t) = refl
-  bindsVar-map (c-assoc a b) = refl
+  bindsVar-map k = mapped k .1
 
   pub bindsName-map : (k : Cmd T) → bindsName (mapCmd f k) ≡ bindsName k
-  unfolding bindsName mapCmd
-  bindsName-map (c-num n) = refl
-  bindsName-map c-top = refl
-  bindsName-map (c-var v) = refl
-  bindsName-map (c-pair a b) = refl
-  bindsName-map (c-part a i) = refl
-  bindsName-map (c-fn v t b) = refl
-  bindsName-map (c-app a b) = refl
-  bindsName-map (c-new t a) = refl
-  bindsName-map (c-asg a b) = refl
-  bindsName-map (c-read a) = refl
-  bindsName-map (c-sum i a b) = refl
-  bindsName-map (c-test a b c t) = refl
-  bindsName-map (c-lim ks b) = refl
-  bindsName-map (c-grant a b) = refl
-  bindsName-map (c-newkey v r a b t) = refl
-  bindsName-map (c-assoc a b) = refl
-
-  pub usesVar-map : (k : Cmd T) → usesVar (mapCmd f k) ≡ usesVar k
-  unfolding usesVar mapCmd
-  usesVar-map (c-num n) = refl
-  usesVar-map c-top = refl
-  usesVar-map (c-var v) = refl
-  usesVar-map (c-pair a b) = refl
-  usesVar-map (c-part a i) = refl
-  usesVar-map (c-fn v t b) = refl
-  usesVar-map (c-app a b) = refl
-  usesVar-map (c-new t a) = refl
-  usesVar-map (c-asg a b) = refl
-  usesVar-map (c-read a) = refl
-  usesVar-map (c-sum i a b) = refl
-  usesVar-map (c-test a b c t) = refl
-  usesVar-map (c-lim ks b) = refl
-  usesVar-map (c-grant a b) = refl
-  usesVar-map (c-newkey v r a b t) = refl
-  usesVar-map (c-assoc a b) = refl
+  bindsName-map k = mapped k .2
 
   pub typesOf-map : (k : Cmd T) → typesOf (mapCmd f k) ≡ map f (typesOf k)
-  unfolding typesOf mapCmd
-  typesOf-map (c-num n) = refl
-  typesOf-map c-top = refl
-  typesOf-map (c-var v) = refl
-  typesOf-map (c-pair a b) = refl
-  typesOf-map (c-part a i) = refl
-  typesOf-map (c-fn v t b) = refl
-  typesOf-map (c-app a b) = refl
-  typesOf-map (c-new t a) = refl
-  typesOf-map (c-asg a b) = refl
-  typesOf-map (c-read a) = refl
-  typesOf-map (c-sum i a b) = refl
-  typesOf-map (c-test a b c t) = refl
-  typesOf-map (c-lim ks b) = refl
-  typesOf-map (c-grant a b) = refl
-  typesOf-map (c-newkey v r a b t) = refl
-  typesOf-map (c-assoc a b) = refl
+  typesOf-map k = mapped k .3
 
   pub nth-map : (l : List (Cmd T)) (e : ℕ) → nth (map (mapCmd f) l) e ≡ mapCmd f (nth l e)
   unfolding nth mapCmd

@@ -25,6 +25,15 @@ widest (suc (suc (suc zero))) = 8
 widest (suc (suc (suc (suc zero)))) = 11
 widest (suc (suc (suc (suc (suc n))))) = 0
 
+pub widest-few : (n : ℕ) → widest n ≤ 13
+unfolding widest
+widest-few zero = omega arith
+widest-few (suc zero) = omega arith
+widest-few (suc (suc zero)) = omega arith
+widest-few (suc (suc (suc zero))) = omega arith
+widest-few (suc (suc (suc (suc zero)))) = omega arith
+widest-few (suc (suc (suc (suc (suc n))))) = omega arith
+
 pub width-most : (op : Op) → width op ≤ widest (sectionOf op)
 unfolding width total operands sectionOf widest
 width-most o-host = omega arith

@@ -75,10 +75,11 @@ grow (some (e-fn q a b s)) f = fn q (f a) (f b) s
 grow (some (e-lim q r)) f = lim q r
 grow (some (e-grant q r)) f = grant q r
 
-unfoldable pub treeIn : ℕ → List TypeEntry → ℕ → Ty
-treeIn zero T i = num 0
-treeIn (suc f) T i = grow (getElem? T i) (treeIn f T)
+-- so many levels down; `at` gives the entries
+unfoldable pub treeIn : ℕ → (ℕ → Option TypeEntry) → ℕ → Ty
+treeIn zero at i = num 0
+treeIn (suc f) at i = grow (at i) (treeIn f at)
 
 -- the tree of entry i: parts are earlier entries, so i + 1 levels are enough
 unfoldable pub tree : List TypeEntry → ℕ → Ty
-tree T i = treeIn (suc i) T i
+tree T i = treeIn (suc i) (getElem? T) i

@@ -1,21 +1,21 @@
 -- The numbers of a job that is read fit its tables, and an expression is read back from its words.
-use mathlib.Core.Path.{_≡_, refl, sym, ap, _∙_, subst, subst⁻¹}
+use mathlib.Core.Path.{_≡_, refl, sym, ap, ap₂, _∙_, subst, subst⁻¹}
 use Prim.Native.Nat.{ℕ, zero, suc, _+_, _-_, _*_, _/_, _%_, _^_, _≤_, _<_}
-use native.Mathlib.Nat.{pow-succ', one-le-pow}
+use native.Mathlib.Nat.{sub-zero, pow-succ', one-le-pow}
 use native.Mathlib.Omega.{arith}
 use mathlib.Core.Bool.{Bool, true, false, cond}
-use mathlib.Core.List.{List, [], _∷_, _++_, map, flatMap, List·Memᴰ, List·Memᴰ·head, List·Memᴰ·tail, Memᴰ·append-left, Memᴰ·append-right}
+use mathlib.Core.List.{List, [], _∷_, _++_, map, flatMap, append-assoc, List·Memᴰ, List·Memᴰ·head, List·Memᴰ·tail, Memᴰ·append-left, Memᴰ·append-right}
 use mathlib.Core.Option.{Option, none, some, Option·none-ne-some, Option·some-injective}
 use mathlib.Core.Logic.{_⊎_, inl, inr}
-use lib.ListN.{length, length-append, length-take, length-replicate, getD, getD-replicate, getElem?, replicate, take, drop, List·getD-append}
-use lib.Seq.{getD-append-add, getD-drop}
+use lib.ListN.{length, length-append, length-take, length-replicate, getD, getElem?, set, replicate, take, drop, List·getD-append}
+use lib.Seq.{getD-append-add, getD-drop, set-append-seam}
 use lib.Dec.{eqb, ltb, leb}
 use borrow.Author.Tests.{ltb-true}
 use Rattle.order.specs.Bools.{_and_, and-l, and-r}
 use Rattle.order.specs.Sets.{all-of}
 use Rattle.order.specs.SetLaws.{all-of→, lt-bit, bit-mem}
 use Rattle.order.specs.Effects.{Effect}
-use Rattle.order.specs.OrderLaws.{getElem?-lt, getElem?-snoc}
+use Rattle.order.specs.OrderLaws.{getElem?-lt, getElem?-snoc, length-snoc}
 use Rattle.syntax.specs.Types.{TypeEntry, e-num, e-pair, e-cell, e-fn, e-lim, e-grant}
 use Rattle.syntax.specs.Commands.{Cmd, c-num, c-top, c-var, c-pair, c-part, c-fn, c-app, c-new, c-asg, c-read, c-sum, c-test, c-lim, c-grant, c-newkey, c-assoc}
 use Rattle.syntax.specs.Commands.{Op, o-host, o-local, o-number, o-pair, o-cell, o-function, o-limit, o-grant, o-value, o-rights, o-end, opOf, operands, width, sectionOf, little, fields}
@@ -27,7 +27,7 @@ use Rattle.syntax.specs.Reading.{Written, w-name, w-type, w-value, w-rig
 use Rattle.syntax.specs.Reading.{Step, refuse, proceed, finish, settle, command, Read, refused, read, ended, onward, onOp, readFrom, noJob, reading}
 use Rattle.syntax.specs.Words.{nameWord, typeWord, setWord, valueWord, headBits, headWord, filled, slots, nameWords, typeWords, setWords, valueWords, headWords, slotWords, decode, codeIn}
 use Rattle.syntax.specs.ReadLaws.{JobOk, built-at, read-ok}
-use Rattle.syntax.specs.ReadFormed.{nth-at, entry-parts, CmdFormed, cmds-formed}
+use Rattle.syntax.specs.ReadFormed.{declared-lt, nth-at, entry-parts, CmdFormed, cmds-formed}
 
 -- Ranges
 
@@ -74,7 +74,7 @@ pub record JobFits (J : Job) : Type 0 where
 -- Lists filled up
 
 -- a list that is filled up with zeros has the same entries, and 0 past them
-zeros-at : (k i : ℕ) → _≡_ {A = ℕ} (getD (replicate k 0) i 0) 0
+pub zeros-at : (k i : ℕ) → _≡_ {A = ℕ} (getD (replicate k 0) i 0) 0
 zeros-at zero i = refl
 zeros-at (suc k) zero = refl
 zeros-at (suc k) (suc i) = zeros-at k i
@@ -88,29 +88,40 @@ pub filled-at : (n : ℕ) (l : List ℕ) (i : ℕ) → getD (filled n 0 l) i 0 �
 unfolding filled
 filled-at n l i = padded-at l (n - length l) i
 
--- filled up with any number: its own entries, that number past them, and the length that was asked for
-pub filled-in : (n x : ℕ) (l : List ℕ) (i : ℕ) → i < length l → getD (filled n x l) i 0 ≡ getD l i 0
+-- nothing is used yet
+pub filled-none : (n : ℕ) → filled n 0 [] ≡ replicate n 0
 unfolding filled
-filled-in n x l i h = List·getD-append l (replicate (n - length l) x) 0 i h
+filled-none n = ap (λ (k : ℕ). replicate k 0) (sub-zero n)
 
-pub filled-past : (n x : ℕ) (l : List ℕ) (i : ℕ) → length l ≤ i → i < n → getD (filled n x l) i 0 ≡ x
+-- a store just past what is used is one entry more
+pub filled-set : (n : ℕ) (l : List ℕ) (i x : ℕ) → length l < n → i ≡ length l → set (filled n 0 l) i x ≡ filled n 0 (l ++ (x ∷ []))
 unfolding filled
-filled-past n x l i h k =
-    let z : i ≡ length l + (i - length l) = omega arith in
-    ap (λ j. getD (l ++ replicate (n - length l) x) j 0) z ∙ getD-append-add l (replicate (n - length l) x) (i - length l) 0 ∙ getD-replicate (n - length l) (i - length l) x 0 (omega arith)
+filled-set n l i x h e =
+    let z : n - length l ≡ suc (n - suc (length l)) = omega arith in
+    ap₂ (λ (k j : ℕ). set (l ++ replicate k 0) j x) z e
+    ∙ set-append-seam l 0 (replicate (n - suc (length l)) 0) x
+    ∙ sym (append-assoc l (x ∷ []) (replicate (n - length (l ++ (x ∷ []))) 0) ∙ ap (λ (k : ℕ). l ++ x ∷ replicate (n - k) 0) (length-snoc l x))
 
-pub filled-length : (n x : ℕ) (l : List ℕ) → length l ≤ n → length (filled n x l) ≡ n
+-- a zero more is no change
+pub filled-zero : (n : ℕ) (l : List ℕ) → length l < n → filled n 0 (l ++ (0 ∷ [])) ≡ filled n 0 l
 unfolding filled
-filled-length n x l h = omega (arith, length-append l (replicate (n - length l) x), length-replicate (n - length l) x)
+filled-zero n l h =
+    let z : n - length l ≡ suc (n - length (l ++ (0 ∷ []))) = omega (arith, length-snoc l 0) in
+    append-assoc l (0 ∷ []) (replicate (n - length (l ++ (0 ∷ []))) 0) ∙ ap (λ (k : ℕ). l ++ replicate k 0) (sym z)
+
+-- the length that was asked for
+pub filled-length : (n : ℕ) (l : List ℕ) → length l ≤ n → length (filled n 0 l) ≡ n
+unfolding filled
+filled-length n l h = omega (arith, length-append l (replicate (n - length l) 0), length-replicate {A = ℕ} (n - length l) 0)
 
 -- a table of words, filled up with zeros: the word of each entry, and 0 past them
 module _ {A : Type 0} (f : A → ℕ) where
-  map-at : (l : List A) (i : ℕ) (a : A) → getElem? l i ≡ some a → getD (map f l) i 0 ≡ f a
+  pub map-at : (l : List A) (i : ℕ) (a : A) → getElem? l i ≡ some a → getD (map f l) i 0 ≡ f a
   map-at [] i a e = absurd (Option·none-ne-some a e)
   map-at (x ∷ l) zero a e = ap f (Option·some-injective x a e)
   map-at (x ∷ l) (suc i) a e = map-at l i a e
 
-  map-past : (l : List A) (i : ℕ) → getElem? l i ≡ none → getD (map f l) i 0 ≡ 0
+  pub map-past : (l : List A) (i : ℕ) → getElem? l i ≡ none → getD (map f l) i 0 ≡ 0
   map-past [] i e = refl
   map-past (x ∷ l) zero e = absurd (Option·none-ne-some x (sym e))
   map-past (x ∷ l) (suc i) e = map-past l i e
@@ -146,7 +157,7 @@ head-parts byte x a b c d e h k =
     small : x % 4294967296 ≡ x
     small = omega arith
 
-low-byte : (r : ℕ) → r < 256 → r % 256 ≡ r
+pub low-byte : (r : ℕ) → r < 256 → r % 256 ≡ r
 low-byte r h = omega arith
 
 two-low : (v r : ℕ) → v < 256 → (v + 256 * r) % 256 ≡ v
@@ -476,8 +487,7 @@ unfolding setOk declared
 set-lt ds s h e = lt-bit 64 s (λ i b. omega (arith, ltb-true i (2 + length ds) (all-of→ (λ q. ltb q (2 + length ds)) (and-l _ _ e) (bit-mem s b))))
 
 name-lt : (ds : List Name) (q : ℕ) → 2 + length ds ≤ 64 → declared ds q ≡ true → q < 64
-unfolding declared
-name-lt ds q h e = omega (arith, ltb-true q (2 + length ds) e)
+name-lt ds q h e = omega (arith, declared-lt ds q e)
 
 part-lt : (a n : ℕ) → n < 256 → ltb a n ≡ true → a < 256
 part-lt a n h e = omega (arith, ltb-true a n e)
@@ -539,7 +549,7 @@ pub job-fits : (s : List ℕ) (J : Job) → Bytes s → reading s ≡ read J →
 unfolding nameOk hostValueOk rightsOk
 job-fits s J b r =
     record {
-      upper = λ i d e. omega (arith, j .few-names, length-take i (J .names), upper-lt (take i (J .names)) (d .upper) (and-r _ _ (and-l _ _ (built-at _ (j .names) i d e))));
+      upper = λ i d e. omega (arith, j .few-names, length-take i (J .names), declared-lt (take i (J .names)) (d .upper) (and-r _ _ (and-l _ _ (built-at _ (j .names) i d e))));
       types = λ i x e. type-fits (J .names) i x (j .few-names) (omega (arith, j .few-types, getElem?-lt (J .types) i x e)) (entry-parts (J .names) (j .types) i x e);
       values = λ i h e. record { ty = part-le (h .ty) (length (J .types)) (j .few-types) (and-l _ _ (built-at _ (j .values) i h e)); init = t .values i h e };
       rights = set-lt (J .names) (J .rights) (j .few-names) (and-l _ _ (j .rights));
@@ -551,9 +561,6 @@ job-fits s J b r =
 
     t : Slim J
     t = read-slim s J b r
-
-    upper-lt : (ds : List Name) (q : ℕ) → declared ds q ≡ true → q < 2 + length ds
-    upper-lt ds q e = unfold declared in ltb-true q (2 + length ds) e
 
     part-le : (a n : ℕ) → n ≤ 256 → ltb a n ≡ true → a < 256
     part-le a n h e = omega (arith, ltb-true a n e)

@@ -230,7 +230,7 @@ levelOf N R R' C F x y s t =
     (eqb (firstOf x % 256) (firstOf y % 256))
 
 pub record Level (N R R' C F : ℕ → ℕ → Bool) (v : Bool) (x y s t : ℕ) : Type 0 where
-  by : v ≡ levelOf N R R' C F x y s t
+  pub by : v ≡ levelOf N R R' C F x y s t
 
 -- the test of two heads with the words the other way round
 pub turned : (bl : ℕ → ℕ → Bool) (x y : ℕ) {r : Bool}

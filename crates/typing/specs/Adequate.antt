@@ -18,18 +18,14 @@ use Rattle.syntax.specs.Tree.{Entry, binds, treeRefusal}
 use Rattle.syntax.specs.Context.{Ctx, x-plain, x-inner, plain-lt, inner-lt, ctx-le, root-lt}
 use Rattle.typing.specs.Rules.{Has, h-num, h-top, h-var, h-pair, h-part1, h-part2, h-fn, h-app, h-new, h-asg, h-read, h-sum, h-test, h-lim, h-grant, h-newkey, h-assoc, h-sub, HasKeys, k-nil, k-cons}
 use Rattle.typing.specs.SubtypeLaws.{sub-refl, subTy→}
-use Rattle.typing.specs.Least.{Typed, typed, isUpper, pick, varType, ofVar, keysAt, typeAt, get, typesTo, typeOf}
+use Rattle.typing.specs.Least.{Typed, typed, isUpper, pick, varType, keysAt, typeAt, get, typesTo, typeOf}
 use Rattle.typing.specs.Scoped.{ctx-type, ctx-var, newkey-fresh}
-use Rattle.typing.specs.Filled.{seen, typeOf-is, typed-ty, typed-eff, by-with, by-require, by-num, by-pair, by-cell, by-fn, by-lim, by-grant}
+use Rattle.typing.specs.Filled.{seen, typeOf-is, typed-ty, typed-eff, of-var, by-with, by-require, by-num, by-pair, by-cell, by-fn, by-lim, by-grant}
 
 is-upper : (o : Option ℕ) (u : ℕ) → isUpper o u ≡ true → o ≡ some u
 unfolding isUpper
 is-upper none u e = absurd (false≢true e)
 is-upper (some w) u e = ap some (sym (eqb-true u w e))
-
-of-var : (o : Option Ty) {A T : Ty} {s : Effect} → o ≡ some A → ofVar o ≡ typed T s → typed A pure ≡ typed T s
-unfolding ofVar
-of-var o {A} e h = rw e at h
 
 module _ (S : Src) (ok : Formed S) (tree : treeRefusal S ≡ none) where
   same : {Γ : List Entry} {e : ℕ} {A T : Ty} {s t : Effect} → typed A s ≡ typed T t → Has S Γ e A s → Has S Γ e T t

@@ -9,26 +9,13 @@ use lib.ListN.{length, getElem?}
 use lib.Dec.{eqb}
 use Rattle.order.specs.Bools.{_and_}
 use Rattle.order.specs.Order.{below}
+use Rattle.order.specs.OrderLaws.{getElem?-some}
 use Rattle.order.specs.Effects.{Effect, effBelow}
 use Rattle.syntax.specs.Types.{Ty, num, pair, cell, fn, lim, grant, depth, TypeEntry, e-num, e-pair, e-cell, e-fn, e-lim, e-grant, grow, tree}
+use Rattle.syntax.specs.TypeLaws.{Part, of-pair-1, of-pair-2, of-cell, of-fn-1, of-fn-2, tree-entry}
 use Rattle.typing.specs.Subtype.{onNum, onPair, onCell, onFn, onLim, onGrant, sameTy, subTy, superTy}
 use Rattle.typing.specs.Entries.{ifNum, ifPair, ifCell, ifFn, ifLim, ifGrant, sameEntry, subEntry, superEntry, sameIn, subIn, superIn}
-use Rattle.typing.specs.NumberedTables.{EntryOk, ok-num, ok-pair, ok-cell, ok-fn, ok-lim, ok-grant, TableOk, entry-some, tree-entry}
-
--- entry c is a part of an entry
-data Part (c : ℕ) : TypeEntry → Type 0 where
-  of-pair-1 : {q b : ℕ} → Part c (e-pair q c b)
-  of-pair-2 : {q a : ℕ} → Part c (e-pair q a c)
-  of-cell : {q : ℕ} → Part c (e-cell q c)
-  of-fn-1 : {q b : ℕ} {s : Effect} → Part c (e-fn q c b s)
-  of-fn-2 : {q a : ℕ} {s : Effect} → Part c (e-fn q a c s)
-
-part-low : {D N n c : ℕ} {x : TypeEntry} → EntryOk D N n x → Part c x → c < n
-part-low (ok-pair q a b) of-pair-1 = a
-part-low (ok-pair q a b) of-pair-2 = b
-part-low (ok-cell q a d) of-cell = a
-part-low (ok-fn q a d b s) of-fn-1 = a
-part-low (ok-fn q a d b s) of-fn-2 = b
+use Rattle.typing.specs.NumberedTables.{EntryOk, ok-num, ok-pair, ok-cell, ok-fn, ok-lim, ok-grant, TableOk, part-low, table-earlier}
 
 part-depth : (f : ℕ → Ty) {c : ℕ} {x : TypeEntry} → Part c x → depth (f c) < depth (grow (some x) f)
 unfolding grow depth
@@ -136,10 +123,10 @@ module _ {D N : ℕ} {T : List TypeEntry} (ok : TableOk D N T) (at : ℕ → Opt
 
   near-part : {d a b : ℕ} → Near (suc d) a b → {x y : TypeEntry} → getElem? T a ≡ some x → getElem? T b ≡ some y → {c e : ℕ} → Part c x → Part e y → Near d c e
   near-part {d} {a} {b} (first h k l) {x} {y} p q {c} {e} u v =
-      let m = subst (λ A. depth A ≤ suc d) (tree-entry ok a x p) l in
+      let m = subst (λ A. depth A ≤ suc d) (tree-entry (table-earlier ok) a x p) l in
       first (omega (arith, part-low (ok .each a x p) u)) (omega (arith, part-low (ok .each b y q) v)) (omega (arith, part-depth (tree T) u, m))
   near-part {d} {a} {b} (second h k l) {x} {y} p q {c} {e} u v =
-      let m = subst (λ A. depth A ≤ suc d) (tree-entry ok b y q) l in
+      let m = subst (λ A. depth A ≤ suc d) (tree-entry (table-earlier ok) b y q) l in
       second (omega (arith, part-low (ok .each a x p) u)) (omega (arith, part-low (ok .each b y q) v)) (omega (arith, part-depth (tree T) v, m))
 
   never : {X : Type 0} {a b : ℕ} → Near 0 a b → X
@@ -157,7 +144,7 @@ module _ {D N : ℕ} {T : List TypeEntry} (ok : TableOk D N T) (at : ℕ → Opt
   laws : (d a b : ℕ) → Near d a b → Met up (sameIn d at) (λ x y. subIn bl eb d at x y) (λ x y. superIn bl eb d at x y) a b (tree T a) (tree T b)
   unfolding sameIn subIn
   laws zero a b n = never n
-  laws (suc d) a b n = go (entry-some T a (in-first n)) (entry-some T b (in-second n)) (λ c e m. laws d c e m)
+  laws (suc d) a b n = go (getElem?-some T a (in-first n)) (getElem?-some T b (in-second n)) (λ c e m. laws d c e m)
     where
       go : (x : TypeEntry) × (getElem? T a ≡ some x) → (y : TypeEntry) × (getElem? T b ≡ some y)
           → ((c e : ℕ) → Near d c e → Met up (sameIn d at) (λ x y. subIn bl eb d at x y) (λ x y. superIn bl eb d at x y) c e (tree T c) (tree T e))
@@ -166,7 +153,7 @@ module _ {D N : ℕ} {T : List TypeEntry} (ok : TableOk D N T) (at : ℕ → Opt
           let z = level or (sameIn d at) (λ c e. subIn bl eb d at c e) (λ c e. superIn bl eb d at c e) (tree T) x y (ok .each a x p) (ok .each b y q) (λ c e u v. r c e (near-part n p q u v)) in
           let k : at a ≡ some x = reads a (in-first n) ∙ p in
           let l : at b ≡ some y = reads b (in-second n) ∙ q in
-          rw (tree-entry ok a x p, tree-entry ok b y q) (record { same-met = rw (k, l) (z .same-met); sub-met = rw (k, l) (z .sub-met); super-met = rw (k, l) (z .super-met) })
+          rw (tree-entry (table-earlier ok) a x p, tree-entry (table-earlier ok) b y q) (record { same-met = rw (k, l) (z .same-met); sub-met = rw (k, l) (z .sub-met); super-met = rw (k, l) (z .super-met) })
 
   -- equality, below and above, with as many levels as the first tree is deep, and as the second is
   pub same-by-first : (d a b : ℕ) → a < length T → b < length T → depth (tree T a) ≤ d → sameIn d at a b ≡ sameTy (tree T a) (tree T b)

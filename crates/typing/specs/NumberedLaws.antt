@@ -15,6 +15,7 @@ use Rattle.order.specs.Order.{below}
 use Rattle.order.specs.OrderLaws.{length-snoc}
 use Rattle.order.specs.Effects.{Effect, pure, touch, join, effBelow}
 use Rattle.syntax.specs.Types.{Ty, depth, TypeEntry, e-num, e-pair, e-cell, e-fn, e-lim, e-grant, tree}
+use Rattle.syntax.specs.TypeLaws.{tree-kept, tree-new}
 use Rattle.syntax.specs.Commands.{Cmd, c-num, c-top, c-var, c-pair, c-part, c-fn, c-app, c-new, c-asg, c-read, c-sum, c-test, c-lim, c-grant, c-newkey, c-assoc, mapCmd}
 use Rattle.syntax.specs.Operands.{nth, plain, inner, kids, usesVar}
 use Rattle.syntax.specs.Job.{Name, Job, uppers, upOf, sourceOf}
@@ -28,12 +29,13 @@ use Rattle.typing.specs.Subtype.{subTy}
 use Rattle.typing.specs.Least.{Typed, typed, untyped, varType, typeAt, get, typesTo, types, typeOf, firstUntyped}
 use Rattle.typing.specs.Layout.{newKeys, keyEntries, varEntry, firstPart, secondPart, rekeyed, Points, new, old, pointsTo, Layout, point, lay, layoutOf}
 use Rattle.typing.specs.Tables.{most-entries, effectOf, effectIn, laidOut}
-use Rattle.typing.specs.Filled.{typesTo-length, seen, typeOf-is, untyped-not}
+use Rattle.typing.specs.Filled.{typesTo-length, seen, typeOf-is, untyped-not, all-typed}
 use Rattle.typing.specs.Scoped.{ctx-type, ctx-var}
 use Rattle.typing.specs.Entries.{subIn}
 use Rattle.typing.specs.Numbered.{Ops, Result, makes, points, wrong, needNum, needPair, needCell, needFn, needLim, needGrant, need, fits, keysFrom, resultAt, Sofar, Numbered, next, stop, settle, numberAt, Whole, whole, halted, onto, numberAll, startOf, numbering}
-use Rattle.typing.specs.NumberedTests.{sub-law, Agree, both-tests}
-use Rattle.typing.specs.NumberedTables.{EntryOk, ok-num, ok-pair, ok-cell, ok-fn, ok-lim, ok-grant, TableOk, tree-kept, table-snoc, tree-new, TreeAt, local-lt, start-ok, start-kept, var-tree}
+use Rattle.typing.specs.EntryLaws.{sub-by-second}
+use Rattle.typing.specs.NumberedOps.{Agree, agree-order}
+use Rattle.typing.specs.NumberedTables.{EntryOk, ok-num, ok-pair, ok-cell, ok-fn, ok-lim, ok-grant, TableOk, part-low, table-earlier, table-snoc, keys-length, TreeAt, local-lt, start-ok, start-kept, var-tree}
 use Rattle.typing.specs.NumberedStep.{Same, Match, m-new, m-old, m-no, Operand, matches}
 
 -- Where an expression's type stands
@@ -190,7 +192,7 @@ extend-inv J e σ v F U q u ok {A} {i} p {s} {t} same g =
 
     old-one : (c : ℕ) → c < e → Operand N F (typeOf (sourceOf J)) (λ a. getD of a 0) (λ a. getD effects a 0) c
     old-one c h =
-        operand-on c (v .each c h) long (ap (λ l. tree l (getD (σ .of) c 0)) q ∙ tree-kept (v .table) U (getD (σ .of) c 0) (v .each c h .low))
+        operand-on c (v .each c h) long (ap (λ l. tree l (getD (σ .of) c 0)) q ∙ tree-kept (table-earlier (v .table)) U (getD (σ .of) c 0) (v .each c h .low))
         (List·getD-append (σ .of) (i ∷ []) 0 c (omega (arith, v .count-of))) (List·getD-append (σ .effects) (t ∷ []) 0 c (omega (arith, v .count-effects)))
 
     new-one : Operand N F (typeOf (sourceOf J)) (λ a. getD of a 0) (λ a. getD effects a 0) e
@@ -243,7 +245,7 @@ settled : (J : Job) (e : ℕ) (σ : Sofar) (k : Cmd ℕ) → Inv J e σ → {o :
     → typeOf (sourceOf J) e ≡ o → pointsTo (varEntry J) (effectIn J) (σ .entries) (λ a. getD (σ .of) a 0) k ≡ p → Stepped J e σ k (settle σ r)
 unfolding settle point
 settled J e σ k v (m-new {x = x} w a s) l-new g q =
-    went _ (extend-inv J e σ v (σ .entries ++ (x ∷ [])) (x ∷ []) refl (omega arith) (table-snoc (v .table) w) (record { is = tree-new (v .table) w ∙ sym a; low = omega (arith, length-snoc (σ .entries) x) }) s g)
+    went _ (extend-inv J e σ v (σ .entries ++ (x ∷ [])) (x ∷ []) refl (omega arith) (table-snoc (v .table) w) (record { is = tree-new (table-earlier (v .table)) x (λ c p. part-low w p) ∙ sym a; low = omega (arith, length-snoc (σ .entries) x) }) s g)
     (ap (λ z. point z (layOf σ)) q)
 settled J e σ k v (m-old {i = i} a s) l-old g q = went _ (extend-inv J e σ v (σ .entries) [] (sym (append-nil (σ .entries))) (omega arith) (v .table) a s g) (ap (λ z. point z (layOf σ)) q)
 settled J e σ k v (m-no {n = n}) l-no g q = stopped n g
@@ -268,12 +270,6 @@ wholeOf none σ = whole σ
 wholeOf (some r) σ = halted r
 
 -- the first expression without a type, by what each has
-first-none : (l : List Typed) (i : ℕ) → ((c : ℕ) → c < length l → (A : Ty) × (s : Effect) × (get l c ≡ typed A s)) → firstUntyped i l ≡ none
-unfolding firstUntyped get
-first-none [] i h = refl
-first-none (typed A s ∷ l) i h = first-none l (suc i) (λ c k. h (suc c) (omega arith))
-first-none (untyped n ∷ l) i h = untyped-not (h 0 (omega arith) .2)
-
 first-some : (l : List Typed) (i e p n : ℕ) → p ≡ i + e → e < length l → ((c : ℕ) → c < e → (A : Ty) × (s : Effect) × (get l c ≡ typed A s)) → get l e ≡ untyped n
     → firstUntyped i l ≡ some (record { number = n; place = p })
 unfolding firstUntyped get
@@ -331,7 +327,7 @@ module _ {J : Job} (j : JobOk J) (scoped : treeRefusal (sourceOf J) ≡ none) {O
   later : {e : ℕ} {σ : Sofar} → Inv J e σ → {A : Ty} {i : ℕ} → TreeAt (startOf J .entries) A i → TreeAt (σ .entries) A i
   later {σ = σ} v {A} {i} p =
       record {
-        is = ap (λ l. tree l i) (v .grown) ∙ tree-kept start-table (v .more) i (p .low) ∙ p .is;
+        is = ap (λ l. tree l i) (v .grown) ∙ tree-kept (table-earlier start-table) (v .more) i (p .low) ∙ p .is;
         low = omega (arith, ap length (v .grown), length-append (startOf J .entries) (v .more), p .low);
       }
 
@@ -348,7 +344,7 @@ module _ {J : Job} (j : JobOk J) (scoped : treeRefusal (sourceOf J) ≡ none) {O
       → subIn (O .below) (O .effBelow) most-depth (getElem? (σ .entries)) a t ≡ subTy (upOf (sourceOf J)) (tree (σ .entries) a) (tree (σ .entries) t)
   subtypes {σ = σ} v a t h l =
       let p = later v (start-kept j t l) in
-      both-tests ag (v .table) most-depth .0 a t ∙ sub-law (v .table) (upOf (sourceOf J)) most-depth a t h (p .low) (subst⁻¹ (λ A. depth A ≤ most-depth) (p .is) (tree-depth (J .names) (j .types) t l))
+      sub-by-second (v .table) (getElem? (σ .entries)) (λ i g. refl) (agree-order ag) most-depth a t h (p .low) (subst⁻¹ (λ A. depth A ≤ most-depth) (p .is) (tree-depth (J .names) (j .types) t l))
 
   pub step : (e : ℕ) → e < length (J .cmds) → (σ : Sofar) → Inv J e σ → Stepped J e σ (nth (J .cmds) e) (numberAt O (varEntry J) σ (nth (J .cmds) e))
   unfolding numberAt fits effectIn effectOf
@@ -409,7 +405,7 @@ module _ {J : Job} (j : JobOk J) (scoped : treeRefusal (sourceOf J) ≡ none) {O
   numbering-is = at (numbering O J) outcome
     where
       at : (w : Whole) → Outcome J (J .cmds) (startOf J) w → w ≡ wholeOf (firstUntyped 0 (types (sourceOf J))) (finalOf J)
-      at w (ended τ i p) = ap whole (final-is J τ i p) ∙ ap (λ o. wholeOf o (finalOf J)) (sym (first-none (types (sourceOf J)) 0 (λ c h. typed-at J τ i c (omega (arith, types-length J)))))
+      at w (ended τ i p) = ap whole (final-is J τ i p) ∙ ap (λ o. wholeOf o (finalOf J)) (sym (all-typed (types (sourceOf J)) 0 (λ c h. typed-at J τ i c (omega (arith, types-length J)))))
       at w (broke n e h f g) = ap (λ o. wholeOf o (finalOf J)) (sym (first-some (types (sourceOf J)) 0 e e n (omega arith) (omega (arith, types-length J)) (λ c k. whole-at J c (f c k)) (at-get J e ∙ g)))
 
   -- the state when all are done, where all have types
@@ -430,11 +426,6 @@ module _ {J : Job} (j : JobOk J) (scoped : treeRefusal (sourceOf J) ≡ none) {O
       at x (stopped n g) z = absurd (let y : _≡_ {A = ℕ} 0 1 = cc in omega arith)
 
 -- What fits into the words of the tables
-
-keys-length : (n : ℕ) (rs : List ℕ) → length (keyEntries n rs) ≡ 3 * length rs
-unfolding keyEntries
-keys-length n [] = omega arith
-keys-length n (r ∷ rs) = omega (arith, keys-length (3 + n) rs)
 
 new-few : (l : List (Cmd ℕ)) → length (newKeys l) ≤ length l
 unfolding newKeys

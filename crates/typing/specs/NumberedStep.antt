@@ -2,16 +2,18 @@
 use mathlib.Core.Path.{_≡_, refl, sym, ap, _∙_, subst⁻¹}
 use Prim.Native.Nat.{ℕ, _^_, _≤_, _<_}
 use native.Mathlib.Omega.{arith}
-use mathlib.Core.Bool.{Bool, true, false, cond, _||_}
+use mathlib.Core.Bool.{Bool, true, false, cond}
 use mathlib.Core.List.{List, [], _∷_, List·Memᴰ, List·Memᴰ·head, List·Memᴰ·tail, Memᴰ·append-left, Memᴰ·append-right}
 use mathlib.Core.Option.{Option, some}
 use lib.ListN.{drop, length, getElem?}
-use lib.Bits.{bitOr, or-zero-l, or-zero-r}
-use Rattle.order.specs.Sets.{bit, setOf}
-use Rattle.order.specs.SetLaws.{bit-or, set-ext, lt-pow}
+use lib.Bits.{bitOr, or-zero-l, or-zero-r, or-comm}
+use Rattle.order.specs.OrderLaws.{getElem?-some}
+use Rattle.order.specs.Sets.{setOf}
+use Rattle.order.specs.SetLaws.{or-assoc, lt-pow}
 use Rattle.order.specs.Effects.{Effect, pure, touch, join, drop as dropped, raise, reduce, effBelow}
 use Rattle.order.specs.EffectLaws.{reduce-lt, drop-lt, join-lt, touch-lt, raise-lt}
 use Rattle.syntax.specs.Types.{Ty, cell, fn, keyOf, rekey, TypeEntry, e-num, e-pair, e-cell, e-fn, e-lim, e-grant, grow, tree}
+use Rattle.syntax.specs.TypeLaws.{tree-entry}
 use Rattle.syntax.specs.Commands.{Cmd, c-num, c-top, c-var, c-pair, c-part, c-fn, c-app, c-new, c-asg, c-read, c-sum, c-test, c-lim, c-grant, c-newkey, c-assoc, mapCmd}
 use Rattle.syntax.specs.Operands.{plain, inner, kids, typesOf, usesVar, bindsName}
 use Rattle.syntax.specs.Job.{Src, upOf}
@@ -19,8 +21,8 @@ use Rattle.typing.specs.Subtype.{subTy}
 use Rattle.typing.specs.Least.{Typed, typed, untyped, with, wantNum, wantPair, wantCell, wantFn, wantLim, wantGrant, require, pick, varType, ofVar, keysAt, typeAt}
 use Rattle.typing.specs.Layout.{rekeyed}
 use Rattle.typing.specs.Numbered.{Ops, Result, makes, points, wrong, needNum, needPair, needCell, needFn, needLim, needGrant, need, keyIn, fits, keysFrom, resultAt}
-use Rattle.typing.specs.NumberedTests.{Agree, key-low}
-use Rattle.typing.specs.NumberedTables.{EntryOk, ok-num, ok-pair, ok-cell, ok-fn, ok-lim, ok-grant, TableOk, entry-some, tree-entry, TreeAt}
+use Rattle.typing.specs.NumberedOps.{Agree}
+use Rattle.typing.specs.NumberedTables.{EntryOk, ok-num, ok-pair, ok-cell, ok-fn, ok-lim, ok-grant, TableOk, key-low, table-earlier, TreeAt}
 
 -- One effect, worked out in two ways; its names are below N
 pub record Same (N : ℕ) (s t : Effect) : Type 0 where
@@ -39,29 +41,11 @@ pub record Operand (N : ℕ) (E : List TypeEntry) (tab : ℕ → Typed) (of : �
   pub low : of a < length E
   pub small : eff a < 2 ^ N
 
-or3 : (a b c : Bool) → ((a || b) || c) ≡ (b || (a || c))
-or3 true true c = refl
-or3 true false c = refl
-or3 false true c = refl
-or3 false false c = refl
-
-or4 : (a b c d : Bool) → ((a || (b || c)) || d) ≡ (c || (a || (b || d)))
-or4 true b true d = refl
-or4 true b false d = refl
-or4 false true true d = refl
-or4 false true false d = refl
-or4 false false true d = refl
-or4 false false false d = refl
-
 swap3 : (a b c : ℕ) → bitOr (bitOr a b) c ≡ bitOr b (bitOr a c)
-swap3 a b c =
-    set-ext _ _ (λ i. bit-or i (bitOr a b) c ∙ ap (λ x. x || bit c i) (bit-or i a b) ∙ or3 (bit a i) (bit b i) (bit c i) ∙ sym (bit-or i b (bitOr a c) ∙ ap (λ x. bit b i || x) (bit-or i a c)))
+swap3 a b c = ap (λ x. bitOr x c) (or-comm a b) ∙ or-assoc b a c
 
 swap4 : (a b c d : ℕ) → bitOr (bitOr a (bitOr b c)) d ≡ bitOr c (bitOr a (bitOr b d))
-swap4 a b c d =
-    set-ext _ _ (λ i.
-    bit-or i (bitOr a (bitOr b c)) d ∙ ap (λ x. x || bit d i) (bit-or i a (bitOr b c) ∙ ap (λ x. bit a i || x) (bit-or i b c)) ∙ or4 (bit a i) (bit b i) (bit c i) (bit d i)
-    ∙ sym (bit-or i c (bitOr a (bitOr b d)) ∙ ap (λ x. bit c i || x) (bit-or i a (bitOr b d) ∙ ap (λ x. bit a i || x) (bit-or i b d))))
+swap4 a b c d = ap (λ x. bitOr x d) (sym (or-assoc a b c) ∙ or-comm (bitOr a b) c) ∙ or-assoc c (bitOr a b) d ∙ ap (bitOr c) (or-assoc a b d)
 
 -- Effects
 
@@ -145,10 +129,10 @@ module _ (S : Src) {O : Ops} (ag : Agree (upOf S) O) (ts : List TypeEntry) {E : 
   by-need n false c e {o} {r} m = subst⁻¹ (λ d. M (untyped n) (need n d r)) e m-no
 
   by-entry : {i : ℕ} → i < length E → (P : Ty → Option TypeEntry → Type 0) → ((x : TypeEntry) → EntryOk D N i x → P (grow (some x) (tree E)) (some x)) → P (tree E i) (getElem? E i)
-  by-entry {i} h P f = at (entry-some E i h)
+  by-entry {i} h P f = at (getElem?-some E i h)
     where
       at : (x : TypeEntry) × (getElem? E i ≡ some x) → P (tree E i) (getElem? E i)
-      at (x, z) = subst⁻¹ (λ o. P (tree E i) o) z (subst⁻¹ (λ A. P A (some x)) (tree-entry ok i x z) (f x (ok .each i x z)))
+      at (x, z) = subst⁻¹ (λ o. P (tree E i) o) z (subst⁻¹ (λ A. P A (some x)) (tree-entry (table-earlier ok) i x z) (f x (ok .each i x z)))
 
   by-num : {i : ℕ} → i < length E → (f : ℕ → Typed) (g : ℕ → Result) → ((q : ℕ) → q < N → M (f q) (g q)) → M (wantNum (tree E i) f) (needNum (getElem? E i) g)
   unfolding wantNum needNum grow

@@ -1,31 +1,32 @@
 -- Type tables as typing makes them: parts are earlier entries, the content of a cell and the argument of a function are declared types, names and sets are in their
 -- bounds. The trees of such a table, and the entries of variables.
 use mathlib.Core.Path.{_≡_, refl, sym, ap, _∙_, subst, subst⁻¹}
-use Prim.Native.Nat.{ℕ, zero, suc, _+_, _^_, _≤_, _<_}
+use Prim.Native.Nat.{ℕ, zero, suc, _+_, _*_, _^_, _≤_, _<_}
 use native.Mathlib.Omega.{arith}
 use mathlib.Core.Bool.{Bool, true, false, cond}
 use mathlib.Core.List.{List, [], _∷_, _++_, map, flatMap, append-assoc, append-nil, List·Memᴰ, List·Memᴰ·head, List·Memᴰ·tail, List·Memᴰ·not-nil}
-use mathlib.Core.Option.{Option, none, some, Option·none-ne-some, Option·some-injective}
+use mathlib.Core.Option.{Option, some, Option·none-ne-some, Option·some-injective}
 use mathlib.Core.Logic.{_≢_, _⊎_, inl, inr}
 use lib.ListN.{length, length-append, getElem?}
 use lib.Dec.{eqb}
 use borrow.Author.Tests.{eqb-true, eq-eqb, ne-eqb, ltb-true}
 use Rattle.order.specs.Bools.{and-l, and-r}
-use Rattle.order.specs.OrderLaws.{getElem?-append, getElem?-snoc, getElem?-seam, getElem?-lt, length-snoc}
+use Rattle.order.specs.OrderLaws.{getElem?-snoc, getElem?-lt, length-snoc}
 use Rattle.order.specs.SetLaws.{lt-bit, bit-mem, all-of→}
 use Rattle.order.specs.Effects.{Effect}
-use Rattle.syntax.specs.Types.{Ty, pair, lim, grant, TypeEntry, e-num, e-pair, e-cell, e-fn, e-lim, e-grant, grow, treeIn, tree}
+use Rattle.syntax.specs.Types.{Ty, pair, lim, grant, TypeEntry, e-num, e-pair, e-cell, e-fn, e-lim, e-grant, grow, tree}
+use Rattle.syntax.specs.TypeLaws.{Part, of-pair-1, of-pair-2, of-cell, of-fn-1, of-fn-2, Earlier, tree-entry, tree-kept}
 use Rattle.syntax.specs.Commands.{Cmd, c-num, c-top, c-var, c-pair, c-part, c-fn, c-app, c-new, c-asg, c-read, c-sum, c-test, c-lim, c-grant, c-newkey, c-assoc, mapCmd}
 use Rattle.syntax.specs.Operands.{nth, typesOf, bindsName}
 use Rattle.syntax.specs.Job.{Name, HostValue, Job, valueOf, sourceOf}
 use Rattle.syntax.specs.Reading.{declared, localName, setOk, partsOk, hostValueOk}
 use Rattle.syntax.specs.ReadLaws.{TypesOk, JobOk, built-at}
-use Rattle.syntax.specs.ReadFormed.{entry-parts, tree-append, cmds-formed}
+use Rattle.syntax.specs.ReadFormed.{entry-parts, types-earlier, declared-lt, cmds-formed}
 use Rattle.syntax.specs.Tree.{Entry, e-var, e-name, binds, boundBy, hostCtx}
 use Rattle.syntax.specs.Scope.{VarIn, v-here, v-var, v-name, host-var}
 use Rattle.typing.specs.Least.{typeIn, varType}
 use Rattle.typing.specs.Layout.{newKeys, keyEntries, Typing, hostVars, boundVars, entryOf, varEntry}
-use Rattle.typing.specs.Numbered.{startOf}
+use Rattle.typing.specs.Numbered.{keyIn, startOf}
 
 -- an entry that may stand at n, where D types are declared and there are N names
 pub data EntryOk (D N n : ℕ) : TypeEntry → Type 0 where
@@ -41,51 +42,16 @@ pub record TableOk (D N : ℕ) (T : List TypeEntry) : Type 0 where
 
 -- The trees of a table
 
-pub entry-some : {A : Type 0} (l : List A) (i : ℕ) → i < length l → (a : A) × (getElem? l i ≡ some a)
-entry-some [] i h = absurd (omega arith)
-entry-some (x ∷ l) zero h = (x, refl)
-entry-some (x ∷ l) (suc i) h = entry-some l i (omega arith)
+-- parts are earlier entries
+pub part-low : {D N n c : ℕ} {x : TypeEntry} → EntryOk D N n x → Part c x → c < n
+part-low (ok-pair q a b) of-pair-1 = a
+part-low (ok-pair q a b) of-pair-2 = b
+part-low (ok-cell q a d) of-cell = a
+part-low (ok-fn q a d b s) of-fn-1 = a
+part-low (ok-fn q a d b s) of-fn-2 = b
 
--- an entry's tree is decided by the trees of earlier entries
-grow-same : {D N n : ℕ} {x : TypeEntry} → EntryOk D N n x → (f g : ℕ → Ty) → ((a : ℕ) → a < n → f a ≡ g a) → grow (some x) f ≡ grow (some x) g
-unfolding grow
-grow-same (ok-num q) f g s = refl
-grow-same (ok-pair {a = a} {b = b} q x y) f g s = let u = s a x in let v = s b y in rw (u, v)
-grow-same (ok-cell {a = a} q x d) f g s = let u = s a x in rw u
-grow-same (ok-fn {a = a} {b = b} q x d y z) f g s = let u = s a x in let v = s b y in rw (u, v)
-grow-same (ok-lim q r) f g s = refl
-grow-same (ok-grant q r) f g s = refl
-
-module _ {D N : ℕ} {T : List TypeEntry} (ok : TableOk D N T) where
-  -- more levels than i give the same tree
-  levels : (f g i : ℕ) → i < f → i < g → treeIn f T i ≡ treeIn g T i
-  unfolding treeIn grow
-  levels zero g i h k = absurd (omega arith)
-  levels (suc f) zero i h k = absurd (omega arith)
-  levels (suc f) (suc g) i h k = at (getElem? T i) refl (λ a u v. levels f g a u v)
-    where
-      at : (o : Option TypeEntry) → getElem? T i ≡ o → ((a : ℕ) → a < f → a < g → treeIn f T a ≡ treeIn g T a) → grow o (treeIn f T) ≡ grow o (treeIn g T)
-      at none z s = refl
-      at (some e) z s = grow-same (ok .each i e z) (treeIn f T) (treeIn g T) (λ a u. s a (omega arith) (omega arith))
-
-  -- the tree of an entry is made of the trees of its parts
-  pub tree-entry : (i : ℕ) (x : TypeEntry) → getElem? T i ≡ some x → tree T i ≡ grow (some x) (tree T)
-  unfolding tree treeIn
-  tree-entry i x h = ap (λ o. grow o (treeIn i T)) h ∙ grow-same (ok .each i x h) (treeIn i T) (tree T) (λ a u. levels i (suc a) a u (omega arith))
-
-  longer : (U : List TypeEntry) (f i : ℕ) → i < length T → treeIn f (T ++ U) i ≡ treeIn f T i
-  unfolding treeIn
-  longer U zero i h = refl
-  longer U (suc f) i h = at (entry-some T i h) (λ a u. longer U f a u)
-    where
-      at : (e : TypeEntry) × (getElem? T i ≡ some e) → ((a : ℕ) → a < length T → treeIn f (T ++ U) a ≡ treeIn f T a)
-          → grow (getElem? (T ++ U) i) (treeIn f (T ++ U)) ≡ grow (getElem? T i) (treeIn f T)
-      at (e, z) s = rw (getElem?-append T U i e z, z) (grow-same (ok .each i e z) (treeIn f (T ++ U)) (treeIn f T) (λ a u. s a (omega arith)))
-
-  -- trees stay the same when entries are added at the end
-  pub tree-kept : (U : List TypeEntry) (i : ℕ) → i < length T → tree (T ++ U) i ≡ tree T i
-  unfolding tree
-  tree-kept U i h = longer U (suc i) i h
+pub table-earlier : {D N : ℕ} {T : List TypeEntry} → TableOk D N T → Earlier T
+table-earlier ok = record { part = λ i x e c p. part-low (ok .each i x e) p }
 
 -- A table that grows
 
@@ -96,10 +62,15 @@ table-snoc {D} {N} {T} ok {x} h = record { each = λ i y e. at i y (getElem?-sno
     at i y (inl z) = ok .each i y z
     at i y (inr z) = subst⁻¹ (λ n. EntryOk D N n y) (z .0) (subst (λ e. EntryOk D N (length T) e) (z .1) h)
 
--- the tree of a new last entry
-pub tree-new : {D N : ℕ} {T : List TypeEntry} → TableOk D N T → {x : TypeEntry} → EntryOk D N (length T) x → tree (T ++ (x ∷ [])) (length T) ≡ grow (some x) (tree T)
-tree-new {D} {N} {T} ok {x} h =
-    tree-entry (table-snoc ok h) (length T) x (getElem?-seam T x) ∙ grow-same h (tree (T ++ (x ∷ []))) (tree T) (λ a u. tree-kept ok (x ∷ []) a u)
+-- the key of an entry
+pub key-low : {D N n : ℕ} (x : TypeEntry) → EntryOk D N n x → keyIn (some x) < N
+unfolding keyIn
+key-low (e-num q) (ok-num a) = a
+key-low (e-pair q y z) (ok-pair a b c) = a
+key-low (e-cell q y) (ok-cell a b c) = a
+key-low (e-fn q y z s) (ok-fn a b c d e) = a
+key-low (e-lim q y) (ok-lim a b) = a
+key-low (e-grant q y) (ok-grant a b) = a
 
 -- Declared types
 
@@ -107,25 +78,26 @@ pub set-lt : (ds : List Name) (s : Effect) → setOk ds s ≡ true → s < 2 ^ (
 unfolding setOk declared
 set-lt ds s h = lt-bit (2 + length ds) s (λ i e. ltb-true _ _ (all-of→ (declared ds) (and-l _ _ h) (bit-mem s e)))
 
-name-lt : (ds : List Name) (q : ℕ) → declared ds q ≡ true → q < 2 + length ds
-unfolding declared
-name-lt ds q h = ltb-true _ _ h
-
 parts-ok : (ds : List Name) (D n : ℕ) → n ≤ D → (x : TypeEntry) → partsOk ds n x ≡ true → EntryOk D (2 + length ds) n x
 unfolding partsOk
-parts-ok ds D n l (e-num q) h = ok-num (name-lt ds q h)
-parts-ok ds D n l (e-pair q a b) h = ok-pair (name-lt ds q (and-l _ _ (and-l _ _ h))) (ltb-true _ _ (and-r _ _ (and-l _ _ h))) (ltb-true _ _ (and-r _ _ h))
-parts-ok ds D n l (e-cell q a) h = let k = ltb-true a n (and-r _ _ h) in ok-cell (name-lt ds q (and-l _ _ h)) k (omega arith)
+parts-ok ds D n l (e-num q) h = ok-num (declared-lt ds q h)
+parts-ok ds D n l (e-pair q a b) h = ok-pair (declared-lt ds q (and-l _ _ (and-l _ _ h))) (ltb-true _ _ (and-r _ _ (and-l _ _ h))) (ltb-true _ _ (and-r _ _ h))
+parts-ok ds D n l (e-cell q a) h = let k = ltb-true a n (and-r _ _ h) in ok-cell (declared-lt ds q (and-l _ _ h)) k (omega arith)
 parts-ok ds D n l (e-fn q a b s) h =
     let k = ltb-true a n (and-r _ _ (and-l _ _ (and-l _ _ h))) in
-    ok-fn (name-lt ds q (and-l _ _ (and-l _ _ (and-l _ _ h)))) k (omega arith) (ltb-true _ _ (and-r _ _ (and-l _ _ h))) (set-lt ds s (and-r _ _ h))
-parts-ok ds D n l (e-lim q r) h = ok-lim (name-lt ds q (and-l _ _ (and-l _ _ h))) (name-lt ds r (and-r _ _ (and-l _ _ h)))
-parts-ok ds D n l (e-grant q r) h = ok-grant (name-lt ds q (and-l _ _ (and-l _ _ h))) (name-lt ds r (and-r _ _ (and-l _ _ h)))
+    ok-fn (declared-lt ds q (and-l _ _ (and-l _ _ (and-l _ _ h)))) k (omega arith) (ltb-true _ _ (and-r _ _ (and-l _ _ h))) (set-lt ds s (and-r _ _ h))
+parts-ok ds D n l (e-lim q r) h = ok-lim (declared-lt ds q (and-l _ _ (and-l _ _ h))) (declared-lt ds r (and-r _ _ (and-l _ _ h)))
+parts-ok ds D n l (e-grant q r) h = ok-grant (declared-lt ds q (and-l _ _ (and-l _ _ h))) (declared-lt ds r (and-r _ _ (and-l _ _ h)))
 
 pub declared-ok : (ds : List Name) {ts : List TypeEntry} → TypesOk ds ts → TableOk (length ts) (2 + length ds) ts
 declared-ok ds {ts} b = record { each = λ i x e. let l : i ≤ length ts = omega (arith, getElem?-lt ts i x e) in parts-ok ds (length ts) i l x (entry-parts ds b i x e) }
 
 -- The entries of 3E
+
+pub keys-length : (n : ℕ) (rs : List ℕ) → length (keyEntries n rs) ≡ 3 * length rs
+unfolding keyEntries
+keys-length n [] = omega arith
+keys-length n (r ∷ rs) = omega (arith, keys-length (3 + n) rs)
 
 -- n entries stand before
 three : {A : Type 0} (T : List A) (x y z : A) (l : List A) → T ++ (x ∷ y ∷ z ∷ l) ≡ (((T ++ (x ∷ [])) ++ (y ∷ [])) ++ (z ∷ [])) ++ l
@@ -135,10 +107,10 @@ three-length : {A : Type 0} (T : List A) (x y z : A) → length (((T ++ (x ∷ [
 three-length T x y z = omega (arith, length-snoc ((T ++ (x ∷ [])) ++ (y ∷ [])) z, length-snoc (T ++ (x ∷ [])) y, length-snoc T x)
 
 -- the table with one 3E's entries more
-abbrev withKey : List TypeEntry → ℕ → List TypeEntry
+abbrev pub withKey : List TypeEntry → ℕ → List TypeEntry
 withKey T r = ((T ++ (e-lim 0 r ∷ [])) ++ (e-grant 0 r ∷ [])) ++ (e-pair 0 (length T) (suc (length T)) ∷ [])
 
-key-split : (T : List TypeEntry) (r : ℕ) (rs : List ℕ) → T ++ keyEntries (length T) (r ∷ rs) ≡ withKey T r ++ keyEntries (length (withKey T r)) rs
+pub key-split : (T : List TypeEntry) (r : ℕ) (rs : List ℕ) → T ++ keyEntries (length T) (r ∷ rs) ≡ withKey T r ++ keyEntries (length (withKey T r)) rs
 unfolding keyEntries
 key-split T r rs =
     three T (e-lim 0 r) (e-grant 0 r) (e-pair 0 (length T) (suc (length T))) (keyEntries (3 + length T) rs)
@@ -211,7 +183,7 @@ module _ (ts : List TypeEntry) {D N : ℕ} {E : List TypeEntry} (ok : TableOk D 
 
   key-tree : {n r : ℕ} → getElem? E n ≡ some (e-lim 0 r) → getElem? E (suc n) ≡ some (e-grant 0 r) → getElem? E (2 + n) ≡ some (e-pair 0 n (suc n)) → TreeAt E (pair 0 (lim 0 r) (grant 0 r)) (2 + n)
   unfolding grow
-  key-tree {n} {r} a b c = record { is = tree-entry ok (2 + n) (e-pair 0 n (suc n)) c ∙ rw (tree-entry ok n (e-lim 0 r) a, tree-entry ok (suc n) (e-grant 0 r) b); low = getElem?-lt E (2 + n) _ c }
+  key-tree {n} {r} a b c = record { is = tree-entry (table-earlier ok) (2 + n) (e-pair 0 n (suc n)) c ∙ rw (tree-entry (table-earlier ok) n (e-lim 0 r) a, tree-entry (table-earlier ok) (suc n) (e-grant 0 r) b); low = getElem?-lt E (2 + n) _ c }
 
   bound-at : (l : List (Cmd ℕ)) (n : ℕ) → ((i t : ℕ) → List·Memᴰ t (typesOf (nth l i)) → t < length ts) → KeysAt E n (newKeys l) → (Γ : List Entry) (L : List Typing)
       → ((A : Ty) → typeIn Γ x ≡ some A → TreeAt E A (entryOf L x)) → (A : Ty) → typeIn (boundBy (map (mapCmd (tree ts)) l) ++ Γ) x ≡ some A → TreeAt E A (entryOf (boundVars n l ++ L) x)
@@ -271,7 +243,7 @@ new-name (c-assoc a b ∷ l) r m = let z = new-name l r m in (suc (z .0), z .1)
 
 pub local-lt : (ds : List Name) (r : ℕ) → localName ds r ≡ true → r < 2 + length ds
 unfolding localName
-local-lt ds r h = name-lt ds r (and-r _ _ (and-l _ _ h))
+local-lt ds r h = declared-lt ds r (and-r _ _ (and-l _ _ h))
 
 module _ {J : Job} (j : JobOk J) where
   pub start-ok : TableOk (length (J .types)) (2 + length (J .names)) (startOf J .entries)
@@ -283,7 +255,7 @@ module _ {J : Job} (j : JobOk J) where
   pub start-kept : (t : ℕ) → t < length (J .types) → TreeAt (startOf J .entries) (tree (J .types) t) t
   unfolding startOf
   start-kept t h =
-      record { is = tree-append (J .names) (j .types) _ t h; low = omega (arith, length-append (J .types) (keyEntries (length (J .types)) (newKeys (J .cmds)))) }
+      record { is = tree-kept (types-earlier (J .names) (j .types)) _ t h; low = omega (arith, length-append (J .types) (keyEntries (length (J .types)) (newKeys (J .cmds)))) }
 
   value-low : (i : ℕ) (h : HostValue ℕ) → getElem? (J .values) i ≡ some h → h .ty < length (J .types)
   unfolding hostValueOk

@@ -1,27 +1,29 @@
 -- The verdict and the tables by the way a checker goes: reading, the tree of expressions, typing by numbers, the rights.
 use mathlib.Core.Path.{_≡_, refl, sym, ap, _∙_, subst⁻¹}
 use Prim.Native.Nat.{ℕ, _^_, _<_}
-use native.Mathlib.Omega.{arith}
 use mathlib.Core.Bool.{true, false, cond}
 use mathlib.Core.List.{List}
 use mathlib.Core.Option.{Option, none, some}
 use lib.ListN.{length, getD, getElem?}
 use Rattle.order.specs.Bools.{and-l}
+use Rattle.order.specs.OrderLaws.{getElem?-some}
 use Rattle.order.specs.Effects.{Effect, effBelow}
 use Rattle.syntax.specs.Types.{Ty, num, pair, cell, fn, lim, grant, TypeEntry, e-num, e-pair, e-cell, e-fn, e-lim, e-grant, grow, tree}
+use Rattle.syntax.specs.TypeLaws.{tree-entry}
 use Rattle.syntax.specs.Job.{Job, upOf, sourceOf}
 use Rattle.syntax.specs.Reading.{Refusal, Read, refused, read, reading, rightsOk}
 use Rattle.syntax.specs.ReadLaws.{JobOk, read-ok}
 use Rattle.syntax.specs.Tree.{past, root, treeRefusal}
+use Rattle.syntax.specs.Context.{past-lt}
 use Rattle.syntax.specs.Words.{filled, nameWords, typeWords, setWords, valueWords, headWords, slotWords}
 use Rattle.typing.specs.Least.{typed, types, typeOf, firstUntyped}
 use Rattle.typing.specs.Verdict.{Verdict, accept, refuse, unless, within, judged, judge, judgeRead, verdictOf}
 use Rattle.typing.specs.Filled.{typed-ty, typed-eff}
-use Rattle.typing.specs.Exactly.{accepted-is}
+use Rattle.typing.specs.Exactly.{unless-is, accepted-is}
 use Rattle.typing.specs.Tables.{Tables, short, cleared, filledBy, filledRead, keptOn, tablesAfter}
 use Rattle.typing.specs.Numbered.{Ops, opsOf, Sofar, Whole, whole, halted, numbering}
-use Rattle.typing.specs.NumberedTables.{TableOk, set-lt, entry-some, tree-entry}
-use Rattle.typing.specs.NumberedTests.{Agree, agree-self}
+use Rattle.typing.specs.NumberedTables.{TableOk, set-lt, table-earlier}
+use Rattle.typing.specs.NumberedOps.{Agree, agree-self}
 use Rattle.typing.specs.NumberedLaws.{finalOf, wholeOf, numbering-is, inv-final, up-length, cmds-length}
 
 -- the last expression; its entry, its effect
@@ -104,31 +106,22 @@ kind-grow (e-lim q r) f = refl
 kind-grow (e-grant q r) f = refl
 
 pub kind-at : {D N : ℕ} {T : List TypeEntry} → TableOk D N T → (i : ℕ) → i < length T → kindOf (tree T i) ≡ kindIn (getElem? T i)
-kind-at {T = T} ok i h = at (entry-some T i h)
+kind-at {T = T} ok i h = at (getElem?-some T i h)
   where
     at : (x : TypeEntry) × (getElem? T i ≡ some x) → kindOf (tree T i) ≡ kindIn (getElem? T i)
-    at (x, z) = ap kindOf (tree-entry ok i x z) ∙ kind-grow x (tree T) ∙ ap kindIn (sym z)
+    at (x, z) = ap kindOf (tree-entry (table-earlier ok) i x z) ∙ kind-grow x (tree T) ∙ ap kindIn (sym z)
 
 root-last : (J : Job) → root (sourceOf J) ≡ lastOf J
 unfolding root lastOf
 root-last J = ap past (cmds-length J)
 
 last-lt : (J : Job) → JobOk J → lastOf J < length (J .cmds)
-unfolding lastOf past
-last-lt J j = at (length (J .cmds)) (j .some-cmds)
-  where
-    at : (n : ℕ) → 0 < n → past n < n
-    at Prim.Native.Nat.zero h = absurd (omega arith)
-    at (Prim.Native.Nat.suc n) h = omega arith
+unfolding lastOf
+last-lt J j = past-lt (length (J .cmds)) (j .some-cmds)
 
 rights-lt : (J : Job) → JobOk J → J .rights < 2 ^ length (upOf (sourceOf J))
 unfolding rightsOk
 rights-lt J j = subst⁻¹ (λ n. J .rights < 2 ^ n) (up-length J) (set-lt (J .names) (J .rights) (and-l _ _ (j .rights)))
-
-unless-none : (o : Option Refusal) (v : Verdict) {T : Ty} {e : Effect} → unless o v ≡ accept T e → (o ≡ none) × (v ≡ accept T e)
-unfolding unless
-unless-none none v h = (refl, h)
-unless-none (some r) v h = absurd (let z : _≡_ {A = ℕ} 0 1 = cc in omega arith)
 
 -- the job's own operations, which agree with those of the order
 module _ (ops : Job → Ops) (ag : (J : Job) → JobOk J → Agree (upOf (sourceOf J)) (ops J)) where
@@ -178,8 +171,8 @@ module _ (ops : Job → Ops) (ag : (J : Job) → JobOk J → Agree (upOf (source
   accepted-whole : (J : Job) → JobOk J → {T : Ty} {e : Effect} → judge (sourceOf J) ≡ accept T e → numbering (ops J) J ≡ whole (finalOf J)
   unfolding judge wholeOf
   accepted-whole J j h =
-      let a = unless-none (treeRefusal (sourceOf J)) _ h in
-      let b = unless-none (firstUntyped 0 (types (sourceOf J))) _ (a .1) in
+      let a = unless-is (treeRefusal (sourceOf J)) _ h in
+      let b = unless-is (firstUntyped 0 (types (sourceOf J))) _ (a .1) in
       numbering-is j (a .0) (ag J j) ∙ ap (λ o. wholeOf o (finalOf J)) (b .0)
 
   -- and the tables that it leaves are the tables
@@ -200,8 +193,8 @@ module _ (ops : Job → Ops) (ag : (J : Job) → JobOk J → Agree (upOf (source
   accepted-last s J q {T} {e} h =
       let j = read-ok s J q in
       let g : judge (sourceOf J) ≡ accept T e = ap judgeRead (sym q) ∙ h in
-      let a = unless-none (treeRefusal (sourceOf J)) _ g in
-      let b = unless-none (firstUntyped 0 (types (sourceOf J))) _ (a .1) in
+      let a = unless-is (treeRefusal (sourceOf J)) _ g in
+      let b = unless-is (firstUntyped 0 (types (sourceOf J))) _ (a .1) in
       let z : typed T e ≡ typed (tree (finalOf J .entries) (lastEntry J (finalOf J))) (lastEffect J (finalOf J)) = sym (accepted-is (sourceOf J) g .1) ∙ last-typed J j (a .0) (b .0) in
       let v = inv-final j (a .0) (ag J j) (b .0) in
       (ap kindOf (typed-ty z) ∙ kind-at (v .table) (lastEntry J (finalOf J)) (v .each (lastOf J) (last-lt J j) .low), typed-eff z, accepted-whole J j g)

@@ -5,12 +5,13 @@ use Prim.Native.Nat.{ℕ, zero, suc, _<_}
 use native.Mathlib.Omega.{arith}
 use mathlib.Core.Bool.{Bool, true, false}
 use mathlib.Core.List.{List, [], _∷_, _++_, map, flatMap, List·Memᴰ, List·Memᴰ·head, List·Memᴰ·tail, List·Memᴰ·not-nil, List·Memᴰ·cases-cons, List·Memᴰ·append-cases, List·Memᴰ·eq-of-singleton, Memᴰ·append-left, Memᴰ·append-right, Memᴰ·of-map}
-use mathlib.Core.Option.{Option, none, some, Option·none-ne-some, Option·some-injective}
+use mathlib.Core.Option.{Option, none, some}
 use mathlib.Core.Logic.{_≢_, _⊎_, inl, inr}
 use lib.ListN.{length, getElem?}
 use borrow.Author.Tests.{eqb-true}
 use lib.Dec.{eqb}
-use Rattle.order.specs.Bools.{_and_, _or_, and-r, or-cases}
+use Rattle.order.specs.Bools.{_or_, and-r, or-cases}
+use Rattle.order.specs.OrderLaws.{getElem?-mem}
 use Rattle.order.specs.Sets.{bit, membersFrom, members, all-of}
 use Rattle.order.specs.SetLaws.{bit-mem, all-of→}
 use Rattle.order.specs.Effects.{Effect, pure, names, touch, join, drop, raise, maximal, reduced, reduce, EffBelow}
@@ -18,7 +19,7 @@ use Rattle.order.specs.EffectLaws.{name-mem, mem-name, bit-name, pure-name, tou
 use Rattle.syntax.specs.Types.{Ty, num, pair, cell, fn, lim, grant, keyOf, rekey, namesIn, TypeEntry, e-num, e-pair, e-cell, e-fn, e-lim, e-grant, grow, treeIn, tree}
 use Rattle.syntax.specs.Commands.{Cmd, c-num, c-top, c-var, c-pair, c-part, c-fn, c-app, c-new, c-asg, c-read, c-sum, c-test, c-lim, c-grant, c-newkey, c-assoc, mapCmd}
 use Rattle.syntax.specs.Operands.{nth, plain, inner, typesOf}
-use Rattle.syntax.specs.Job.{Name, HostValue, Job, Src, upOf, uppers, sourceOf}
+use Rattle.syntax.specs.Job.{Name, Job, Src, upOf, uppers, sourceOf}
 use Rattle.syntax.specs.Reading.{hostName, openName, partsOk, setOk, read, reading}
 use Rattle.syntax.specs.ReadLaws.{TypesOk, JobOk, read-ok}
 use Rattle.syntax.specs.ReadFormed.{read-formed, read-well, entry-parts, host-open, zero-open, typesOf-map, nth-map}
@@ -29,9 +30,9 @@ use Rattle.syntax.specs.Scope.{VarIn, v-here, v-var, varin-cases, varin-mem, na
 use Rattle.syntax.specs.Context.{Ctx, x-root, x-plain, x-inner, plain-lt, inner-lt, ctx-le, root-lt, ctx-is}
 use Rattle.typing.specs.Subtype.{Sub}
 use Rattle.typing.specs.SubtypeLaws.{ReducedTy, r-num, r-pair, r-cell, r-fn, r-lim, r-grant, sub-antisym}
-use Rattle.typing.specs.Least.{Typed, typed, pick, varType, ofVar, keysAt, typeAt, get, typesTo, typeOf}
+use Rattle.typing.specs.Least.{Typed, typed, pick, varType, keysAt, typeAt, get, typesTo, typeOf}
 use Rattle.typing.specs.Scoped.{lookup-var, ctx-type, ctx-var}
-use Rattle.typing.specs.Filled.{seen, typeOf-is, typed-ty, typed-eff, by-with, by-require, by-num, by-pair, by-cell, by-fn, by-lim, by-grant}
+use Rattle.typing.specs.Filled.{seen, typeOf-is, typed-ty, typed-eff, of-var, by-with, by-require, by-num, by-pair, by-cell, by-fn, by-lim, by-grant}
 use Rattle.typing.specs.Exactly.{accepted-is}
 use Rattle.typing.specs.Verdict.{accept, judge, judgeRead, verdictOf}
 use Rattle.typing.specs.Demand2.{JobHas, Accepted, accepts-typed}
@@ -243,12 +244,12 @@ more-ty f (g-grant q r) = g-grant (more-known f q) (more-known f r)
 -- Declared types
 
 -- their sets are reduced, as they are read
-tree-reduced : (ds : List Name) {ts : List TypeEntry} → TypesOk ds ts → (f i : ℕ) → ReducedTy (uppers ds) (treeIn f ts i)
+tree-reduced : (ds : List Name) {ts : List TypeEntry} → TypesOk ds ts → (f i : ℕ) → ReducedTy (uppers ds) (treeIn f (getElem? ts) i)
 unfolding treeIn grow partsOk setOk
 tree-reduced ds b zero i = r-num
 tree-reduced ds {ts} b (suc f) i = at (getElem? ts i) (λ e z. entry-parts ds b i e z) (λ a. tree-reduced ds b f a)
   where
-    at : (o : Option TypeEntry) → ((e : TypeEntry) → o ≡ some e → partsOk ds i e ≡ true) → ((a : ℕ) → ReducedTy (uppers ds) (treeIn f ts a)) → ReducedTy (uppers ds) (grow o (treeIn f ts))
+    at : (o : Option TypeEntry) → ((e : TypeEntry) → o ≡ some e → partsOk ds i e ≡ true) → ((a : ℕ) → ReducedTy (uppers ds) (treeIn f (getElem? ts) a)) → ReducedTy (uppers ds) (grow o (treeIn f (getElem? ts)))
     at none p g = r-num
     at (some (e-num q)) p g = r-num
     at (some (e-pair q a b)) p g = r-pair (g a) (g b)
@@ -276,11 +277,6 @@ unfolding flatMap
 mem-flat {n = n} {l = A ∷ l} (List·Memᴰ·head e) m = Memᴰ·append-left (flatMap namesIn l) (subst (λ B. List·Memᴰ n (namesIn B)) e m)
 mem-flat {l = A ∷ l} (List·Memᴰ·tail w) m = Memᴰ·append-right (namesIn A) (mem-flat w m)
 
-value-at : (l : List (HostValue Ty)) (i : ℕ) (h : HostValue Ty) → getElem? l i ≡ some h → List·Memᴰ h l
-value-at [] i h e = absurd (Option·none-ne-some h e)
-value-at (x ∷ l) zero h e = List·Memᴰ·head (sym (Option·some-injective x h e))
-value-at (x ∷ l) (suc i) h e = List·Memᴰ·tail (value-at l i h e)
-
 host-in : {S : Src} {l : List ℕ} {T : Ty} → HostTyped (S .names) T → TyIn S l T
 host-in (ht-cell o) = g-cell (k-open o) (g-num known-zero)
 host-in {S} (ht-lim {r = r} o h) = g-lim (k-open o) (k-open (host-open (S .names) r h))
@@ -292,10 +288,6 @@ unfolding binds typesOf namesOf varsOf
 bind-in Γ (c-fn y U b) f v-here = f U (List·Memᴰ·head refl)
 bind-in Γ (c-newkey y r a b U) f v-here = g-pair known-zero (g-lim known-zero (k-local (List·Memᴰ·head refl))) (g-grant known-zero (k-local (List·Memᴰ·head refl)))
 bind-in Γ (c-newkey y r a b U) f (v-var v) = absurd (List·Memᴰ·not-nil (varin-mem v))
-
-of-var : (o : Option Ty) {A T : Ty} {s : Effect} → o ≡ some A → ofVar o ≡ typed T s → typed A pure ≡ typed T s
-unfolding ofVar
-of-var o {A} e h = rw e at h
 
 -- Every expression, in its context
 
@@ -316,7 +308,7 @@ module _ (S : Src) (ok : Formed S) (wr : WellRead S) (tree : treeRefusal S ≡ n
 
   -- the types of variables
   var-in : {e : ℕ} {Γ : List Entry} → Ctx S e Γ → {x : ℕ} {T : Ty} → VarIn x T Γ → TyIn S (namesOf Γ) T
-  var-in x-root {x} {T} v = let z = host-var S v in subst (λ A. TyIn S (namesOf (hostCtx S)) A) (z .2) (host-in (wr .value (z .0) (value-at (S .values) x (z .0) (z .1))))
+  var-in x-root {x} {T} v = let z = host-var S v in subst (λ A. TyIn S (namesOf (hostCtx S)) A) (z .2) (host-in (wr .value (z .0) (getElem?-mem (S .values) x (z .0) (z .1))))
   var-in (x-plain m d) v = var-in d v
   var-in (x-inner {p = p} {Γ = Γ} m d) {x} {T} v = at (varin-cases (binds (nth (S .cmds) p)) v) (λ w. var-in d w)
     where

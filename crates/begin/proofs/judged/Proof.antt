@@ -92,7 +92,7 @@ same-length-12 c = search needs
 
 -- src/lib.rt:120:1
 returns-2 : tie.Need-returns-2
-returns-2 c = λ J kn kt ks kv kh kp l. judged-refused _ _ _ _ _ _ _ _ _ _ l (c .before .before .before .before .before .before .before .before .before .before .before .before .before .before .before .before .before .before .before .before .before .before .before .before .tree .ensures .0) (c .before .before .before .before .before .before .before .before .before .before .before .before .before .before .before .before .before .before .before .before .before .before .a .given .1) (c .before .before .before .before .before .before .before .before .before .before .before .before .before .clear-all .ensures)
+returns-2 c = λ J kn kt ks kv kh kp l. judged-refused _ _ l (c .before .before .before .before .before .before .before .before .before .before .before .before .before .before .before .before .before .before .before .before .before .before .before .before .tree .ensures .0) _ _ _ _ _ _ _ _ (c .before .before .before .before .before .before .before .before .before .before .before .before .before .before .before .before .before .before .before .before .before .before .a .given .1) (c .before .before .before .before .before .before .before .before .before .before .before .before .before .clear-all .ensures)
 
 pub judged-spec : {M : Type 1} → statement M
 judged-spec =

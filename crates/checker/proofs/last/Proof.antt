@@ -1,5 +1,6 @@
 use borrow.Author.Needs.{needs}
-use Rattle.checker.proofs.Laws.{past-none, past-some}
+use Rattle.syntax.specs.Context.{past-minus}
+use Rattle.checker.proofs.Laws.{past-none}
 use Rattle.checker.proofs.last.Statement.{statement}
 use Rattle.checker.proofs.last.Tie as tie
 
@@ -10,7 +11,7 @@ sub-result : tie.Need-sub-result
 sub-result c = search needs
 
 returns-2 : tie.Need-returns-2
-returns-2 c = past-some _ (c .if1 .left)
+returns-2 c = past-minus _
 
 pub last-spec : {M : Type 1} → statement M
 last-spec = tie.close (tie.spec returns sub-result returns-2)

@@ -35,7 +35,7 @@ enum-told c = search needs
 
 -- src/lib.rt:71:1
 returns : tie.Need-returns
-returns c = λ T s f d. finished-hand T s (c .before .before .before .before .before .before .before .before .before .before .args .o) _ _ _ _ _ _ f (c .before .before .before .before .before .control .given .1) (c .before .before .before .kind-sort .ensures) (c .before .before .kind-number .ensures) (c .before .done .ensures) (c .both .ensures)
+returns c = λ T s f d. finished-hand T s (c .before .before .before .before .before .before .before .before .before .before .args .o) _ _ _ _ _ _ f (c .before .before .before .before .before .control .given .1) (c .before .before .before .kind-sort .ensures _) (c .before .before .kind-number .ensures) (c .before .done .ensures) (c .both .ensures)
 
 -- src/lib.rt:71:1
 returns-2 : tie.Need-returns-2

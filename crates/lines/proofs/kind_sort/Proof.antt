@@ -5,59 +5,47 @@ use Rattle.lines.proofs.kind_sort.Tie as tie
 use Rattle.lines.proofs.kind_sort.Reads as reads
 use Rattle.lines.proofs.kind_sort.Lts as lts
 
--- src/lib.rt:48:28
 enum-told : tie.Need-enum-told
 enum-told c = search needs
 
--- src/lib.rt:49:26
 enum-told-2 : tie.Need-enum-told-2
 enum-told-2 c = search needs
 
--- src/lib.rt:50:26
 enum-told-3 : tie.Need-enum-told-3
 enum-told-3 c = search needs
 
--- src/lib.rt:51:30
 enum-told-4 : tie.Need-enum-told-4
 enum-told-4 c = search needs
 
--- src/lib.rt:52:27
 enum-told-5 : tie.Need-enum-told-5
 enum-told-5 c = search needs
 
--- src/lib.rt:53:27
 enum-told-6 : tie.Need-enum-told-6
 enum-told-6 c = search needs
 
--- src/lib.rt:44:1
 returns : tie.Need-returns
 unfolding kindSort
-returns c = search needs
+returns c = λ n. simp (c .enum-told .given .1)
 
--- src/lib.rt:44:1
 returns-2 : tie.Need-returns-2
 unfolding kindSort
-returns-2 c = search needs
+returns-2 c = λ n. simp (c .enum-told2 .given .1)
 
--- src/lib.rt:44:1
 returns-3 : tie.Need-returns-3
 unfolding kindSort
-returns-3 c = search needs
+returns-3 c = λ n. simp (c .enum-told3 .given .1)
 
--- src/lib.rt:44:1
 returns-4 : tie.Need-returns-4
 unfolding kindSort
-returns-4 c = search needs
+returns-4 c = λ n. simp (c .enum-told4 .given .1)
 
--- src/lib.rt:44:1
 returns-5 : tie.Need-returns-5
 unfolding kindSort
-returns-5 c = search needs
+returns-5 c = λ n. simp (c .enum-told5 .given .1)
 
--- src/lib.rt:44:1
 returns-6 : tie.Need-returns-6
 unfolding kindSort
-returns-6 c = search needs
+returns-6 c = λ n. simp (c .enum-told6 .given .1)
 
 pub kind-sort-spec : {M : Type 1} → statement M
 kind-sort-spec =

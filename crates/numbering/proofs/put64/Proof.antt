@@ -1,4 +1,5 @@
-use Rattle.numbering.proofs.Laws.{set-past}
+use mathlib.Core.Path.{sym}
+use lib.Seq.{set-out}
 use borrow.Author.Needs.{needs}
 use Rattle.numbering.proofs.put64.Statement.{statement}
 use Rattle.numbering.proofs.put64.Tie as tie
@@ -16,7 +17,7 @@ returns : tie.Need-returns
 returns c = search needs
 
 returns-2 : tie.Need-returns-2
-returns-2 c = set-past _ _ _ (c .if1 .left)
+returns-2 c = sym (set-out _ _ _ (c .if1 .left))
 
 pub put64-spec : {M : Type 1} → statement M
 put64-spec = tie.close (tie.spec mul-s slice-write-s same-length returns returns-2)

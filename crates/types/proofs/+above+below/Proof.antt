@@ -2,6 +2,7 @@ use native.Mathlib.Omega.{arith}
 use denote.Ref.{now}
 use borrow.Author.Needs.{needs}
 use Rattle.names.specs.Ancestors.{belowBy, effBelowBy}
+use Rattle.types.specs.Known.{comparedIn, pick}
 use Rattle.types.proofs.Words.{sub-none, sub-level, super-none, super-level, turned, heads-differ, numbers, keys, cells, pairs-first, pairs, functions-first, functions-second, functions}
 use Prim.Native.Nat.{ℕ, _<_}
 use borrow.Fn.Kinds.{In}
@@ -13,6 +14,8 @@ use Rattle.types.proofs.below.Reads as below
 use Rattle.types.proofs.below.Kinds as below-kinds
 use Rattle.types.proofs.+above+below.Lts-below as below-lts
 use Rattle.names.proofs.eff_below.Reads as eff-below-reads
+use Rattle.types.proofs.branches.Reads as branches-reads
+use Rattle.types.proofs.compare_deep.Reads as compare-deep-reads
 use Rattle.types.proofs.first.Reads as first-reads
 use Rattle.types.proofs.head_below.Reads as head-below-reads
 use Rattle.types.proofs.kind.Reads as kind-reads
@@ -41,7 +44,7 @@ below-at t = and 1 below-kinds.ps (is 1 below-kinds.ps μ-below t) below.Pre
 abbrev below-below : ℕ → In 1 below-kinds.ps
 below-below t = and 1 below-kinds.ps (falls 1 below-kinds.ps _<_ μ-below t) below.Pre
 
--- src/lib.rt:201:9
+-- src/lib.rt:389:9
 above-returns : (t : ℕ) → above-lts.Need-returns (
   word-reads.Asked,
   word-reads.Learnt,
@@ -49,6 +52,10 @@ above-returns : (t : ℕ) → above-lts.Need-returns (
   head-below-reads.Learnt,
   kind-reads.Asked,
   kind-reads.Learnt,
+  branches-reads.Asked,
+  branches-reads.Learnt,
+  compare-deep-reads.Asked,
+  compare-deep-reads.Learnt,
   first-reads.Asked,
   first-reads.Learnt,
   above-below t,
@@ -66,7 +73,7 @@ above-returns : (t : ℕ) → above-lts.Need-returns (
 ) (above-at t) above.Post
 above-returns t c = super-none (belowBy (now (c .before .before .before .args .anc))) (effBelowBy (now (c .before .before .before .args .anc))) (now (c .before .before .before .args .types)) (now (c .before .before .before .args .sets)) (c .before .before .before .args .a) (c .before .before .before .args .b) (c .before .before .before .args .d) (c .if1 .taken)
 
--- src/lib.rt:203:13
+-- src/lib.rt:391:13
 above-sub-e : (t : ℕ) → above-lts.Need-sub-e (
   word-reads.Asked,
   word-reads.Learnt,
@@ -74,6 +81,10 @@ above-sub-e : (t : ℕ) → above-lts.Need-sub-e (
   head-below-reads.Learnt,
   kind-reads.Asked,
   kind-reads.Learnt,
+  branches-reads.Asked,
+  branches-reads.Learnt,
+  compare-deep-reads.Asked,
+  compare-deep-reads.Learnt,
   first-reads.Asked,
   first-reads.Learnt,
   above-below t,
@@ -91,7 +102,7 @@ above-sub-e : (t : ℕ) → above-lts.Need-sub-e (
 ) (above-at t) above.Post
 above-sub-e t c = search needs
 
--- src/lib.rt:204:9
+-- src/lib.rt:392:9
 above-word-requires : (t : ℕ) → above-lts.Need-word-requires (
   word-reads.Asked,
   word-reads.Learnt,
@@ -99,6 +110,10 @@ above-word-requires : (t : ℕ) → above-lts.Need-word-requires (
   head-below-reads.Learnt,
   kind-reads.Asked,
   kind-reads.Learnt,
+  branches-reads.Asked,
+  branches-reads.Learnt,
+  compare-deep-reads.Asked,
+  compare-deep-reads.Learnt,
   first-reads.Asked,
   first-reads.Learnt,
   above-below t,
@@ -116,7 +131,7 @@ above-word-requires : (t : ℕ) → above-lts.Need-word-requires (
 ) (above-at t) above.Post
 above-word-requires t c κs = search needs
 
--- src/lib.rt:205:9
+-- src/lib.rt:393:9
 above-word-requires-2 : (t : ℕ) → above-lts.Need-word-requires-2 (
   word-reads.Asked,
   word-reads.Learnt,
@@ -124,6 +139,10 @@ above-word-requires-2 : (t : ℕ) → above-lts.Need-word-requires-2 (
   head-below-reads.Learnt,
   kind-reads.Asked,
   kind-reads.Learnt,
+  branches-reads.Asked,
+  branches-reads.Learnt,
+  compare-deep-reads.Asked,
+  compare-deep-reads.Learnt,
   first-reads.Asked,
   first-reads.Learnt,
   above-below t,
@@ -141,7 +160,7 @@ above-word-requires-2 : (t : ℕ) → above-lts.Need-word-requires-2 (
 ) (above-at t) above.Post
 above-word-requires-2 t c κs = search needs
 
--- src/lib.rt:206:8
+-- src/lib.rt:394:8
 above-head-below-requires : (t : ℕ) → above-lts.Need-head-below-requires (
   word-reads.Asked,
   word-reads.Learnt,
@@ -149,6 +168,10 @@ above-head-below-requires : (t : ℕ) → above-lts.Need-head-below-requires (
   head-below-reads.Learnt,
   kind-reads.Asked,
   kind-reads.Learnt,
+  branches-reads.Asked,
+  branches-reads.Learnt,
+  compare-deep-reads.Asked,
+  compare-deep-reads.Learnt,
   first-reads.Asked,
   first-reads.Learnt,
   above-below t,
@@ -166,7 +189,7 @@ above-head-below-requires : (t : ℕ) → above-lts.Need-head-below-requires (
 ) (above-at t) above.Post
 above-head-below-requires t c κs = search needs
 
--- src/lib.rt:207:9
+-- src/lib.rt:395:9
 above-returns-2 : (t : ℕ) → above-lts.Need-returns-2 (
   word-reads.Asked,
   word-reads.Learnt,
@@ -174,6 +197,10 @@ above-returns-2 : (t : ℕ) → above-lts.Need-returns-2 (
   head-below-reads.Learnt,
   kind-reads.Asked,
   kind-reads.Learnt,
+  branches-reads.Asked,
+  branches-reads.Learnt,
+  compare-deep-reads.Asked,
+  compare-deep-reads.Learnt,
   first-reads.Asked,
   first-reads.Learnt,
   above-below t,
@@ -191,7 +218,7 @@ above-returns-2 : (t : ℕ) → above-lts.Need-returns-2 (
 ) (above-at t) above.Post
 above-returns-2 t c = heads-differ (super-level (belowBy (now (c .before .before .before .before .before .before .before .args .anc))) (effBelowBy (now (c .before .before .before .before .before .before .before .args .anc))) (now (c .before .before .before .before .before .before .before .args .types)) (now (c .before .before .before .before .before .before .before .args .sets)) (c .before .before .before .before .before .before .before .args .a) (c .before .before .before .before .before .before .before .args .b) (c .before .before .before .before .before .before .before .args .d) (c .before .before .before .before .if1 .left) (c .before .before .before .word .ensures) (c .before .before .word2 .ensures)) (turned (belowBy (now (c .before .before .before .before .before .before .before .args .anc))) (c .before .before .before .word .result) (c .before .before .word2 .result) (c .before .head-below .ensures)) (c .if2 .left)
 
--- src/lib.rt:209:11
+-- src/lib.rt:397:11
 above-kind-requires : (t : ℕ) → above-lts.Need-kind-requires (
   word-reads.Asked,
   word-reads.Learnt,
@@ -199,6 +226,10 @@ above-kind-requires : (t : ℕ) → above-lts.Need-kind-requires (
   head-below-reads.Learnt,
   kind-reads.Asked,
   kind-reads.Learnt,
+  branches-reads.Asked,
+  branches-reads.Learnt,
+  compare-deep-reads.Asked,
+  compare-deep-reads.Learnt,
   first-reads.Asked,
   first-reads.Learnt,
   above-below t,
@@ -216,7 +247,7 @@ above-kind-requires : (t : ℕ) → above-lts.Need-kind-requires (
 ) (above-at t) above.Post
 above-kind-requires t c κs = search needs
 
--- src/lib.rt:210:17
+-- src/lib.rt:398:17
 above-returns-3 : (t : ℕ) → above-lts.Need-returns-3 (
   word-reads.Asked,
   word-reads.Learnt,
@@ -224,6 +255,10 @@ above-returns-3 : (t : ℕ) → above-lts.Need-returns-3 (
   head-below-reads.Learnt,
   kind-reads.Asked,
   kind-reads.Learnt,
+  branches-reads.Asked,
+  branches-reads.Learnt,
+  compare-deep-reads.Asked,
+  compare-deep-reads.Learnt,
   first-reads.Asked,
   first-reads.Learnt,
   above-below t,
@@ -241,7 +276,95 @@ above-returns-3 : (t : ℕ) → above-lts.Need-returns-3 (
 ) (above-at t) above.Post
 above-returns-3 t c = numbers (super-level (belowBy (now (c .before .before .before .before .before .before .before .before .before .args .anc))) (effBelowBy (now (c .before .before .before .before .before .before .before .before .before .args .anc))) (now (c .before .before .before .before .before .before .before .before .before .args .types)) (now (c .before .before .before .before .before .before .before .before .before .args .sets)) (c .before .before .before .before .before .before .before .before .before .args .a) (c .before .before .before .before .before .before .before .before .before .args .b) (c .before .before .before .before .before .before .before .before .before .args .d) (c .before .before .before .before .before .before .if1 .left) (c .before .before .before .before .before .word .ensures) (c .before .before .before .before .word2 .ensures)) (turned (belowBy (now (c .before .before .before .before .before .before .before .before .before .args .anc))) (c .before .before .before .before .before .word .result) (c .before .before .before .before .word2 .result) (c .before .before .before .head-below .ensures)) (c .before .before .if2 .taken) (c .before .kind .ensures) (c .match .keys1)
 
--- src/lib.rt:212:43
+-- src/lib.rt:400:16
+above-branches-requires : (t : ℕ) → above-lts.Need-branches-requires (
+  word-reads.Asked,
+  word-reads.Learnt,
+  head-below-reads.Asked,
+  head-below-reads.Learnt,
+  kind-reads.Asked,
+  kind-reads.Learnt,
+  branches-reads.Asked,
+  branches-reads.Learnt,
+  compare-deep-reads.Asked,
+  compare-deep-reads.Learnt,
+  first-reads.Asked,
+  first-reads.Learnt,
+  above-below t,
+  above.Post,
+  second-reads.Asked,
+  second-reads.Learnt,
+  same-reads.Asked,
+  same-reads.Learnt,
+  below-below t,
+  below.Post,
+  eff-below-reads.Asked,
+  eff-below-reads.Learnt,
+  same-owner-reads.Asked,
+  same-owner-reads.Learnt,
+) (above-at t) above.Post
+above-branches-requires t c κs = search needs
+
+-- src/lib.rt:401:17
+above-compare-deep-requires : (t : ℕ) → above-lts.Need-compare-deep-requires (
+  word-reads.Asked,
+  word-reads.Learnt,
+  head-below-reads.Asked,
+  head-below-reads.Learnt,
+  kind-reads.Asked,
+  kind-reads.Learnt,
+  branches-reads.Asked,
+  branches-reads.Learnt,
+  compare-deep-reads.Asked,
+  compare-deep-reads.Learnt,
+  first-reads.Asked,
+  first-reads.Learnt,
+  above-below t,
+  above.Post,
+  second-reads.Asked,
+  second-reads.Learnt,
+  same-reads.Asked,
+  same-reads.Learnt,
+  below-below t,
+  below.Post,
+  eff-below-reads.Asked,
+  eff-below-reads.Learnt,
+  same-owner-reads.Asked,
+  same-owner-reads.Learnt,
+) (above-at t) above.Post
+above-compare-deep-requires t c κs = search needs
+
+-- src/lib.rt:401:17
+above-returns-4 : (t : ℕ) → above-lts.Need-returns-4 (
+  word-reads.Asked,
+  word-reads.Learnt,
+  head-below-reads.Asked,
+  head-below-reads.Learnt,
+  kind-reads.Asked,
+  kind-reads.Learnt,
+  branches-reads.Asked,
+  branches-reads.Learnt,
+  compare-deep-reads.Asked,
+  compare-deep-reads.Learnt,
+  first-reads.Asked,
+  first-reads.Learnt,
+  above-below t,
+  above.Post,
+  second-reads.Asked,
+  second-reads.Learnt,
+  same-reads.Asked,
+  same-reads.Learnt,
+  below-below t,
+  below.Post,
+  eff-below-reads.Asked,
+  eff-below-reads.Learnt,
+  same-owner-reads.Asked,
+  same-owner-reads.Learnt,
+) (above-at t) above.Post
+unfolding comparedIn pick
+above-returns-4 t c = c .compare-deep .ensures
+
+-- src/lib.rt:403:43
 above-first-requires : (t : ℕ) → above-lts.Need-first-requires (
   word-reads.Asked,
   word-reads.Learnt,
@@ -249,6 +372,10 @@ above-first-requires : (t : ℕ) → above-lts.Need-first-requires (
   head-below-reads.Learnt,
   kind-reads.Asked,
   kind-reads.Learnt,
+  branches-reads.Asked,
+  branches-reads.Learnt,
+  compare-deep-reads.Asked,
+  compare-deep-reads.Learnt,
   first-reads.Asked,
   first-reads.Learnt,
   above-below t,
@@ -266,7 +393,7 @@ above-first-requires : (t : ℕ) → above-lts.Need-first-requires (
 ) (above-at t) above.Post
 above-first-requires t c κs = search needs
 
--- src/lib.rt:212:53
+-- src/lib.rt:403:53
 above-first-requires-2 : (t : ℕ) → above-lts.Need-first-requires-2 (
   word-reads.Asked,
   word-reads.Learnt,
@@ -274,6 +401,10 @@ above-first-requires-2 : (t : ℕ) → above-lts.Need-first-requires-2 (
   head-below-reads.Learnt,
   kind-reads.Asked,
   kind-reads.Learnt,
+  branches-reads.Asked,
+  branches-reads.Learnt,
+  compare-deep-reads.Asked,
+  compare-deep-reads.Learnt,
   first-reads.Asked,
   first-reads.Learnt,
   above-below t,
@@ -291,7 +422,7 @@ above-first-requires-2 : (t : ℕ) → above-lts.Need-first-requires-2 (
 ) (above-at t) above.Post
 above-first-requires-2 t c κs = search needs
 
--- src/lib.rt:212:16
+-- src/lib.rt:403:16
 above-above-requires : (t : ℕ) → above-lts.Need-above-requires (
   word-reads.Asked,
   word-reads.Learnt,
@@ -299,6 +430,10 @@ above-above-requires : (t : ℕ) → above-lts.Need-above-requires (
   head-below-reads.Learnt,
   kind-reads.Asked,
   kind-reads.Learnt,
+  branches-reads.Asked,
+  branches-reads.Learnt,
+  compare-deep-reads.Asked,
+  compare-deep-reads.Learnt,
   first-reads.Asked,
   first-reads.Learnt,
   above-below t,
@@ -316,7 +451,7 @@ above-above-requires : (t : ℕ) → above-lts.Need-above-requires (
 ) (above-at t) above.Post
 above-above-requires t c κs = (omega arith, tt)
 
--- src/lib.rt:213:51
+-- src/lib.rt:404:51
 above-second-requires : (t : ℕ) → above-lts.Need-second-requires (
   word-reads.Asked,
   word-reads.Learnt,
@@ -324,6 +459,10 @@ above-second-requires : (t : ℕ) → above-lts.Need-second-requires (
   head-below-reads.Learnt,
   kind-reads.Asked,
   kind-reads.Learnt,
+  branches-reads.Asked,
+  branches-reads.Learnt,
+  compare-deep-reads.Asked,
+  compare-deep-reads.Learnt,
   first-reads.Asked,
   first-reads.Learnt,
   above-below t,
@@ -341,7 +480,7 @@ above-second-requires : (t : ℕ) → above-lts.Need-second-requires (
 ) (above-at t) above.Post
 above-second-requires t c κs = search needs
 
--- src/lib.rt:213:62
+-- src/lib.rt:404:62
 above-second-requires-2 : (t : ℕ) → above-lts.Need-second-requires-2 (
   word-reads.Asked,
   word-reads.Learnt,
@@ -349,6 +488,10 @@ above-second-requires-2 : (t : ℕ) → above-lts.Need-second-requires-2 (
   head-below-reads.Learnt,
   kind-reads.Asked,
   kind-reads.Learnt,
+  branches-reads.Asked,
+  branches-reads.Learnt,
+  compare-deep-reads.Asked,
+  compare-deep-reads.Learnt,
   first-reads.Asked,
   first-reads.Learnt,
   above-below t,
@@ -366,7 +509,7 @@ above-second-requires-2 : (t : ℕ) → above-lts.Need-second-requires-2 (
 ) (above-at t) above.Post
 above-second-requires-2 t c κs = search needs
 
--- src/lib.rt:213:17
+-- src/lib.rt:404:17
 above-above-requires-2 : (t : ℕ) → above-lts.Need-above-requires-2 (
   word-reads.Asked,
   word-reads.Learnt,
@@ -374,6 +517,10 @@ above-above-requires-2 : (t : ℕ) → above-lts.Need-above-requires-2 (
   head-below-reads.Learnt,
   kind-reads.Asked,
   kind-reads.Learnt,
+  branches-reads.Asked,
+  branches-reads.Learnt,
+  compare-deep-reads.Asked,
+  compare-deep-reads.Learnt,
   first-reads.Asked,
   first-reads.Learnt,
   above-below t,
@@ -391,32 +538,7 @@ above-above-requires-2 : (t : ℕ) → above-lts.Need-above-requires-2 (
 ) (above-at t) above.Post
 above-above-requires-2 t c κs = (omega arith, tt)
 
--- src/lib.rt:213:17
-above-returns-4 : (t : ℕ) → above-lts.Need-returns-4 (
-  word-reads.Asked,
-  word-reads.Learnt,
-  head-below-reads.Asked,
-  head-below-reads.Learnt,
-  kind-reads.Asked,
-  kind-reads.Learnt,
-  first-reads.Asked,
-  first-reads.Learnt,
-  above-below t,
-  above.Post,
-  second-reads.Asked,
-  second-reads.Learnt,
-  same-reads.Asked,
-  same-reads.Learnt,
-  below-below t,
-  below.Post,
-  eff-below-reads.Asked,
-  eff-below-reads.Learnt,
-  same-owner-reads.Asked,
-  same-owner-reads.Learnt,
-) (above-at t) above.Post
-above-returns-4 t c = pairs (super-level (belowBy (now (c .before .before .before .before .before .before .before .before .before .before .before .before .before .before .before .before .args .anc))) (effBelowBy (now (c .before .before .before .before .before .before .before .before .before .before .before .before .before .before .before .before .args .anc))) (now (c .before .before .before .before .before .before .before .before .before .before .before .before .before .before .before .before .args .types)) (now (c .before .before .before .before .before .before .before .before .before .before .before .before .before .before .before .before .args .sets)) (c .before .before .before .before .before .before .before .before .before .before .before .before .before .before .before .before .args .a) (c .before .before .before .before .before .before .before .before .before .before .before .before .before .before .before .before .args .b) (c .before .before .before .before .before .before .before .before .before .before .before .before .before .before .before .before .args .d) (c .before .before .before .before .before .before .before .before .before .before .before .before .before .if1 .left) (c .before .before .before .before .before .before .before .before .before .before .before .before .word .ensures) (c .before .before .before .before .before .before .before .before .before .before .before .word2 .ensures)) (turned (belowBy (now (c .before .before .before .before .before .before .before .before .before .before .before .before .before .before .before .before .args .anc))) (c .before .before .before .before .before .before .before .before .before .before .before .before .word .result) (c .before .before .before .before .before .before .before .before .before .before .before .word2 .result) (c .before .before .before .before .before .before .before .before .before .before .head-below .ensures)) (c .before .before .before .before .before .before .before .before .before .if2 .taken) (c .before .before .before .before .before .before .before .before .kind .ensures) (c .before .before .before .before .before .before .first .ensures) (c .before .before .before .before .before .first2 .ensures) (c .before .before .second .ensures) (c .before .second2 .ensures) (c .before .before .before .before .before .before .before .match .keys2) (c .before .before .before .before .above .ensures) (c .before .before .before .if3 .taken) (c .above2 .ensures)
-
--- src/lib.rt:215:13
+-- src/lib.rt:404:17
 above-returns-5 : (t : ℕ) → above-lts.Need-returns-5 (
   word-reads.Asked,
   word-reads.Learnt,
@@ -424,6 +546,10 @@ above-returns-5 : (t : ℕ) → above-lts.Need-returns-5 (
   head-below-reads.Learnt,
   kind-reads.Asked,
   kind-reads.Learnt,
+  branches-reads.Asked,
+  branches-reads.Learnt,
+  compare-deep-reads.Asked,
+  compare-deep-reads.Learnt,
   first-reads.Asked,
   first-reads.Learnt,
   above-below t,
@@ -439,9 +565,38 @@ above-returns-5 : (t : ℕ) → above-lts.Need-returns-5 (
   same-owner-reads.Asked,
   same-owner-reads.Learnt,
 ) (above-at t) above.Post
-above-returns-5 t c = pairs-first (super-level (belowBy (now (c .before .before .before .before .before .before .before .before .before .before .before .before .before .args .anc))) (effBelowBy (now (c .before .before .before .before .before .before .before .before .before .before .before .before .before .args .anc))) (now (c .before .before .before .before .before .before .before .before .before .before .before .before .before .args .types)) (now (c .before .before .before .before .before .before .before .before .before .before .before .before .before .args .sets)) (c .before .before .before .before .before .before .before .before .before .before .before .before .before .args .a) (c .before .before .before .before .before .before .before .before .before .before .before .before .before .args .b) (c .before .before .before .before .before .before .before .before .before .before .before .before .before .args .d) (c .before .before .before .before .before .before .before .before .before .before .if1 .left) (c .before .before .before .before .before .before .before .before .before .word .ensures) (c .before .before .before .before .before .before .before .before .word2 .ensures)) (turned (belowBy (now (c .before .before .before .before .before .before .before .before .before .before .before .before .before .args .anc))) (c .before .before .before .before .before .before .before .before .before .word .result) (c .before .before .before .before .before .before .before .before .word2 .result) (c .before .before .before .before .before .before .before .head-below .ensures)) (c .before .before .before .before .before .before .if2 .taken) (c .before .before .before .before .before .kind .ensures) (c .before .before .before .first .ensures) (c .before .before .first2 .ensures) (c .before .before .before .before .match .keys2) (c .before .above .ensures) (c .if3 .left)
+above-returns-5 t c = pairs (super-level (belowBy (now (c .before .before .before .before .before .before .before .before .before .before .before .before .before .before .before .before .before .before .args .anc))) (effBelowBy (now (c .before .before .before .before .before .before .before .before .before .before .before .before .before .before .before .before .before .before .args .anc))) (now (c .before .before .before .before .before .before .before .before .before .before .before .before .before .before .before .before .before .before .args .types)) (now (c .before .before .before .before .before .before .before .before .before .before .before .before .before .before .before .before .before .before .args .sets)) (c .before .before .before .before .before .before .before .before .before .before .before .before .before .before .before .before .before .before .args .a) (c .before .before .before .before .before .before .before .before .before .before .before .before .before .before .before .before .before .before .args .b) (c .before .before .before .before .before .before .before .before .before .before .before .before .before .before .before .before .before .before .args .d) (c .before .before .before .before .before .before .before .before .before .before .before .before .before .before .before .if1 .left) (c .before .before .before .before .before .before .before .before .before .before .before .before .before .before .word .ensures) (c .before .before .before .before .before .before .before .before .before .before .before .before .before .word2 .ensures)) (turned (belowBy (now (c .before .before .before .before .before .before .before .before .before .before .before .before .before .before .before .before .before .before .args .anc))) (c .before .before .before .before .before .before .before .before .before .before .before .before .before .before .word .result) (c .before .before .before .before .before .before .before .before .before .before .before .before .before .word2 .result) (c .before .before .before .before .before .before .before .before .before .before .before .before .head-below .ensures)) (c .before .before .before .before .before .before .before .before .before .before .before .if2 .taken) (c .before .before .before .before .before .before .before .before .before .before .kind .ensures) (c .before .before .before .before .before .before .first .ensures) (c .before .before .before .before .before .first2 .ensures) (c .before .before .second .ensures) (c .before .second2 .ensures) (c .before .before .before .before .before .before .before .before .before .match .keys2) (c .before .before .before .before .above .ensures) (c .before .before .before .if4 .taken) (c .above2 .ensures)
 
--- src/lib.rt:217:45
+-- src/lib.rt:406:13
+above-returns-6 : (t : ℕ) → above-lts.Need-returns-6 (
+  word-reads.Asked,
+  word-reads.Learnt,
+  head-below-reads.Asked,
+  head-below-reads.Learnt,
+  kind-reads.Asked,
+  kind-reads.Learnt,
+  branches-reads.Asked,
+  branches-reads.Learnt,
+  compare-deep-reads.Asked,
+  compare-deep-reads.Learnt,
+  first-reads.Asked,
+  first-reads.Learnt,
+  above-below t,
+  above.Post,
+  second-reads.Asked,
+  second-reads.Learnt,
+  same-reads.Asked,
+  same-reads.Learnt,
+  below-below t,
+  below.Post,
+  eff-below-reads.Asked,
+  eff-below-reads.Learnt,
+  same-owner-reads.Asked,
+  same-owner-reads.Learnt,
+) (above-at t) above.Post
+above-returns-6 t c = pairs-first (super-level (belowBy (now (c .before .before .before .before .before .before .before .before .before .before .before .before .before .before .before .args .anc))) (effBelowBy (now (c .before .before .before .before .before .before .before .before .before .before .before .before .before .before .before .args .anc))) (now (c .before .before .before .before .before .before .before .before .before .before .before .before .before .before .before .args .types)) (now (c .before .before .before .before .before .before .before .before .before .before .before .before .before .before .before .args .sets)) (c .before .before .before .before .before .before .before .before .before .before .before .before .before .before .before .args .a) (c .before .before .before .before .before .before .before .before .before .before .before .before .before .before .before .args .b) (c .before .before .before .before .before .before .before .before .before .before .before .before .before .before .before .args .d) (c .before .before .before .before .before .before .before .before .before .before .before .before .if1 .left) (c .before .before .before .before .before .before .before .before .before .before .before .word .ensures) (c .before .before .before .before .before .before .before .before .before .before .word2 .ensures)) (turned (belowBy (now (c .before .before .before .before .before .before .before .before .before .before .before .before .before .before .before .args .anc))) (c .before .before .before .before .before .before .before .before .before .before .before .word .result) (c .before .before .before .before .before .before .before .before .before .before .word2 .result) (c .before .before .before .before .before .before .before .before .before .head-below .ensures)) (c .before .before .before .before .before .before .before .before .if2 .taken) (c .before .before .before .before .before .before .before .kind .ensures) (c .before .before .before .first .ensures) (c .before .before .first2 .ensures) (c .before .before .before .before .before .before .match .keys2) (c .before .above .ensures) (c .if4 .left)
+
+-- src/lib.rt:408:45
 above-first-requires-3 : (t : ℕ) → above-lts.Need-first-requires-3 (
   word-reads.Asked,
   word-reads.Learnt,
@@ -449,6 +604,10 @@ above-first-requires-3 : (t : ℕ) → above-lts.Need-first-requires-3 (
   head-below-reads.Learnt,
   kind-reads.Asked,
   kind-reads.Learnt,
+  branches-reads.Asked,
+  branches-reads.Learnt,
+  compare-deep-reads.Asked,
+  compare-deep-reads.Learnt,
   first-reads.Asked,
   first-reads.Learnt,
   above-below t,
@@ -466,7 +625,7 @@ above-first-requires-3 : (t : ℕ) → above-lts.Need-first-requires-3 (
 ) (above-at t) above.Post
 above-first-requires-3 t c κs = search needs
 
--- src/lib.rt:217:55
+-- src/lib.rt:408:55
 above-first-requires-4 : (t : ℕ) → above-lts.Need-first-requires-4 (
   word-reads.Asked,
   word-reads.Learnt,
@@ -474,6 +633,10 @@ above-first-requires-4 : (t : ℕ) → above-lts.Need-first-requires-4 (
   head-below-reads.Learnt,
   kind-reads.Asked,
   kind-reads.Learnt,
+  branches-reads.Asked,
+  branches-reads.Learnt,
+  compare-deep-reads.Asked,
+  compare-deep-reads.Learnt,
   first-reads.Asked,
   first-reads.Learnt,
   above-below t,
@@ -491,7 +654,7 @@ above-first-requires-4 : (t : ℕ) → above-lts.Need-first-requires-4 (
 ) (above-at t) above.Post
 above-first-requires-4 t c κs = search needs
 
--- src/lib.rt:217:17
+-- src/lib.rt:408:17
 above-same-requires : (t : ℕ) → above-lts.Need-same-requires (
   word-reads.Asked,
   word-reads.Learnt,
@@ -499,6 +662,10 @@ above-same-requires : (t : ℕ) → above-lts.Need-same-requires (
   head-below-reads.Learnt,
   kind-reads.Asked,
   kind-reads.Learnt,
+  branches-reads.Asked,
+  branches-reads.Learnt,
+  compare-deep-reads.Asked,
+  compare-deep-reads.Learnt,
   first-reads.Asked,
   first-reads.Learnt,
   above-below t,
@@ -516,14 +683,18 @@ above-same-requires : (t : ℕ) → above-lts.Need-same-requires (
 ) (above-at t) above.Post
 above-same-requires t c κs = search needs
 
--- src/lib.rt:217:17
-above-returns-6 : (t : ℕ) → above-lts.Need-returns-6 (
+-- src/lib.rt:408:17
+above-returns-7 : (t : ℕ) → above-lts.Need-returns-7 (
   word-reads.Asked,
   word-reads.Learnt,
   head-below-reads.Asked,
   head-below-reads.Learnt,
   kind-reads.Asked,
   kind-reads.Learnt,
+  branches-reads.Asked,
+  branches-reads.Learnt,
+  compare-deep-reads.Asked,
+  compare-deep-reads.Learnt,
   first-reads.Asked,
   first-reads.Learnt,
   above-below t,
@@ -539,9 +710,97 @@ above-returns-6 : (t : ℕ) → above-lts.Need-returns-6 (
   same-owner-reads.Asked,
   same-owner-reads.Learnt,
 ) (above-at t) above.Post
-above-returns-6 t c = cells (super-level (belowBy (now (c .before .before .before .before .before .before .before .before .before .before .before .before .args .anc))) (effBelowBy (now (c .before .before .before .before .before .before .before .before .before .before .before .before .args .anc))) (now (c .before .before .before .before .before .before .before .before .before .before .before .before .args .types)) (now (c .before .before .before .before .before .before .before .before .before .before .before .before .args .sets)) (c .before .before .before .before .before .before .before .before .before .before .before .before .args .a) (c .before .before .before .before .before .before .before .before .before .before .before .before .args .b) (c .before .before .before .before .before .before .before .before .before .before .before .before .args .d) (c .before .before .before .before .before .before .before .before .before .if1 .left) (c .before .before .before .before .before .before .before .before .word .ensures) (c .before .before .before .before .before .before .before .word2 .ensures)) (turned (belowBy (now (c .before .before .before .before .before .before .before .before .before .before .before .before .args .anc))) (c .before .before .before .before .before .before .before .before .word .result) (c .before .before .before .before .before .before .before .word2 .result) (c .before .before .before .before .before .before .head-below .ensures)) (c .before .before .before .before .before .if2 .taken) (c .before .before .before .before .kind .ensures) (c .before .before .first3 .ensures) (c .before .first4 .ensures) (c .before .before .before .match .keys3) (c .same .ensures)
+above-returns-7 t c = cells (super-level (belowBy (now (c .before .before .before .before .before .before .before .before .before .before .before .before .args .anc))) (effBelowBy (now (c .before .before .before .before .before .before .before .before .before .before .before .before .args .anc))) (now (c .before .before .before .before .before .before .before .before .before .before .before .before .args .types)) (now (c .before .before .before .before .before .before .before .before .before .before .before .before .args .sets)) (c .before .before .before .before .before .before .before .before .before .before .before .before .args .a) (c .before .before .before .before .before .before .before .before .before .before .before .before .args .b) (c .before .before .before .before .before .before .before .before .before .before .before .before .args .d) (c .before .before .before .before .before .before .before .before .before .if1 .left) (c .before .before .before .before .before .before .before .before .word .ensures) (c .before .before .before .before .before .before .before .word2 .ensures)) (turned (belowBy (now (c .before .before .before .before .before .before .before .before .before .before .before .before .args .anc))) (c .before .before .before .before .before .before .before .before .word .result) (c .before .before .before .before .before .before .before .word2 .result) (c .before .before .before .before .before .before .head-below .ensures)) (c .before .before .before .before .before .if2 .taken) (c .before .before .before .before .kind .ensures) (c .before .before .first3 .ensures) (c .before .first4 .ensures) (c .before .before .before .match .keys3) (c .same .ensures)
 
--- src/lib.rt:219:43
+-- src/lib.rt:410:16
+above-branches-requires-2 : (t : ℕ) → above-lts.Need-branches-requires-2 (
+  word-reads.Asked,
+  word-reads.Learnt,
+  head-below-reads.Asked,
+  head-below-reads.Learnt,
+  kind-reads.Asked,
+  kind-reads.Learnt,
+  branches-reads.Asked,
+  branches-reads.Learnt,
+  compare-deep-reads.Asked,
+  compare-deep-reads.Learnt,
+  first-reads.Asked,
+  first-reads.Learnt,
+  above-below t,
+  above.Post,
+  second-reads.Asked,
+  second-reads.Learnt,
+  same-reads.Asked,
+  same-reads.Learnt,
+  below-below t,
+  below.Post,
+  eff-below-reads.Asked,
+  eff-below-reads.Learnt,
+  same-owner-reads.Asked,
+  same-owner-reads.Learnt,
+) (above-at t) above.Post
+above-branches-requires-2 t c κs = search needs
+
+-- src/lib.rt:411:17
+above-compare-deep-requires-2 : (t : ℕ) → above-lts.Need-compare-deep-requires-2 (
+  word-reads.Asked,
+  word-reads.Learnt,
+  head-below-reads.Asked,
+  head-below-reads.Learnt,
+  kind-reads.Asked,
+  kind-reads.Learnt,
+  branches-reads.Asked,
+  branches-reads.Learnt,
+  compare-deep-reads.Asked,
+  compare-deep-reads.Learnt,
+  first-reads.Asked,
+  first-reads.Learnt,
+  above-below t,
+  above.Post,
+  second-reads.Asked,
+  second-reads.Learnt,
+  same-reads.Asked,
+  same-reads.Learnt,
+  below-below t,
+  below.Post,
+  eff-below-reads.Asked,
+  eff-below-reads.Learnt,
+  same-owner-reads.Asked,
+  same-owner-reads.Learnt,
+) (above-at t) above.Post
+above-compare-deep-requires-2 t c κs = search needs
+
+-- src/lib.rt:411:17
+above-returns-8 : (t : ℕ) → above-lts.Need-returns-8 (
+  word-reads.Asked,
+  word-reads.Learnt,
+  head-below-reads.Asked,
+  head-below-reads.Learnt,
+  kind-reads.Asked,
+  kind-reads.Learnt,
+  branches-reads.Asked,
+  branches-reads.Learnt,
+  compare-deep-reads.Asked,
+  compare-deep-reads.Learnt,
+  first-reads.Asked,
+  first-reads.Learnt,
+  above-below t,
+  above.Post,
+  second-reads.Asked,
+  second-reads.Learnt,
+  same-reads.Asked,
+  same-reads.Learnt,
+  below-below t,
+  below.Post,
+  eff-below-reads.Asked,
+  eff-below-reads.Learnt,
+  same-owner-reads.Asked,
+  same-owner-reads.Learnt,
+) (above-at t) above.Post
+unfolding comparedIn pick
+above-returns-8 t c = c .compare-deep2 .ensures
+
+-- src/lib.rt:413:43
 above-first-requires-5 : (t : ℕ) → above-lts.Need-first-requires-5 (
   word-reads.Asked,
   word-reads.Learnt,
@@ -549,6 +808,10 @@ above-first-requires-5 : (t : ℕ) → above-lts.Need-first-requires-5 (
   head-below-reads.Learnt,
   kind-reads.Asked,
   kind-reads.Learnt,
+  branches-reads.Asked,
+  branches-reads.Learnt,
+  compare-deep-reads.Asked,
+  compare-deep-reads.Learnt,
   first-reads.Asked,
   first-reads.Learnt,
   above-below t,
@@ -566,7 +829,7 @@ above-first-requires-5 : (t : ℕ) → above-lts.Need-first-requires-5 (
 ) (above-at t) above.Post
 above-first-requires-5 t c κs = search needs
 
--- src/lib.rt:219:53
+-- src/lib.rt:413:53
 above-first-requires-6 : (t : ℕ) → above-lts.Need-first-requires-6 (
   word-reads.Asked,
   word-reads.Learnt,
@@ -574,6 +837,10 @@ above-first-requires-6 : (t : ℕ) → above-lts.Need-first-requires-6 (
   head-below-reads.Learnt,
   kind-reads.Asked,
   kind-reads.Learnt,
+  branches-reads.Asked,
+  branches-reads.Learnt,
+  compare-deep-reads.Asked,
+  compare-deep-reads.Learnt,
   first-reads.Asked,
   first-reads.Learnt,
   above-below t,
@@ -591,7 +858,7 @@ above-first-requires-6 : (t : ℕ) → above-lts.Need-first-requires-6 (
 ) (above-at t) above.Post
 above-first-requires-6 t c κs = search needs
 
--- src/lib.rt:219:16
+-- src/lib.rt:413:16
 above-below-requires : (t : ℕ) → above-lts.Need-below-requires (
   word-reads.Asked,
   word-reads.Learnt,
@@ -599,6 +866,10 @@ above-below-requires : (t : ℕ) → above-lts.Need-below-requires (
   head-below-reads.Learnt,
   kind-reads.Asked,
   kind-reads.Learnt,
+  branches-reads.Asked,
+  branches-reads.Learnt,
+  compare-deep-reads.Asked,
+  compare-deep-reads.Learnt,
   first-reads.Asked,
   first-reads.Learnt,
   above-below t,
@@ -616,7 +887,7 @@ above-below-requires : (t : ℕ) → above-lts.Need-below-requires (
 ) (above-at t) above.Post
 above-below-requires t c κs = (omega arith, tt)
 
--- src/lib.rt:220:47
+-- src/lib.rt:414:47
 above-second-requires-3 : (t : ℕ) → above-lts.Need-second-requires-3 (
   word-reads.Asked,
   word-reads.Learnt,
@@ -624,6 +895,10 @@ above-second-requires-3 : (t : ℕ) → above-lts.Need-second-requires-3 (
   head-below-reads.Learnt,
   kind-reads.Asked,
   kind-reads.Learnt,
+  branches-reads.Asked,
+  branches-reads.Learnt,
+  compare-deep-reads.Asked,
+  compare-deep-reads.Learnt,
   first-reads.Asked,
   first-reads.Learnt,
   above-below t,
@@ -641,7 +916,7 @@ above-second-requires-3 : (t : ℕ) → above-lts.Need-second-requires-3 (
 ) (above-at t) above.Post
 above-second-requires-3 t c κs = search needs
 
--- src/lib.rt:220:58
+-- src/lib.rt:414:58
 above-second-requires-4 : (t : ℕ) → above-lts.Need-second-requires-4 (
   word-reads.Asked,
   word-reads.Learnt,
@@ -649,6 +924,10 @@ above-second-requires-4 : (t : ℕ) → above-lts.Need-second-requires-4 (
   head-below-reads.Learnt,
   kind-reads.Asked,
   kind-reads.Learnt,
+  branches-reads.Asked,
+  branches-reads.Learnt,
+  compare-deep-reads.Asked,
+  compare-deep-reads.Learnt,
   first-reads.Asked,
   first-reads.Learnt,
   above-below t,
@@ -666,7 +945,7 @@ above-second-requires-4 : (t : ℕ) → above-lts.Need-second-requires-4 (
 ) (above-at t) above.Post
 above-second-requires-4 t c κs = search needs
 
--- src/lib.rt:220:20
+-- src/lib.rt:414:20
 above-above-requires-3 : (t : ℕ) → above-lts.Need-above-requires-3 (
   word-reads.Asked,
   word-reads.Learnt,
@@ -674,6 +953,10 @@ above-above-requires-3 : (t : ℕ) → above-lts.Need-above-requires-3 (
   head-below-reads.Learnt,
   kind-reads.Asked,
   kind-reads.Learnt,
+  branches-reads.Asked,
+  branches-reads.Learnt,
+  compare-deep-reads.Asked,
+  compare-deep-reads.Learnt,
   first-reads.Asked,
   first-reads.Learnt,
   above-below t,
@@ -691,7 +974,7 @@ above-above-requires-3 : (t : ℕ) → above-lts.Need-above-requires-3 (
 ) (above-at t) above.Post
 above-above-requires-3 t c κs = (omega arith, tt)
 
--- src/lib.rt:221:50
+-- src/lib.rt:415:50
 above-word-requires-3 : (t : ℕ) → above-lts.Need-word-requires-3 (
   word-reads.Asked,
   word-reads.Learnt,
@@ -699,6 +982,10 @@ above-word-requires-3 : (t : ℕ) → above-lts.Need-word-requires-3 (
   head-below-reads.Learnt,
   kind-reads.Asked,
   kind-reads.Learnt,
+  branches-reads.Asked,
+  branches-reads.Learnt,
+  compare-deep-reads.Asked,
+  compare-deep-reads.Learnt,
   first-reads.Asked,
   first-reads.Learnt,
   above-below t,
@@ -716,7 +1003,7 @@ above-word-requires-3 : (t : ℕ) → above-lts.Need-word-requires-3 (
 ) (above-at t) above.Post
 above-word-requires-3 t c κs = search needs
 
--- src/lib.rt:221:65
+-- src/lib.rt:415:65
 above-word-requires-4 : (t : ℕ) → above-lts.Need-word-requires-4 (
   word-reads.Asked,
   word-reads.Learnt,
@@ -724,6 +1011,10 @@ above-word-requires-4 : (t : ℕ) → above-lts.Need-word-requires-4 (
   head-below-reads.Learnt,
   kind-reads.Asked,
   kind-reads.Learnt,
+  branches-reads.Asked,
+  branches-reads.Learnt,
+  compare-deep-reads.Asked,
+  compare-deep-reads.Learnt,
   first-reads.Asked,
   first-reads.Learnt,
   above-below t,
@@ -741,7 +1032,7 @@ above-word-requires-4 : (t : ℕ) → above-lts.Need-word-requires-4 (
 ) (above-at t) above.Post
 above-word-requires-4 t c κs = search needs
 
--- src/lib.rt:221:21
+-- src/lib.rt:415:21
 above-eff-below-requires : (t : ℕ) → above-lts.Need-eff-below-requires (
   word-reads.Asked,
   word-reads.Learnt,
@@ -749,6 +1040,10 @@ above-eff-below-requires : (t : ℕ) → above-lts.Need-eff-below-requires (
   head-below-reads.Learnt,
   kind-reads.Asked,
   kind-reads.Learnt,
+  branches-reads.Asked,
+  branches-reads.Learnt,
+  compare-deep-reads.Asked,
+  compare-deep-reads.Learnt,
   first-reads.Asked,
   first-reads.Learnt,
   above-below t,
@@ -766,57 +1061,7 @@ above-eff-below-requires : (t : ℕ) → above-lts.Need-eff-below-requires (
 ) (above-at t) above.Post
 above-eff-below-requires t c κs = search needs
 
--- src/lib.rt:221:21
-above-returns-7 : (t : ℕ) → above-lts.Need-returns-7 (
-  word-reads.Asked,
-  word-reads.Learnt,
-  head-below-reads.Asked,
-  head-below-reads.Learnt,
-  kind-reads.Asked,
-  kind-reads.Learnt,
-  first-reads.Asked,
-  first-reads.Learnt,
-  above-below t,
-  above.Post,
-  second-reads.Asked,
-  second-reads.Learnt,
-  same-reads.Asked,
-  same-reads.Learnt,
-  below-below t,
-  below.Post,
-  eff-below-reads.Asked,
-  eff-below-reads.Learnt,
-  same-owner-reads.Asked,
-  same-owner-reads.Learnt,
-) (above-at t) above.Post
-above-returns-7 t c = functions (super-level (belowBy (now (c .before .before .before .before .before .before .before .before .before .before .before .before .before .before .before .before .before .before .before .before .args .anc))) (effBelowBy (now (c .before .before .before .before .before .before .before .before .before .before .before .before .before .before .before .before .before .before .before .before .args .anc))) (now (c .before .before .before .before .before .before .before .before .before .before .before .before .before .before .before .before .before .before .before .before .args .types)) (now (c .before .before .before .before .before .before .before .before .before .before .before .before .before .before .before .before .before .before .before .before .args .sets)) (c .before .before .before .before .before .before .before .before .before .before .before .before .before .before .before .before .before .before .before .before .args .a) (c .before .before .before .before .before .before .before .before .before .before .before .before .before .before .before .before .before .before .before .before .args .b) (c .before .before .before .before .before .before .before .before .before .before .before .before .before .before .before .before .before .before .before .before .args .d) (c .before .before .before .before .before .before .before .before .before .before .before .before .before .before .before .before .before .if1 .left) (c .before .before .before .before .before .before .before .before .before .before .before .before .before .before .before .before .word .ensures) (c .before .before .before .before .before .before .before .before .before .before .before .before .before .before .before .word2 .ensures)) (turned (belowBy (now (c .before .before .before .before .before .before .before .before .before .before .before .before .before .before .before .before .before .before .before .before .args .anc))) (c .before .before .before .before .before .before .before .before .before .before .before .before .before .before .before .before .word .result) (c .before .before .before .before .before .before .before .before .before .before .before .before .before .before .before .word2 .result) (c .before .before .before .before .before .before .before .before .before .before .before .before .before .before .head-below .ensures)) (c .before .before .before .before .before .before .before .before .before .before .before .before .before .if2 .taken) (c .before .before .before .before .before .before .before .before .before .before .before .before .kind .ensures) (c .before .before .before .before .before .before .before .before .before .before .first5 .ensures) (c .before .before .before .before .before .before .before .before .before .first6 .ensures) (c .before .before .before .before .before .before .second3 .ensures) (c .before .before .before .before .before .second4 .ensures) (c .before .before .before .before .before .before .before .before .before .before .before .match .keys4) (c .before .before .before .before .before .before .before .before .below .ensures) (c .before .before .before .before .before .before .before .if4 .taken) (c .before .before .before .before .above3 .ensures) (c .before .before .before .if5 .taken) (c .before .word4 .ensures) (c .before .before .word3 .ensures) (c .eff-below .ensures)
-
--- src/lib.rt:224:13
-above-returns-8 : (t : ℕ) → above-lts.Need-returns-8 (
-  word-reads.Asked,
-  word-reads.Learnt,
-  head-below-reads.Asked,
-  head-below-reads.Learnt,
-  kind-reads.Asked,
-  kind-reads.Learnt,
-  first-reads.Asked,
-  first-reads.Learnt,
-  above-below t,
-  above.Post,
-  second-reads.Asked,
-  second-reads.Learnt,
-  same-reads.Asked,
-  same-reads.Learnt,
-  below-below t,
-  below.Post,
-  eff-below-reads.Asked,
-  eff-below-reads.Learnt,
-  same-owner-reads.Asked,
-  same-owner-reads.Learnt,
-) (above-at t) above.Post
-above-returns-8 t c = functions-second (super-level (belowBy (now (c .before .before .before .before .before .before .before .before .before .before .before .before .before .before .before .before .before .args .anc))) (effBelowBy (now (c .before .before .before .before .before .before .before .before .before .before .before .before .before .before .before .before .before .args .anc))) (now (c .before .before .before .before .before .before .before .before .before .before .before .before .before .before .before .before .before .args .types)) (now (c .before .before .before .before .before .before .before .before .before .before .before .before .before .before .before .before .before .args .sets)) (c .before .before .before .before .before .before .before .before .before .before .before .before .before .before .before .before .before .args .a) (c .before .before .before .before .before .before .before .before .before .before .before .before .before .before .before .before .before .args .b) (c .before .before .before .before .before .before .before .before .before .before .before .before .before .before .before .before .before .args .d) (c .before .before .before .before .before .before .before .before .before .before .before .before .before .before .if1 .left) (c .before .before .before .before .before .before .before .before .before .before .before .before .before .word .ensures) (c .before .before .before .before .before .before .before .before .before .before .before .before .word2 .ensures)) (turned (belowBy (now (c .before .before .before .before .before .before .before .before .before .before .before .before .before .before .before .before .before .args .anc))) (c .before .before .before .before .before .before .before .before .before .before .before .before .before .word .result) (c .before .before .before .before .before .before .before .before .before .before .before .before .word2 .result) (c .before .before .before .before .before .before .before .before .before .before .before .head-below .ensures)) (c .before .before .before .before .before .before .before .before .before .before .if2 .taken) (c .before .before .before .before .before .before .before .before .before .kind .ensures) (c .before .before .before .before .before .before .before .first5 .ensures) (c .before .before .before .before .before .before .first6 .ensures) (c .before .before .before .second3 .ensures) (c .before .before .second4 .ensures) (c .before .before .before .before .before .before .before .before .match .keys4) (c .before .before .before .before .before .below .ensures) (c .before .before .before .before .if4 .taken) (c .before .above3 .ensures) (c .if5 .left)
-
--- src/lib.rt:224:13
+-- src/lib.rt:415:21
 above-returns-9 : (t : ℕ) → above-lts.Need-returns-9 (
   word-reads.Asked,
   word-reads.Learnt,
@@ -824,6 +1069,10 @@ above-returns-9 : (t : ℕ) → above-lts.Need-returns-9 (
   head-below-reads.Learnt,
   kind-reads.Asked,
   kind-reads.Learnt,
+  branches-reads.Asked,
+  branches-reads.Learnt,
+  compare-deep-reads.Asked,
+  compare-deep-reads.Learnt,
   first-reads.Asked,
   first-reads.Learnt,
   above-below t,
@@ -839,9 +1088,67 @@ above-returns-9 : (t : ℕ) → above-lts.Need-returns-9 (
   same-owner-reads.Asked,
   same-owner-reads.Learnt,
 ) (above-at t) above.Post
-above-returns-9 t c = functions-first (super-level (belowBy (now (c .before .before .before .before .before .before .before .before .before .before .before .before .before .args .anc))) (effBelowBy (now (c .before .before .before .before .before .before .before .before .before .before .before .before .before .args .anc))) (now (c .before .before .before .before .before .before .before .before .before .before .before .before .before .args .types)) (now (c .before .before .before .before .before .before .before .before .before .before .before .before .before .args .sets)) (c .before .before .before .before .before .before .before .before .before .before .before .before .before .args .a) (c .before .before .before .before .before .before .before .before .before .before .before .before .before .args .b) (c .before .before .before .before .before .before .before .before .before .before .before .before .before .args .d) (c .before .before .before .before .before .before .before .before .before .before .if1 .left) (c .before .before .before .before .before .before .before .before .before .word .ensures) (c .before .before .before .before .before .before .before .before .word2 .ensures)) (turned (belowBy (now (c .before .before .before .before .before .before .before .before .before .before .before .before .before .args .anc))) (c .before .before .before .before .before .before .before .before .before .word .result) (c .before .before .before .before .before .before .before .before .word2 .result) (c .before .before .before .before .before .before .before .head-below .ensures)) (c .before .before .before .before .before .before .if2 .taken) (c .before .before .before .before .before .kind .ensures) (c .before .before .before .first5 .ensures) (c .before .before .first6 .ensures) (c .before .before .before .before .match .keys4) (c .before .below .ensures) (c .if4 .left)
+above-returns-9 t c = functions (super-level (belowBy (now (c .before .before .before .before .before .before .before .before .before .before .before .before .before .before .before .before .before .before .before .before .before .before .args .anc))) (effBelowBy (now (c .before .before .before .before .before .before .before .before .before .before .before .before .before .before .before .before .before .before .before .before .before .before .args .anc))) (now (c .before .before .before .before .before .before .before .before .before .before .before .before .before .before .before .before .before .before .before .before .before .before .args .types)) (now (c .before .before .before .before .before .before .before .before .before .before .before .before .before .before .before .before .before .before .before .before .before .before .args .sets)) (c .before .before .before .before .before .before .before .before .before .before .before .before .before .before .before .before .before .before .before .before .before .before .args .a) (c .before .before .before .before .before .before .before .before .before .before .before .before .before .before .before .before .before .before .before .before .before .before .args .b) (c .before .before .before .before .before .before .before .before .before .before .before .before .before .before .before .before .before .before .before .before .before .before .args .d) (c .before .before .before .before .before .before .before .before .before .before .before .before .before .before .before .before .before .before .before .if1 .left) (c .before .before .before .before .before .before .before .before .before .before .before .before .before .before .before .before .before .before .word .ensures) (c .before .before .before .before .before .before .before .before .before .before .before .before .before .before .before .before .before .word2 .ensures)) (turned (belowBy (now (c .before .before .before .before .before .before .before .before .before .before .before .before .before .before .before .before .before .before .before .before .before .before .args .anc))) (c .before .before .before .before .before .before .before .before .before .before .before .before .before .before .before .before .before .before .word .result) (c .before .before .before .before .before .before .before .before .before .before .before .before .before .before .before .before .before .word2 .result) (c .before .before .before .before .before .before .before .before .before .before .before .before .before .before .before .before .head-below .ensures)) (c .before .before .before .before .before .before .before .before .before .before .before .before .before .before .before .if2 .taken) (c .before .before .before .before .before .before .before .before .before .before .before .before .before .before .kind .ensures) (c .before .before .before .before .before .before .before .before .before .before .first5 .ensures) (c .before .before .before .before .before .before .before .before .before .first6 .ensures) (c .before .before .before .before .before .before .second3 .ensures) (c .before .before .before .before .before .second4 .ensures) (c .before .before .before .before .before .before .before .before .before .before .before .before .before .match .keys4) (c .before .before .before .before .before .before .before .before .below .ensures) (c .before .before .before .before .before .before .before .if6 .taken) (c .before .before .before .before .above3 .ensures) (c .before .before .before .if7 .taken) (c .before .word4 .ensures) (c .before .before .word3 .ensures) (c .eff-below .ensures)
 
--- src/lib.rt:226:14
+-- src/lib.rt:418:13
+above-returns-10 : (t : ℕ) → above-lts.Need-returns-10 (
+  word-reads.Asked,
+  word-reads.Learnt,
+  head-below-reads.Asked,
+  head-below-reads.Learnt,
+  kind-reads.Asked,
+  kind-reads.Learnt,
+  branches-reads.Asked,
+  branches-reads.Learnt,
+  compare-deep-reads.Asked,
+  compare-deep-reads.Learnt,
+  first-reads.Asked,
+  first-reads.Learnt,
+  above-below t,
+  above.Post,
+  second-reads.Asked,
+  second-reads.Learnt,
+  same-reads.Asked,
+  same-reads.Learnt,
+  below-below t,
+  below.Post,
+  eff-below-reads.Asked,
+  eff-below-reads.Learnt,
+  same-owner-reads.Asked,
+  same-owner-reads.Learnt,
+) (above-at t) above.Post
+above-returns-10 t c = functions-second (super-level (belowBy (now (c .before .before .before .before .before .before .before .before .before .before .before .before .before .before .before .before .before .before .before .args .anc))) (effBelowBy (now (c .before .before .before .before .before .before .before .before .before .before .before .before .before .before .before .before .before .before .before .args .anc))) (now (c .before .before .before .before .before .before .before .before .before .before .before .before .before .before .before .before .before .before .before .args .types)) (now (c .before .before .before .before .before .before .before .before .before .before .before .before .before .before .before .before .before .before .before .args .sets)) (c .before .before .before .before .before .before .before .before .before .before .before .before .before .before .before .before .before .before .before .args .a) (c .before .before .before .before .before .before .before .before .before .before .before .before .before .before .before .before .before .before .before .args .b) (c .before .before .before .before .before .before .before .before .before .before .before .before .before .before .before .before .before .before .before .args .d) (c .before .before .before .before .before .before .before .before .before .before .before .before .before .before .before .before .if1 .left) (c .before .before .before .before .before .before .before .before .before .before .before .before .before .before .before .word .ensures) (c .before .before .before .before .before .before .before .before .before .before .before .before .before .before .word2 .ensures)) (turned (belowBy (now (c .before .before .before .before .before .before .before .before .before .before .before .before .before .before .before .before .before .before .before .args .anc))) (c .before .before .before .before .before .before .before .before .before .before .before .before .before .before .before .word .result) (c .before .before .before .before .before .before .before .before .before .before .before .before .before .before .word2 .result) (c .before .before .before .before .before .before .before .before .before .before .before .before .before .head-below .ensures)) (c .before .before .before .before .before .before .before .before .before .before .before .before .if2 .taken) (c .before .before .before .before .before .before .before .before .before .before .before .kind .ensures) (c .before .before .before .before .before .before .before .first5 .ensures) (c .before .before .before .before .before .before .first6 .ensures) (c .before .before .before .second3 .ensures) (c .before .before .second4 .ensures) (c .before .before .before .before .before .before .before .before .before .before .match .keys4) (c .before .before .before .before .before .below .ensures) (c .before .before .before .before .if6 .taken) (c .before .above3 .ensures) (c .if7 .left)
+
+-- src/lib.rt:418:13
+above-returns-11 : (t : ℕ) → above-lts.Need-returns-11 (
+  word-reads.Asked,
+  word-reads.Learnt,
+  head-below-reads.Asked,
+  head-below-reads.Learnt,
+  kind-reads.Asked,
+  kind-reads.Learnt,
+  branches-reads.Asked,
+  branches-reads.Learnt,
+  compare-deep-reads.Asked,
+  compare-deep-reads.Learnt,
+  first-reads.Asked,
+  first-reads.Learnt,
+  above-below t,
+  above.Post,
+  second-reads.Asked,
+  second-reads.Learnt,
+  same-reads.Asked,
+  same-reads.Learnt,
+  below-below t,
+  below.Post,
+  eff-below-reads.Asked,
+  eff-below-reads.Learnt,
+  same-owner-reads.Asked,
+  same-owner-reads.Learnt,
+) (above-at t) above.Post
+above-returns-11 t c = functions-first (super-level (belowBy (now (c .before .before .before .before .before .before .before .before .before .before .before .before .before .before .before .args .anc))) (effBelowBy (now (c .before .before .before .before .before .before .before .before .before .before .before .before .before .before .before .args .anc))) (now (c .before .before .before .before .before .before .before .before .before .before .before .before .before .before .before .args .types)) (now (c .before .before .before .before .before .before .before .before .before .before .before .before .before .before .before .args .sets)) (c .before .before .before .before .before .before .before .before .before .before .before .before .before .before .before .args .a) (c .before .before .before .before .before .before .before .before .before .before .before .before .before .before .before .args .b) (c .before .before .before .before .before .before .before .before .before .before .before .before .before .before .before .args .d) (c .before .before .before .before .before .before .before .before .before .before .before .before .if1 .left) (c .before .before .before .before .before .before .before .before .before .before .before .word .ensures) (c .before .before .before .before .before .before .before .before .before .before .word2 .ensures)) (turned (belowBy (now (c .before .before .before .before .before .before .before .before .before .before .before .before .before .before .before .args .anc))) (c .before .before .before .before .before .before .before .before .before .before .before .word .result) (c .before .before .before .before .before .before .before .before .before .before .word2 .result) (c .before .before .before .before .before .before .before .before .before .head-below .ensures)) (c .before .before .before .before .before .before .before .before .if2 .taken) (c .before .before .before .before .before .before .before .kind .ensures) (c .before .before .before .first5 .ensures) (c .before .before .first6 .ensures) (c .before .before .before .before .before .before .match .keys4) (c .before .below .ensures) (c .if6 .left)
+
+-- src/lib.rt:420:14
 above-same-owner-requires : (t : ℕ) → above-lts.Need-same-owner-requires (
   word-reads.Asked,
   word-reads.Learnt,
@@ -849,6 +1156,10 @@ above-same-owner-requires : (t : ℕ) → above-lts.Need-same-owner-requires (
   head-below-reads.Learnt,
   kind-reads.Asked,
   kind-reads.Learnt,
+  branches-reads.Asked,
+  branches-reads.Learnt,
+  compare-deep-reads.Asked,
+  compare-deep-reads.Learnt,
   first-reads.Asked,
   first-reads.Learnt,
   above-below t,
@@ -866,14 +1177,18 @@ above-same-owner-requires : (t : ℕ) → above-lts.Need-same-owner-requires (
 ) (above-at t) above.Post
 above-same-owner-requires t c κs = search needs
 
--- src/lib.rt:226:14
-above-returns-10 : (t : ℕ) → above-lts.Need-returns-10 (
+-- src/lib.rt:420:14
+above-returns-12 : (t : ℕ) → above-lts.Need-returns-12 (
   word-reads.Asked,
   word-reads.Learnt,
   head-below-reads.Asked,
   head-below-reads.Learnt,
   kind-reads.Asked,
   kind-reads.Learnt,
+  branches-reads.Asked,
+  branches-reads.Learnt,
+  compare-deep-reads.Asked,
+  compare-deep-reads.Learnt,
   first-reads.Asked,
   first-reads.Learnt,
   above-below t,
@@ -889,9 +1204,9 @@ above-returns-10 : (t : ℕ) → above-lts.Need-returns-10 (
   same-owner-reads.Asked,
   same-owner-reads.Learnt,
 ) (above-at t) above.Post
-above-returns-10 t c = keys (super-level (belowBy (now (c .before .before .before .before .before .before .before .before .before .before .args .anc))) (effBelowBy (now (c .before .before .before .before .before .before .before .before .before .before .args .anc))) (now (c .before .before .before .before .before .before .before .before .before .before .args .types)) (now (c .before .before .before .before .before .before .before .before .before .before .args .sets)) (c .before .before .before .before .before .before .before .before .before .before .args .a) (c .before .before .before .before .before .before .before .before .before .before .args .b) (c .before .before .before .before .before .before .before .before .before .before .args .d) (c .before .before .before .before .before .before .before .if1 .left) (c .before .before .before .before .before .before .word .ensures) (c .before .before .before .before .before .word2 .ensures)) (turned (belowBy (now (c .before .before .before .before .before .before .before .before .before .before .args .anc))) (c .before .before .before .before .before .before .word .result) (c .before .before .before .before .before .word2 .result) (c .before .before .before .before .head-below .ensures)) (c .before .before .before .if2 .taken) (c .before .before .kind .ensures) (c .before .match .rest .0 .0 .0 .1) (c .before .match .rest .0 .0 .1) (c .before .match .rest .0 .1) (c .before .match .rest .1) (c .same-owner .ensures)
+above-returns-12 t c = keys (super-level (belowBy (now (c .before .before .before .before .before .before .before .before .before .before .args .anc))) (effBelowBy (now (c .before .before .before .before .before .before .before .before .before .before .args .anc))) (now (c .before .before .before .before .before .before .before .before .before .before .args .types)) (now (c .before .before .before .before .before .before .before .before .before .before .args .sets)) (c .before .before .before .before .before .before .before .before .before .before .args .a) (c .before .before .before .before .before .before .before .before .before .before .args .b) (c .before .before .before .before .before .before .before .before .before .before .args .d) (c .before .before .before .before .before .before .before .if1 .left) (c .before .before .before .before .before .before .word .ensures) (c .before .before .before .before .before .word2 .ensures)) (turned (belowBy (now (c .before .before .before .before .before .before .before .before .before .before .args .anc))) (c .before .before .before .before .before .before .word .result) (c .before .before .before .before .before .word2 .result) (c .before .before .before .before .head-below .ensures)) (c .before .before .before .if2 .taken) (c .before .before .kind .ensures) (c .before .match .rest .0 .0 .0 .1) (c .before .match .rest .0 .0 .1) (c .before .match .rest .0 .1) (c .before .match .rest .1) (c .same-owner .ensures)
 
--- src/lib.rt:160:9
+-- src/lib.rt:342:9
 below-returns : (t : ℕ) → below-lts.Need-returns (
   word-reads.Asked,
   word-reads.Learnt,
@@ -899,6 +1214,10 @@ below-returns : (t : ℕ) → below-lts.Need-returns (
   head-below-reads.Learnt,
   kind-reads.Asked,
   kind-reads.Learnt,
+  branches-reads.Asked,
+  branches-reads.Learnt,
+  compare-deep-reads.Asked,
+  compare-deep-reads.Learnt,
   first-reads.Asked,
   first-reads.Learnt,
   below-below t,
@@ -916,7 +1235,7 @@ below-returns : (t : ℕ) → below-lts.Need-returns (
 ) (below-at t) below.Post
 below-returns t c = sub-none (belowBy (now (c .before .before .before .args .anc))) (effBelowBy (now (c .before .before .before .args .anc))) (now (c .before .before .before .args .types)) (now (c .before .before .before .args .sets)) (c .before .before .before .args .a) (c .before .before .before .args .b) (c .before .before .before .args .d) (c .if1 .taken)
 
--- src/lib.rt:162:13
+-- src/lib.rt:344:13
 below-sub-e : (t : ℕ) → below-lts.Need-sub-e (
   word-reads.Asked,
   word-reads.Learnt,
@@ -924,6 +1243,10 @@ below-sub-e : (t : ℕ) → below-lts.Need-sub-e (
   head-below-reads.Learnt,
   kind-reads.Asked,
   kind-reads.Learnt,
+  branches-reads.Asked,
+  branches-reads.Learnt,
+  compare-deep-reads.Asked,
+  compare-deep-reads.Learnt,
   first-reads.Asked,
   first-reads.Learnt,
   below-below t,
@@ -941,7 +1264,7 @@ below-sub-e : (t : ℕ) → below-lts.Need-sub-e (
 ) (below-at t) below.Post
 below-sub-e t c = search needs
 
--- src/lib.rt:163:9
+-- src/lib.rt:345:9
 below-word-requires : (t : ℕ) → below-lts.Need-word-requires (
   word-reads.Asked,
   word-reads.Learnt,
@@ -949,6 +1272,10 @@ below-word-requires : (t : ℕ) → below-lts.Need-word-requires (
   head-below-reads.Learnt,
   kind-reads.Asked,
   kind-reads.Learnt,
+  branches-reads.Asked,
+  branches-reads.Learnt,
+  compare-deep-reads.Asked,
+  compare-deep-reads.Learnt,
   first-reads.Asked,
   first-reads.Learnt,
   below-below t,
@@ -966,7 +1293,7 @@ below-word-requires : (t : ℕ) → below-lts.Need-word-requires (
 ) (below-at t) below.Post
 below-word-requires t c κs = search needs
 
--- src/lib.rt:164:9
+-- src/lib.rt:346:9
 below-word-requires-2 : (t : ℕ) → below-lts.Need-word-requires-2 (
   word-reads.Asked,
   word-reads.Learnt,
@@ -974,6 +1301,10 @@ below-word-requires-2 : (t : ℕ) → below-lts.Need-word-requires-2 (
   head-below-reads.Learnt,
   kind-reads.Asked,
   kind-reads.Learnt,
+  branches-reads.Asked,
+  branches-reads.Learnt,
+  compare-deep-reads.Asked,
+  compare-deep-reads.Learnt,
   first-reads.Asked,
   first-reads.Learnt,
   below-below t,
@@ -991,7 +1322,7 @@ below-word-requires-2 : (t : ℕ) → below-lts.Need-word-requires-2 (
 ) (below-at t) below.Post
 below-word-requires-2 t c κs = search needs
 
--- src/lib.rt:165:8
+-- src/lib.rt:347:8
 below-head-below-requires : (t : ℕ) → below-lts.Need-head-below-requires (
   word-reads.Asked,
   word-reads.Learnt,
@@ -999,6 +1330,10 @@ below-head-below-requires : (t : ℕ) → below-lts.Need-head-below-requires (
   head-below-reads.Learnt,
   kind-reads.Asked,
   kind-reads.Learnt,
+  branches-reads.Asked,
+  branches-reads.Learnt,
+  compare-deep-reads.Asked,
+  compare-deep-reads.Learnt,
   first-reads.Asked,
   first-reads.Learnt,
   below-below t,
@@ -1016,7 +1351,7 @@ below-head-below-requires : (t : ℕ) → below-lts.Need-head-below-requires (
 ) (below-at t) below.Post
 below-head-below-requires t c κs = search needs
 
--- src/lib.rt:166:9
+-- src/lib.rt:348:9
 below-returns-2 : (t : ℕ) → below-lts.Need-returns-2 (
   word-reads.Asked,
   word-reads.Learnt,
@@ -1024,6 +1359,10 @@ below-returns-2 : (t : ℕ) → below-lts.Need-returns-2 (
   head-below-reads.Learnt,
   kind-reads.Asked,
   kind-reads.Learnt,
+  branches-reads.Asked,
+  branches-reads.Learnt,
+  compare-deep-reads.Asked,
+  compare-deep-reads.Learnt,
   first-reads.Asked,
   first-reads.Learnt,
   below-below t,
@@ -1041,7 +1380,7 @@ below-returns-2 : (t : ℕ) → below-lts.Need-returns-2 (
 ) (below-at t) below.Post
 below-returns-2 t c = heads-differ (sub-level (belowBy (now (c .before .before .before .before .before .before .before .args .anc))) (effBelowBy (now (c .before .before .before .before .before .before .before .args .anc))) (now (c .before .before .before .before .before .before .before .args .types)) (now (c .before .before .before .before .before .before .before .args .sets)) (c .before .before .before .before .before .before .before .args .a) (c .before .before .before .before .before .before .before .args .b) (c .before .before .before .before .before .before .before .args .d) (c .before .before .before .before .if1 .left) (c .before .before .before .word .ensures) (c .before .before .word2 .ensures)) (c .before .head-below .ensures) (c .if2 .left)
 
--- src/lib.rt:168:11
+-- src/lib.rt:350:11
 below-kind-requires : (t : ℕ) → below-lts.Need-kind-requires (
   word-reads.Asked,
   word-reads.Learnt,
@@ -1049,6 +1388,10 @@ below-kind-requires : (t : ℕ) → below-lts.Need-kind-requires (
   head-below-reads.Learnt,
   kind-reads.Asked,
   kind-reads.Learnt,
+  branches-reads.Asked,
+  branches-reads.Learnt,
+  compare-deep-reads.Asked,
+  compare-deep-reads.Learnt,
   first-reads.Asked,
   first-reads.Learnt,
   below-below t,
@@ -1066,7 +1409,7 @@ below-kind-requires : (t : ℕ) → below-lts.Need-kind-requires (
 ) (below-at t) below.Post
 below-kind-requires t c κs = search needs
 
--- src/lib.rt:169:17
+-- src/lib.rt:351:17
 below-returns-3 : (t : ℕ) → below-lts.Need-returns-3 (
   word-reads.Asked,
   word-reads.Learnt,
@@ -1074,6 +1417,10 @@ below-returns-3 : (t : ℕ) → below-lts.Need-returns-3 (
   head-below-reads.Learnt,
   kind-reads.Asked,
   kind-reads.Learnt,
+  branches-reads.Asked,
+  branches-reads.Learnt,
+  compare-deep-reads.Asked,
+  compare-deep-reads.Learnt,
   first-reads.Asked,
   first-reads.Learnt,
   below-below t,
@@ -1091,7 +1438,95 @@ below-returns-3 : (t : ℕ) → below-lts.Need-returns-3 (
 ) (below-at t) below.Post
 below-returns-3 t c = numbers (sub-level (belowBy (now (c .before .before .before .before .before .before .before .before .before .args .anc))) (effBelowBy (now (c .before .before .before .before .before .before .before .before .before .args .anc))) (now (c .before .before .before .before .before .before .before .before .before .args .types)) (now (c .before .before .before .before .before .before .before .before .before .args .sets)) (c .before .before .before .before .before .before .before .before .before .args .a) (c .before .before .before .before .before .before .before .before .before .args .b) (c .before .before .before .before .before .before .before .before .before .args .d) (c .before .before .before .before .before .before .if1 .left) (c .before .before .before .before .before .word .ensures) (c .before .before .before .before .word2 .ensures)) (c .before .before .before .head-below .ensures) (c .before .before .if2 .taken) (c .before .kind .ensures) (c .match .keys1)
 
--- src/lib.rt:171:43
+-- src/lib.rt:353:16
+below-branches-requires : (t : ℕ) → below-lts.Need-branches-requires (
+  word-reads.Asked,
+  word-reads.Learnt,
+  head-below-reads.Asked,
+  head-below-reads.Learnt,
+  kind-reads.Asked,
+  kind-reads.Learnt,
+  branches-reads.Asked,
+  branches-reads.Learnt,
+  compare-deep-reads.Asked,
+  compare-deep-reads.Learnt,
+  first-reads.Asked,
+  first-reads.Learnt,
+  below-below t,
+  below.Post,
+  second-reads.Asked,
+  second-reads.Learnt,
+  same-reads.Asked,
+  same-reads.Learnt,
+  above-below t,
+  above.Post,
+  eff-below-reads.Asked,
+  eff-below-reads.Learnt,
+  same-owner-reads.Asked,
+  same-owner-reads.Learnt,
+) (below-at t) below.Post
+below-branches-requires t c κs = search needs
+
+-- src/lib.rt:354:17
+below-compare-deep-requires : (t : ℕ) → below-lts.Need-compare-deep-requires (
+  word-reads.Asked,
+  word-reads.Learnt,
+  head-below-reads.Asked,
+  head-below-reads.Learnt,
+  kind-reads.Asked,
+  kind-reads.Learnt,
+  branches-reads.Asked,
+  branches-reads.Learnt,
+  compare-deep-reads.Asked,
+  compare-deep-reads.Learnt,
+  first-reads.Asked,
+  first-reads.Learnt,
+  below-below t,
+  below.Post,
+  second-reads.Asked,
+  second-reads.Learnt,
+  same-reads.Asked,
+  same-reads.Learnt,
+  above-below t,
+  above.Post,
+  eff-below-reads.Asked,
+  eff-below-reads.Learnt,
+  same-owner-reads.Asked,
+  same-owner-reads.Learnt,
+) (below-at t) below.Post
+below-compare-deep-requires t c κs = search needs
+
+-- src/lib.rt:354:17
+below-returns-4 : (t : ℕ) → below-lts.Need-returns-4 (
+  word-reads.Asked,
+  word-reads.Learnt,
+  head-below-reads.Asked,
+  head-below-reads.Learnt,
+  kind-reads.Asked,
+  kind-reads.Learnt,
+  branches-reads.Asked,
+  branches-reads.Learnt,
+  compare-deep-reads.Asked,
+  compare-deep-reads.Learnt,
+  first-reads.Asked,
+  first-reads.Learnt,
+  below-below t,
+  below.Post,
+  second-reads.Asked,
+  second-reads.Learnt,
+  same-reads.Asked,
+  same-reads.Learnt,
+  above-below t,
+  above.Post,
+  eff-below-reads.Asked,
+  eff-below-reads.Learnt,
+  same-owner-reads.Asked,
+  same-owner-reads.Learnt,
+) (below-at t) below.Post
+unfolding comparedIn pick
+below-returns-4 t c = c .compare-deep .ensures
+
+-- src/lib.rt:356:43
 below-first-requires : (t : ℕ) → below-lts.Need-first-requires (
   word-reads.Asked,
   word-reads.Learnt,
@@ -1099,6 +1534,10 @@ below-first-requires : (t : ℕ) → below-lts.Need-first-requires (
   head-below-reads.Learnt,
   kind-reads.Asked,
   kind-reads.Learnt,
+  branches-reads.Asked,
+  branches-reads.Learnt,
+  compare-deep-reads.Asked,
+  compare-deep-reads.Learnt,
   first-reads.Asked,
   first-reads.Learnt,
   below-below t,
@@ -1116,7 +1555,7 @@ below-first-requires : (t : ℕ) → below-lts.Need-first-requires (
 ) (below-at t) below.Post
 below-first-requires t c κs = search needs
 
--- src/lib.rt:171:53
+-- src/lib.rt:356:53
 below-first-requires-2 : (t : ℕ) → below-lts.Need-first-requires-2 (
   word-reads.Asked,
   word-reads.Learnt,
@@ -1124,6 +1563,10 @@ below-first-requires-2 : (t : ℕ) → below-lts.Need-first-requires-2 (
   head-below-reads.Learnt,
   kind-reads.Asked,
   kind-reads.Learnt,
+  branches-reads.Asked,
+  branches-reads.Learnt,
+  compare-deep-reads.Asked,
+  compare-deep-reads.Learnt,
   first-reads.Asked,
   first-reads.Learnt,
   below-below t,
@@ -1141,7 +1584,7 @@ below-first-requires-2 : (t : ℕ) → below-lts.Need-first-requires-2 (
 ) (below-at t) below.Post
 below-first-requires-2 t c κs = search needs
 
--- src/lib.rt:171:16
+-- src/lib.rt:356:16
 below-below-requires : (t : ℕ) → below-lts.Need-below-requires (
   word-reads.Asked,
   word-reads.Learnt,
@@ -1149,6 +1592,10 @@ below-below-requires : (t : ℕ) → below-lts.Need-below-requires (
   head-below-reads.Learnt,
   kind-reads.Asked,
   kind-reads.Learnt,
+  branches-reads.Asked,
+  branches-reads.Learnt,
+  compare-deep-reads.Asked,
+  compare-deep-reads.Learnt,
   first-reads.Asked,
   first-reads.Learnt,
   below-below t,
@@ -1166,7 +1613,7 @@ below-below-requires : (t : ℕ) → below-lts.Need-below-requires (
 ) (below-at t) below.Post
 below-below-requires t c κs = (omega arith, tt)
 
--- src/lib.rt:172:51
+-- src/lib.rt:357:51
 below-second-requires : (t : ℕ) → below-lts.Need-second-requires (
   word-reads.Asked,
   word-reads.Learnt,
@@ -1174,6 +1621,10 @@ below-second-requires : (t : ℕ) → below-lts.Need-second-requires (
   head-below-reads.Learnt,
   kind-reads.Asked,
   kind-reads.Learnt,
+  branches-reads.Asked,
+  branches-reads.Learnt,
+  compare-deep-reads.Asked,
+  compare-deep-reads.Learnt,
   first-reads.Asked,
   first-reads.Learnt,
   below-below t,
@@ -1191,7 +1642,7 @@ below-second-requires : (t : ℕ) → below-lts.Need-second-requires (
 ) (below-at t) below.Post
 below-second-requires t c κs = search needs
 
--- src/lib.rt:172:62
+-- src/lib.rt:357:62
 below-second-requires-2 : (t : ℕ) → below-lts.Need-second-requires-2 (
   word-reads.Asked,
   word-reads.Learnt,
@@ -1199,6 +1650,10 @@ below-second-requires-2 : (t : ℕ) → below-lts.Need-second-requires-2 (
   head-below-reads.Learnt,
   kind-reads.Asked,
   kind-reads.Learnt,
+  branches-reads.Asked,
+  branches-reads.Learnt,
+  compare-deep-reads.Asked,
+  compare-deep-reads.Learnt,
   first-reads.Asked,
   first-reads.Learnt,
   below-below t,
@@ -1216,7 +1671,7 @@ below-second-requires-2 : (t : ℕ) → below-lts.Need-second-requires-2 (
 ) (below-at t) below.Post
 below-second-requires-2 t c κs = search needs
 
--- src/lib.rt:172:17
+-- src/lib.rt:357:17
 below-below-requires-2 : (t : ℕ) → below-lts.Need-below-requires-2 (
   word-reads.Asked,
   word-reads.Learnt,
@@ -1224,6 +1679,10 @@ below-below-requires-2 : (t : ℕ) → below-lts.Need-below-requires-2 (
   head-below-reads.Learnt,
   kind-reads.Asked,
   kind-reads.Learnt,
+  branches-reads.Asked,
+  branches-reads.Learnt,
+  compare-deep-reads.Asked,
+  compare-deep-reads.Learnt,
   first-reads.Asked,
   first-reads.Learnt,
   below-below t,
@@ -1241,32 +1700,7 @@ below-below-requires-2 : (t : ℕ) → below-lts.Need-below-requires-2 (
 ) (below-at t) below.Post
 below-below-requires-2 t c κs = (omega arith, tt)
 
--- src/lib.rt:172:17
-below-returns-4 : (t : ℕ) → below-lts.Need-returns-4 (
-  word-reads.Asked,
-  word-reads.Learnt,
-  head-below-reads.Asked,
-  head-below-reads.Learnt,
-  kind-reads.Asked,
-  kind-reads.Learnt,
-  first-reads.Asked,
-  first-reads.Learnt,
-  below-below t,
-  below.Post,
-  second-reads.Asked,
-  second-reads.Learnt,
-  same-reads.Asked,
-  same-reads.Learnt,
-  above-below t,
-  above.Post,
-  eff-below-reads.Asked,
-  eff-below-reads.Learnt,
-  same-owner-reads.Asked,
-  same-owner-reads.Learnt,
-) (below-at t) below.Post
-below-returns-4 t c = pairs (sub-level (belowBy (now (c .before .before .before .before .before .before .before .before .before .before .before .before .before .before .before .before .args .anc))) (effBelowBy (now (c .before .before .before .before .before .before .before .before .before .before .before .before .before .before .before .before .args .anc))) (now (c .before .before .before .before .before .before .before .before .before .before .before .before .before .before .before .before .args .types)) (now (c .before .before .before .before .before .before .before .before .before .before .before .before .before .before .before .before .args .sets)) (c .before .before .before .before .before .before .before .before .before .before .before .before .before .before .before .before .args .a) (c .before .before .before .before .before .before .before .before .before .before .before .before .before .before .before .before .args .b) (c .before .before .before .before .before .before .before .before .before .before .before .before .before .before .before .before .args .d) (c .before .before .before .before .before .before .before .before .before .before .before .before .before .if1 .left) (c .before .before .before .before .before .before .before .before .before .before .before .before .word .ensures) (c .before .before .before .before .before .before .before .before .before .before .before .word2 .ensures)) (c .before .before .before .before .before .before .before .before .before .before .head-below .ensures) (c .before .before .before .before .before .before .before .before .before .if2 .taken) (c .before .before .before .before .before .before .before .before .kind .ensures) (c .before .before .before .before .before .before .first .ensures) (c .before .before .before .before .before .first2 .ensures) (c .before .before .second .ensures) (c .before .second2 .ensures) (c .before .before .before .before .before .before .before .match .keys2) (c .before .before .before .before .below .ensures) (c .before .before .before .if3 .taken) (c .below2 .ensures)
-
--- src/lib.rt:174:13
+-- src/lib.rt:357:17
 below-returns-5 : (t : ℕ) → below-lts.Need-returns-5 (
   word-reads.Asked,
   word-reads.Learnt,
@@ -1274,6 +1708,10 @@ below-returns-5 : (t : ℕ) → below-lts.Need-returns-5 (
   head-below-reads.Learnt,
   kind-reads.Asked,
   kind-reads.Learnt,
+  branches-reads.Asked,
+  branches-reads.Learnt,
+  compare-deep-reads.Asked,
+  compare-deep-reads.Learnt,
   first-reads.Asked,
   first-reads.Learnt,
   below-below t,
@@ -1289,9 +1727,38 @@ below-returns-5 : (t : ℕ) → below-lts.Need-returns-5 (
   same-owner-reads.Asked,
   same-owner-reads.Learnt,
 ) (below-at t) below.Post
-below-returns-5 t c = pairs-first (sub-level (belowBy (now (c .before .before .before .before .before .before .before .before .before .before .before .before .before .args .anc))) (effBelowBy (now (c .before .before .before .before .before .before .before .before .before .before .before .before .before .args .anc))) (now (c .before .before .before .before .before .before .before .before .before .before .before .before .before .args .types)) (now (c .before .before .before .before .before .before .before .before .before .before .before .before .before .args .sets)) (c .before .before .before .before .before .before .before .before .before .before .before .before .before .args .a) (c .before .before .before .before .before .before .before .before .before .before .before .before .before .args .b) (c .before .before .before .before .before .before .before .before .before .before .before .before .before .args .d) (c .before .before .before .before .before .before .before .before .before .before .if1 .left) (c .before .before .before .before .before .before .before .before .before .word .ensures) (c .before .before .before .before .before .before .before .before .word2 .ensures)) (c .before .before .before .before .before .before .before .head-below .ensures) (c .before .before .before .before .before .before .if2 .taken) (c .before .before .before .before .before .kind .ensures) (c .before .before .before .first .ensures) (c .before .before .first2 .ensures) (c .before .before .before .before .match .keys2) (c .before .below .ensures) (c .if3 .left)
+below-returns-5 t c = pairs (sub-level (belowBy (now (c .before .before .before .before .before .before .before .before .before .before .before .before .before .before .before .before .before .before .args .anc))) (effBelowBy (now (c .before .before .before .before .before .before .before .before .before .before .before .before .before .before .before .before .before .before .args .anc))) (now (c .before .before .before .before .before .before .before .before .before .before .before .before .before .before .before .before .before .before .args .types)) (now (c .before .before .before .before .before .before .before .before .before .before .before .before .before .before .before .before .before .before .args .sets)) (c .before .before .before .before .before .before .before .before .before .before .before .before .before .before .before .before .before .before .args .a) (c .before .before .before .before .before .before .before .before .before .before .before .before .before .before .before .before .before .before .args .b) (c .before .before .before .before .before .before .before .before .before .before .before .before .before .before .before .before .before .before .args .d) (c .before .before .before .before .before .before .before .before .before .before .before .before .before .before .before .if1 .left) (c .before .before .before .before .before .before .before .before .before .before .before .before .before .before .word .ensures) (c .before .before .before .before .before .before .before .before .before .before .before .before .before .word2 .ensures)) (c .before .before .before .before .before .before .before .before .before .before .before .before .head-below .ensures) (c .before .before .before .before .before .before .before .before .before .before .before .if2 .taken) (c .before .before .before .before .before .before .before .before .before .before .kind .ensures) (c .before .before .before .before .before .before .first .ensures) (c .before .before .before .before .before .first2 .ensures) (c .before .before .second .ensures) (c .before .second2 .ensures) (c .before .before .before .before .before .before .before .before .before .match .keys2) (c .before .before .before .before .below .ensures) (c .before .before .before .if4 .taken) (c .below2 .ensures)
 
--- src/lib.rt:176:45
+-- src/lib.rt:359:13
+below-returns-6 : (t : ℕ) → below-lts.Need-returns-6 (
+  word-reads.Asked,
+  word-reads.Learnt,
+  head-below-reads.Asked,
+  head-below-reads.Learnt,
+  kind-reads.Asked,
+  kind-reads.Learnt,
+  branches-reads.Asked,
+  branches-reads.Learnt,
+  compare-deep-reads.Asked,
+  compare-deep-reads.Learnt,
+  first-reads.Asked,
+  first-reads.Learnt,
+  below-below t,
+  below.Post,
+  second-reads.Asked,
+  second-reads.Learnt,
+  same-reads.Asked,
+  same-reads.Learnt,
+  above-below t,
+  above.Post,
+  eff-below-reads.Asked,
+  eff-below-reads.Learnt,
+  same-owner-reads.Asked,
+  same-owner-reads.Learnt,
+) (below-at t) below.Post
+below-returns-6 t c = pairs-first (sub-level (belowBy (now (c .before .before .before .before .before .before .before .before .before .before .before .before .before .before .before .args .anc))) (effBelowBy (now (c .before .before .before .before .before .before .before .before .before .before .before .before .before .before .before .args .anc))) (now (c .before .before .before .before .before .before .before .before .before .before .before .before .before .before .before .args .types)) (now (c .before .before .before .before .before .before .before .before .before .before .before .before .before .before .before .args .sets)) (c .before .before .before .before .before .before .before .before .before .before .before .before .before .before .before .args .a) (c .before .before .before .before .before .before .before .before .before .before .before .before .before .before .before .args .b) (c .before .before .before .before .before .before .before .before .before .before .before .before .before .before .before .args .d) (c .before .before .before .before .before .before .before .before .before .before .before .before .if1 .left) (c .before .before .before .before .before .before .before .before .before .before .before .word .ensures) (c .before .before .before .before .before .before .before .before .before .before .word2 .ensures)) (c .before .before .before .before .before .before .before .before .before .head-below .ensures) (c .before .before .before .before .before .before .before .before .if2 .taken) (c .before .before .before .before .before .before .before .kind .ensures) (c .before .before .before .first .ensures) (c .before .before .first2 .ensures) (c .before .before .before .before .before .before .match .keys2) (c .before .below .ensures) (c .if4 .left)
+
+-- src/lib.rt:361:45
 below-first-requires-3 : (t : ℕ) → below-lts.Need-first-requires-3 (
   word-reads.Asked,
   word-reads.Learnt,
@@ -1299,6 +1766,10 @@ below-first-requires-3 : (t : ℕ) → below-lts.Need-first-requires-3 (
   head-below-reads.Learnt,
   kind-reads.Asked,
   kind-reads.Learnt,
+  branches-reads.Asked,
+  branches-reads.Learnt,
+  compare-deep-reads.Asked,
+  compare-deep-reads.Learnt,
   first-reads.Asked,
   first-reads.Learnt,
   below-below t,
@@ -1316,7 +1787,7 @@ below-first-requires-3 : (t : ℕ) → below-lts.Need-first-requires-3 (
 ) (below-at t) below.Post
 below-first-requires-3 t c κs = search needs
 
--- src/lib.rt:176:55
+-- src/lib.rt:361:55
 below-first-requires-4 : (t : ℕ) → below-lts.Need-first-requires-4 (
   word-reads.Asked,
   word-reads.Learnt,
@@ -1324,6 +1795,10 @@ below-first-requires-4 : (t : ℕ) → below-lts.Need-first-requires-4 (
   head-below-reads.Learnt,
   kind-reads.Asked,
   kind-reads.Learnt,
+  branches-reads.Asked,
+  branches-reads.Learnt,
+  compare-deep-reads.Asked,
+  compare-deep-reads.Learnt,
   first-reads.Asked,
   first-reads.Learnt,
   below-below t,
@@ -1341,7 +1816,7 @@ below-first-requires-4 : (t : ℕ) → below-lts.Need-first-requires-4 (
 ) (below-at t) below.Post
 below-first-requires-4 t c κs = search needs
 
--- src/lib.rt:176:17
+-- src/lib.rt:361:17
 below-same-requires : (t : ℕ) → below-lts.Need-same-requires (
   word-reads.Asked,
   word-reads.Learnt,
@@ -1349,6 +1824,10 @@ below-same-requires : (t : ℕ) → below-lts.Need-same-requires (
   head-below-reads.Learnt,
   kind-reads.Asked,
   kind-reads.Learnt,
+  branches-reads.Asked,
+  branches-reads.Learnt,
+  compare-deep-reads.Asked,
+  compare-deep-reads.Learnt,
   first-reads.Asked,
   first-reads.Learnt,
   below-below t,
@@ -1366,14 +1845,18 @@ below-same-requires : (t : ℕ) → below-lts.Need-same-requires (
 ) (below-at t) below.Post
 below-same-requires t c κs = search needs
 
--- src/lib.rt:176:17
-below-returns-6 : (t : ℕ) → below-lts.Need-returns-6 (
+-- src/lib.rt:361:17
+below-returns-7 : (t : ℕ) → below-lts.Need-returns-7 (
   word-reads.Asked,
   word-reads.Learnt,
   head-below-reads.Asked,
   head-below-reads.Learnt,
   kind-reads.Asked,
   kind-reads.Learnt,
+  branches-reads.Asked,
+  branches-reads.Learnt,
+  compare-deep-reads.Asked,
+  compare-deep-reads.Learnt,
   first-reads.Asked,
   first-reads.Learnt,
   below-below t,
@@ -1389,9 +1872,97 @@ below-returns-6 : (t : ℕ) → below-lts.Need-returns-6 (
   same-owner-reads.Asked,
   same-owner-reads.Learnt,
 ) (below-at t) below.Post
-below-returns-6 t c = cells (sub-level (belowBy (now (c .before .before .before .before .before .before .before .before .before .before .before .before .args .anc))) (effBelowBy (now (c .before .before .before .before .before .before .before .before .before .before .before .before .args .anc))) (now (c .before .before .before .before .before .before .before .before .before .before .before .before .args .types)) (now (c .before .before .before .before .before .before .before .before .before .before .before .before .args .sets)) (c .before .before .before .before .before .before .before .before .before .before .before .before .args .a) (c .before .before .before .before .before .before .before .before .before .before .before .before .args .b) (c .before .before .before .before .before .before .before .before .before .before .before .before .args .d) (c .before .before .before .before .before .before .before .before .before .if1 .left) (c .before .before .before .before .before .before .before .before .word .ensures) (c .before .before .before .before .before .before .before .word2 .ensures)) (c .before .before .before .before .before .before .head-below .ensures) (c .before .before .before .before .before .if2 .taken) (c .before .before .before .before .kind .ensures) (c .before .before .first3 .ensures) (c .before .first4 .ensures) (c .before .before .before .match .keys3) (c .same .ensures)
+below-returns-7 t c = cells (sub-level (belowBy (now (c .before .before .before .before .before .before .before .before .before .before .before .before .args .anc))) (effBelowBy (now (c .before .before .before .before .before .before .before .before .before .before .before .before .args .anc))) (now (c .before .before .before .before .before .before .before .before .before .before .before .before .args .types)) (now (c .before .before .before .before .before .before .before .before .before .before .before .before .args .sets)) (c .before .before .before .before .before .before .before .before .before .before .before .before .args .a) (c .before .before .before .before .before .before .before .before .before .before .before .before .args .b) (c .before .before .before .before .before .before .before .before .before .before .before .before .args .d) (c .before .before .before .before .before .before .before .before .before .if1 .left) (c .before .before .before .before .before .before .before .before .word .ensures) (c .before .before .before .before .before .before .before .word2 .ensures)) (c .before .before .before .before .before .before .head-below .ensures) (c .before .before .before .before .before .if2 .taken) (c .before .before .before .before .kind .ensures) (c .before .before .first3 .ensures) (c .before .first4 .ensures) (c .before .before .before .match .keys3) (c .same .ensures)
 
--- src/lib.rt:178:43
+-- src/lib.rt:363:16
+below-branches-requires-2 : (t : ℕ) → below-lts.Need-branches-requires-2 (
+  word-reads.Asked,
+  word-reads.Learnt,
+  head-below-reads.Asked,
+  head-below-reads.Learnt,
+  kind-reads.Asked,
+  kind-reads.Learnt,
+  branches-reads.Asked,
+  branches-reads.Learnt,
+  compare-deep-reads.Asked,
+  compare-deep-reads.Learnt,
+  first-reads.Asked,
+  first-reads.Learnt,
+  below-below t,
+  below.Post,
+  second-reads.Asked,
+  second-reads.Learnt,
+  same-reads.Asked,
+  same-reads.Learnt,
+  above-below t,
+  above.Post,
+  eff-below-reads.Asked,
+  eff-below-reads.Learnt,
+  same-owner-reads.Asked,
+  same-owner-reads.Learnt,
+) (below-at t) below.Post
+below-branches-requires-2 t c κs = search needs
+
+-- src/lib.rt:364:17
+below-compare-deep-requires-2 : (t : ℕ) → below-lts.Need-compare-deep-requires-2 (
+  word-reads.Asked,
+  word-reads.Learnt,
+  head-below-reads.Asked,
+  head-below-reads.Learnt,
+  kind-reads.Asked,
+  kind-reads.Learnt,
+  branches-reads.Asked,
+  branches-reads.Learnt,
+  compare-deep-reads.Asked,
+  compare-deep-reads.Learnt,
+  first-reads.Asked,
+  first-reads.Learnt,
+  below-below t,
+  below.Post,
+  second-reads.Asked,
+  second-reads.Learnt,
+  same-reads.Asked,
+  same-reads.Learnt,
+  above-below t,
+  above.Post,
+  eff-below-reads.Asked,
+  eff-below-reads.Learnt,
+  same-owner-reads.Asked,
+  same-owner-reads.Learnt,
+) (below-at t) below.Post
+below-compare-deep-requires-2 t c κs = search needs
+
+-- src/lib.rt:364:17
+below-returns-8 : (t : ℕ) → below-lts.Need-returns-8 (
+  word-reads.Asked,
+  word-reads.Learnt,
+  head-below-reads.Asked,
+  head-below-reads.Learnt,
+  kind-reads.Asked,
+  kind-reads.Learnt,
+  branches-reads.Asked,
+  branches-reads.Learnt,
+  compare-deep-reads.Asked,
+  compare-deep-reads.Learnt,
+  first-reads.Asked,
+  first-reads.Learnt,
+  below-below t,
+  below.Post,
+  second-reads.Asked,
+  second-reads.Learnt,
+  same-reads.Asked,
+  same-reads.Learnt,
+  above-below t,
+  above.Post,
+  eff-below-reads.Asked,
+  eff-below-reads.Learnt,
+  same-owner-reads.Asked,
+  same-owner-reads.Learnt,
+) (below-at t) below.Post
+unfolding comparedIn pick
+below-returns-8 t c = c .compare-deep2 .ensures
+
+-- src/lib.rt:366:43
 below-first-requires-5 : (t : ℕ) → below-lts.Need-first-requires-5 (
   word-reads.Asked,
   word-reads.Learnt,
@@ -1399,6 +1970,10 @@ below-first-requires-5 : (t : ℕ) → below-lts.Need-first-requires-5 (
   head-below-reads.Learnt,
   kind-reads.Asked,
   kind-reads.Learnt,
+  branches-reads.Asked,
+  branches-reads.Learnt,
+  compare-deep-reads.Asked,
+  compare-deep-reads.Learnt,
   first-reads.Asked,
   first-reads.Learnt,
   below-below t,
@@ -1416,7 +1991,7 @@ below-first-requires-5 : (t : ℕ) → below-lts.Need-first-requires-5 (
 ) (below-at t) below.Post
 below-first-requires-5 t c κs = search needs
 
--- src/lib.rt:178:53
+-- src/lib.rt:366:53
 below-first-requires-6 : (t : ℕ) → below-lts.Need-first-requires-6 (
   word-reads.Asked,
   word-reads.Learnt,
@@ -1424,6 +1999,10 @@ below-first-requires-6 : (t : ℕ) → below-lts.Need-first-requires-6 (
   head-below-reads.Learnt,
   kind-reads.Asked,
   kind-reads.Learnt,
+  branches-reads.Asked,
+  branches-reads.Learnt,
+  compare-deep-reads.Asked,
+  compare-deep-reads.Learnt,
   first-reads.Asked,
   first-reads.Learnt,
   below-below t,
@@ -1441,7 +2020,7 @@ below-first-requires-6 : (t : ℕ) → below-lts.Need-first-requires-6 (
 ) (below-at t) below.Post
 below-first-requires-6 t c κs = search needs
 
--- src/lib.rt:178:16
+-- src/lib.rt:366:16
 below-above-requires : (t : ℕ) → below-lts.Need-above-requires (
   word-reads.Asked,
   word-reads.Learnt,
@@ -1449,6 +2028,10 @@ below-above-requires : (t : ℕ) → below-lts.Need-above-requires (
   head-below-reads.Learnt,
   kind-reads.Asked,
   kind-reads.Learnt,
+  branches-reads.Asked,
+  branches-reads.Learnt,
+  compare-deep-reads.Asked,
+  compare-deep-reads.Learnt,
   first-reads.Asked,
   first-reads.Learnt,
   below-below t,
@@ -1466,7 +2049,7 @@ below-above-requires : (t : ℕ) → below-lts.Need-above-requires (
 ) (below-at t) below.Post
 below-above-requires t c κs = (omega arith, tt)
 
--- src/lib.rt:179:47
+-- src/lib.rt:367:47
 below-second-requires-3 : (t : ℕ) → below-lts.Need-second-requires-3 (
   word-reads.Asked,
   word-reads.Learnt,
@@ -1474,6 +2057,10 @@ below-second-requires-3 : (t : ℕ) → below-lts.Need-second-requires-3 (
   head-below-reads.Learnt,
   kind-reads.Asked,
   kind-reads.Learnt,
+  branches-reads.Asked,
+  branches-reads.Learnt,
+  compare-deep-reads.Asked,
+  compare-deep-reads.Learnt,
   first-reads.Asked,
   first-reads.Learnt,
   below-below t,
@@ -1491,7 +2078,7 @@ below-second-requires-3 : (t : ℕ) → below-lts.Need-second-requires-3 (
 ) (below-at t) below.Post
 below-second-requires-3 t c κs = search needs
 
--- src/lib.rt:179:58
+-- src/lib.rt:367:58
 below-second-requires-4 : (t : ℕ) → below-lts.Need-second-requires-4 (
   word-reads.Asked,
   word-reads.Learnt,
@@ -1499,6 +2086,10 @@ below-second-requires-4 : (t : ℕ) → below-lts.Need-second-requires-4 (
   head-below-reads.Learnt,
   kind-reads.Asked,
   kind-reads.Learnt,
+  branches-reads.Asked,
+  branches-reads.Learnt,
+  compare-deep-reads.Asked,
+  compare-deep-reads.Learnt,
   first-reads.Asked,
   first-reads.Learnt,
   below-below t,
@@ -1516,7 +2107,7 @@ below-second-requires-4 : (t : ℕ) → below-lts.Need-second-requires-4 (
 ) (below-at t) below.Post
 below-second-requires-4 t c κs = search needs
 
--- src/lib.rt:179:20
+-- src/lib.rt:367:20
 below-below-requires-3 : (t : ℕ) → below-lts.Need-below-requires-3 (
   word-reads.Asked,
   word-reads.Learnt,
@@ -1524,6 +2115,10 @@ below-below-requires-3 : (t : ℕ) → below-lts.Need-below-requires-3 (
   head-below-reads.Learnt,
   kind-reads.Asked,
   kind-reads.Learnt,
+  branches-reads.Asked,
+  branches-reads.Learnt,
+  compare-deep-reads.Asked,
+  compare-deep-reads.Learnt,
   first-reads.Asked,
   first-reads.Learnt,
   below-below t,
@@ -1541,7 +2136,7 @@ below-below-requires-3 : (t : ℕ) → below-lts.Need-below-requires-3 (
 ) (below-at t) below.Post
 below-below-requires-3 t c κs = (omega arith, tt)
 
--- src/lib.rt:180:50
+-- src/lib.rt:368:50
 below-word-requires-3 : (t : ℕ) → below-lts.Need-word-requires-3 (
   word-reads.Asked,
   word-reads.Learnt,
@@ -1549,6 +2144,10 @@ below-word-requires-3 : (t : ℕ) → below-lts.Need-word-requires-3 (
   head-below-reads.Learnt,
   kind-reads.Asked,
   kind-reads.Learnt,
+  branches-reads.Asked,
+  branches-reads.Learnt,
+  compare-deep-reads.Asked,
+  compare-deep-reads.Learnt,
   first-reads.Asked,
   first-reads.Learnt,
   below-below t,
@@ -1566,7 +2165,7 @@ below-word-requires-3 : (t : ℕ) → below-lts.Need-word-requires-3 (
 ) (below-at t) below.Post
 below-word-requires-3 t c κs = search needs
 
--- src/lib.rt:180:65
+-- src/lib.rt:368:65
 below-word-requires-4 : (t : ℕ) → below-lts.Need-word-requires-4 (
   word-reads.Asked,
   word-reads.Learnt,
@@ -1574,6 +2173,10 @@ below-word-requires-4 : (t : ℕ) → below-lts.Need-word-requires-4 (
   head-below-reads.Learnt,
   kind-reads.Asked,
   kind-reads.Learnt,
+  branches-reads.Asked,
+  branches-reads.Learnt,
+  compare-deep-reads.Asked,
+  compare-deep-reads.Learnt,
   first-reads.Asked,
   first-reads.Learnt,
   below-below t,
@@ -1591,7 +2194,7 @@ below-word-requires-4 : (t : ℕ) → below-lts.Need-word-requires-4 (
 ) (below-at t) below.Post
 below-word-requires-4 t c κs = search needs
 
--- src/lib.rt:180:21
+-- src/lib.rt:368:21
 below-eff-below-requires : (t : ℕ) → below-lts.Need-eff-below-requires (
   word-reads.Asked,
   word-reads.Learnt,
@@ -1599,6 +2202,10 @@ below-eff-below-requires : (t : ℕ) → below-lts.Need-eff-below-requires (
   head-below-reads.Learnt,
   kind-reads.Asked,
   kind-reads.Learnt,
+  branches-reads.Asked,
+  branches-reads.Learnt,
+  compare-deep-reads.Asked,
+  compare-deep-reads.Learnt,
   first-reads.Asked,
   first-reads.Learnt,
   below-below t,
@@ -1616,57 +2223,7 @@ below-eff-below-requires : (t : ℕ) → below-lts.Need-eff-below-requires (
 ) (below-at t) below.Post
 below-eff-below-requires t c κs = search needs
 
--- src/lib.rt:180:21
-below-returns-7 : (t : ℕ) → below-lts.Need-returns-7 (
-  word-reads.Asked,
-  word-reads.Learnt,
-  head-below-reads.Asked,
-  head-below-reads.Learnt,
-  kind-reads.Asked,
-  kind-reads.Learnt,
-  first-reads.Asked,
-  first-reads.Learnt,
-  below-below t,
-  below.Post,
-  second-reads.Asked,
-  second-reads.Learnt,
-  same-reads.Asked,
-  same-reads.Learnt,
-  above-below t,
-  above.Post,
-  eff-below-reads.Asked,
-  eff-below-reads.Learnt,
-  same-owner-reads.Asked,
-  same-owner-reads.Learnt,
-) (below-at t) below.Post
-below-returns-7 t c = functions (sub-level (belowBy (now (c .before .before .before .before .before .before .before .before .before .before .before .before .before .before .before .before .before .before .before .before .args .anc))) (effBelowBy (now (c .before .before .before .before .before .before .before .before .before .before .before .before .before .before .before .before .before .before .before .before .args .anc))) (now (c .before .before .before .before .before .before .before .before .before .before .before .before .before .before .before .before .before .before .before .before .args .types)) (now (c .before .before .before .before .before .before .before .before .before .before .before .before .before .before .before .before .before .before .before .before .args .sets)) (c .before .before .before .before .before .before .before .before .before .before .before .before .before .before .before .before .before .before .before .before .args .a) (c .before .before .before .before .before .before .before .before .before .before .before .before .before .before .before .before .before .before .before .before .args .b) (c .before .before .before .before .before .before .before .before .before .before .before .before .before .before .before .before .before .before .before .before .args .d) (c .before .before .before .before .before .before .before .before .before .before .before .before .before .before .before .before .before .if1 .left) (c .before .before .before .before .before .before .before .before .before .before .before .before .before .before .before .before .word .ensures) (c .before .before .before .before .before .before .before .before .before .before .before .before .before .before .before .word2 .ensures)) (c .before .before .before .before .before .before .before .before .before .before .before .before .before .before .head-below .ensures) (c .before .before .before .before .before .before .before .before .before .before .before .before .before .if2 .taken) (c .before .before .before .before .before .before .before .before .before .before .before .before .kind .ensures) (c .before .before .before .before .before .before .before .before .before .before .first5 .ensures) (c .before .before .before .before .before .before .before .before .before .first6 .ensures) (c .before .before .before .before .before .before .second3 .ensures) (c .before .before .before .before .before .second4 .ensures) (c .before .before .before .before .before .before .before .before .before .before .before .match .keys4) (c .before .before .before .before .before .before .before .before .above .ensures) (c .before .before .before .before .before .before .before .if4 .taken) (c .before .before .before .before .below3 .ensures) (c .before .before .before .if5 .taken) (c .before .before .word3 .ensures) (c .before .word4 .ensures) (c .eff-below .ensures)
-
--- src/lib.rt:183:13
-below-returns-8 : (t : ℕ) → below-lts.Need-returns-8 (
-  word-reads.Asked,
-  word-reads.Learnt,
-  head-below-reads.Asked,
-  head-below-reads.Learnt,
-  kind-reads.Asked,
-  kind-reads.Learnt,
-  first-reads.Asked,
-  first-reads.Learnt,
-  below-below t,
-  below.Post,
-  second-reads.Asked,
-  second-reads.Learnt,
-  same-reads.Asked,
-  same-reads.Learnt,
-  above-below t,
-  above.Post,
-  eff-below-reads.Asked,
-  eff-below-reads.Learnt,
-  same-owner-reads.Asked,
-  same-owner-reads.Learnt,
-) (below-at t) below.Post
-below-returns-8 t c = functions-second (sub-level (belowBy (now (c .before .before .before .before .before .before .before .before .before .before .before .before .before .before .before .before .before .args .anc))) (effBelowBy (now (c .before .before .before .before .before .before .before .before .before .before .before .before .before .before .before .before .before .args .anc))) (now (c .before .before .before .before .before .before .before .before .before .before .before .before .before .before .before .before .before .args .types)) (now (c .before .before .before .before .before .before .before .before .before .before .before .before .before .before .before .before .before .args .sets)) (c .before .before .before .before .before .before .before .before .before .before .before .before .before .before .before .before .before .args .a) (c .before .before .before .before .before .before .before .before .before .before .before .before .before .before .before .before .before .args .b) (c .before .before .before .before .before .before .before .before .before .before .before .before .before .before .before .before .before .args .d) (c .before .before .before .before .before .before .before .before .before .before .before .before .before .before .if1 .left) (c .before .before .before .before .before .before .before .before .before .before .before .before .before .word .ensures) (c .before .before .before .before .before .before .before .before .before .before .before .before .word2 .ensures)) (c .before .before .before .before .before .before .before .before .before .before .before .head-below .ensures) (c .before .before .before .before .before .before .before .before .before .before .if2 .taken) (c .before .before .before .before .before .before .before .before .before .kind .ensures) (c .before .before .before .before .before .before .before .first5 .ensures) (c .before .before .before .before .before .before .first6 .ensures) (c .before .before .before .second3 .ensures) (c .before .before .second4 .ensures) (c .before .before .before .before .before .before .before .before .match .keys4) (c .before .before .before .before .before .above .ensures) (c .before .before .before .before .if4 .taken) (c .before .below3 .ensures) (c .if5 .left)
-
--- src/lib.rt:183:13
+-- src/lib.rt:368:21
 below-returns-9 : (t : ℕ) → below-lts.Need-returns-9 (
   word-reads.Asked,
   word-reads.Learnt,
@@ -1674,6 +2231,10 @@ below-returns-9 : (t : ℕ) → below-lts.Need-returns-9 (
   head-below-reads.Learnt,
   kind-reads.Asked,
   kind-reads.Learnt,
+  branches-reads.Asked,
+  branches-reads.Learnt,
+  compare-deep-reads.Asked,
+  compare-deep-reads.Learnt,
   first-reads.Asked,
   first-reads.Learnt,
   below-below t,
@@ -1689,9 +2250,67 @@ below-returns-9 : (t : ℕ) → below-lts.Need-returns-9 (
   same-owner-reads.Asked,
   same-owner-reads.Learnt,
 ) (below-at t) below.Post
-below-returns-9 t c = functions-first (sub-level (belowBy (now (c .before .before .before .before .before .before .before .before .before .before .before .before .before .args .anc))) (effBelowBy (now (c .before .before .before .before .before .before .before .before .before .before .before .before .before .args .anc))) (now (c .before .before .before .before .before .before .before .before .before .before .before .before .before .args .types)) (now (c .before .before .before .before .before .before .before .before .before .before .before .before .before .args .sets)) (c .before .before .before .before .before .before .before .before .before .before .before .before .before .args .a) (c .before .before .before .before .before .before .before .before .before .before .before .before .before .args .b) (c .before .before .before .before .before .before .before .before .before .before .before .before .before .args .d) (c .before .before .before .before .before .before .before .before .before .before .if1 .left) (c .before .before .before .before .before .before .before .before .before .word .ensures) (c .before .before .before .before .before .before .before .before .word2 .ensures)) (c .before .before .before .before .before .before .before .head-below .ensures) (c .before .before .before .before .before .before .if2 .taken) (c .before .before .before .before .before .kind .ensures) (c .before .before .before .first5 .ensures) (c .before .before .first6 .ensures) (c .before .before .before .before .match .keys4) (c .before .above .ensures) (c .if4 .left)
+below-returns-9 t c = functions (sub-level (belowBy (now (c .before .before .before .before .before .before .before .before .before .before .before .before .before .before .before .before .before .before .before .before .before .before .args .anc))) (effBelowBy (now (c .before .before .before .before .before .before .before .before .before .before .before .before .before .before .before .before .before .before .before .before .before .before .args .anc))) (now (c .before .before .before .before .before .before .before .before .before .before .before .before .before .before .before .before .before .before .before .before .before .before .args .types)) (now (c .before .before .before .before .before .before .before .before .before .before .before .before .before .before .before .before .before .before .before .before .before .before .args .sets)) (c .before .before .before .before .before .before .before .before .before .before .before .before .before .before .before .before .before .before .before .before .before .before .args .a) (c .before .before .before .before .before .before .before .before .before .before .before .before .before .before .before .before .before .before .before .before .before .before .args .b) (c .before .before .before .before .before .before .before .before .before .before .before .before .before .before .before .before .before .before .before .before .before .before .args .d) (c .before .before .before .before .before .before .before .before .before .before .before .before .before .before .before .before .before .before .before .if1 .left) (c .before .before .before .before .before .before .before .before .before .before .before .before .before .before .before .before .before .before .word .ensures) (c .before .before .before .before .before .before .before .before .before .before .before .before .before .before .before .before .before .word2 .ensures)) (c .before .before .before .before .before .before .before .before .before .before .before .before .before .before .before .before .head-below .ensures) (c .before .before .before .before .before .before .before .before .before .before .before .before .before .before .before .if2 .taken) (c .before .before .before .before .before .before .before .before .before .before .before .before .before .before .kind .ensures) (c .before .before .before .before .before .before .before .before .before .before .first5 .ensures) (c .before .before .before .before .before .before .before .before .before .first6 .ensures) (c .before .before .before .before .before .before .second3 .ensures) (c .before .before .before .before .before .second4 .ensures) (c .before .before .before .before .before .before .before .before .before .before .before .before .before .match .keys4) (c .before .before .before .before .before .before .before .before .above .ensures) (c .before .before .before .before .before .before .before .if6 .taken) (c .before .before .before .before .below3 .ensures) (c .before .before .before .if7 .taken) (c .before .before .word3 .ensures) (c .before .word4 .ensures) (c .eff-below .ensures)
 
--- src/lib.rt:185:14
+-- src/lib.rt:371:13
+below-returns-10 : (t : ℕ) → below-lts.Need-returns-10 (
+  word-reads.Asked,
+  word-reads.Learnt,
+  head-below-reads.Asked,
+  head-below-reads.Learnt,
+  kind-reads.Asked,
+  kind-reads.Learnt,
+  branches-reads.Asked,
+  branches-reads.Learnt,
+  compare-deep-reads.Asked,
+  compare-deep-reads.Learnt,
+  first-reads.Asked,
+  first-reads.Learnt,
+  below-below t,
+  below.Post,
+  second-reads.Asked,
+  second-reads.Learnt,
+  same-reads.Asked,
+  same-reads.Learnt,
+  above-below t,
+  above.Post,
+  eff-below-reads.Asked,
+  eff-below-reads.Learnt,
+  same-owner-reads.Asked,
+  same-owner-reads.Learnt,
+) (below-at t) below.Post
+below-returns-10 t c = functions-second (sub-level (belowBy (now (c .before .before .before .before .before .before .before .before .before .before .before .before .before .before .before .before .before .before .before .args .anc))) (effBelowBy (now (c .before .before .before .before .before .before .before .before .before .before .before .before .before .before .before .before .before .before .before .args .anc))) (now (c .before .before .before .before .before .before .before .before .before .before .before .before .before .before .before .before .before .before .before .args .types)) (now (c .before .before .before .before .before .before .before .before .before .before .before .before .before .before .before .before .before .before .before .args .sets)) (c .before .before .before .before .before .before .before .before .before .before .before .before .before .before .before .before .before .before .before .args .a) (c .before .before .before .before .before .before .before .before .before .before .before .before .before .before .before .before .before .before .before .args .b) (c .before .before .before .before .before .before .before .before .before .before .before .before .before .before .before .before .before .before .before .args .d) (c .before .before .before .before .before .before .before .before .before .before .before .before .before .before .before .before .if1 .left) (c .before .before .before .before .before .before .before .before .before .before .before .before .before .before .before .word .ensures) (c .before .before .before .before .before .before .before .before .before .before .before .before .before .before .word2 .ensures)) (c .before .before .before .before .before .before .before .before .before .before .before .before .before .head-below .ensures) (c .before .before .before .before .before .before .before .before .before .before .before .before .if2 .taken) (c .before .before .before .before .before .before .before .before .before .before .before .kind .ensures) (c .before .before .before .before .before .before .before .first5 .ensures) (c .before .before .before .before .before .before .first6 .ensures) (c .before .before .before .second3 .ensures) (c .before .before .second4 .ensures) (c .before .before .before .before .before .before .before .before .before .before .match .keys4) (c .before .before .before .before .before .above .ensures) (c .before .before .before .before .if6 .taken) (c .before .below3 .ensures) (c .if7 .left)
+
+-- src/lib.rt:371:13
+below-returns-11 : (t : ℕ) → below-lts.Need-returns-11 (
+  word-reads.Asked,
+  word-reads.Learnt,
+  head-below-reads.Asked,
+  head-below-reads.Learnt,
+  kind-reads.Asked,
+  kind-reads.Learnt,
+  branches-reads.Asked,
+  branches-reads.Learnt,
+  compare-deep-reads.Asked,
+  compare-deep-reads.Learnt,
+  first-reads.Asked,
+  first-reads.Learnt,
+  below-below t,
+  below.Post,
+  second-reads.Asked,
+  second-reads.Learnt,
+  same-reads.Asked,
+  same-reads.Learnt,
+  above-below t,
+  above.Post,
+  eff-below-reads.Asked,
+  eff-below-reads.Learnt,
+  same-owner-reads.Asked,
+  same-owner-reads.Learnt,
+) (below-at t) below.Post
+below-returns-11 t c = functions-first (sub-level (belowBy (now (c .before .before .before .before .before .before .before .before .before .before .before .before .before .before .before .args .anc))) (effBelowBy (now (c .before .before .before .before .before .before .before .before .before .before .before .before .before .before .before .args .anc))) (now (c .before .before .before .before .before .before .before .before .before .before .before .before .before .before .before .args .types)) (now (c .before .before .before .before .before .before .before .before .before .before .before .before .before .before .before .args .sets)) (c .before .before .before .before .before .before .before .before .before .before .before .before .before .before .before .args .a) (c .before .before .before .before .before .before .before .before .before .before .before .before .before .before .before .args .b) (c .before .before .before .before .before .before .before .before .before .before .before .before .before .before .before .args .d) (c .before .before .before .before .before .before .before .before .before .before .before .before .if1 .left) (c .before .before .before .before .before .before .before .before .before .before .before .word .ensures) (c .before .before .before .before .before .before .before .before .before .before .word2 .ensures)) (c .before .before .before .before .before .before .before .before .before .head-below .ensures) (c .before .before .before .before .before .before .before .before .if2 .taken) (c .before .before .before .before .before .before .before .kind .ensures) (c .before .before .before .first5 .ensures) (c .before .before .first6 .ensures) (c .before .before .before .before .before .before .match .keys4) (c .before .above .ensures) (c .if6 .left)
+
+-- src/lib.rt:373:14
 below-same-owner-requires : (t : ℕ) → below-lts.Need-same-owner-requires (
   word-reads.Asked,
   word-reads.Learnt,
@@ -1699,6 +2318,10 @@ below-same-owner-requires : (t : ℕ) → below-lts.Need-same-owner-requires (
   head-below-reads.Learnt,
   kind-reads.Asked,
   kind-reads.Learnt,
+  branches-reads.Asked,
+  branches-reads.Learnt,
+  compare-deep-reads.Asked,
+  compare-deep-reads.Learnt,
   first-reads.Asked,
   first-reads.Learnt,
   below-below t,
@@ -1716,14 +2339,18 @@ below-same-owner-requires : (t : ℕ) → below-lts.Need-same-owner-requires (
 ) (below-at t) below.Post
 below-same-owner-requires t c κs = search needs
 
--- src/lib.rt:185:14
-below-returns-10 : (t : ℕ) → below-lts.Need-returns-10 (
+-- src/lib.rt:373:14
+below-returns-12 : (t : ℕ) → below-lts.Need-returns-12 (
   word-reads.Asked,
   word-reads.Learnt,
   head-below-reads.Asked,
   head-below-reads.Learnt,
   kind-reads.Asked,
   kind-reads.Learnt,
+  branches-reads.Asked,
+  branches-reads.Learnt,
+  compare-deep-reads.Asked,
+  compare-deep-reads.Learnt,
   first-reads.Asked,
   first-reads.Learnt,
   below-below t,
@@ -1739,7 +2366,7 @@ below-returns-10 : (t : ℕ) → below-lts.Need-returns-10 (
   same-owner-reads.Asked,
   same-owner-reads.Learnt,
 ) (below-at t) below.Post
-below-returns-10 t c = keys (sub-level (belowBy (now (c .before .before .before .before .before .before .before .before .before .before .args .anc))) (effBelowBy (now (c .before .before .before .before .before .before .before .before .before .before .args .anc))) (now (c .before .before .before .before .before .before .before .before .before .before .args .types)) (now (c .before .before .before .before .before .before .before .before .before .before .args .sets)) (c .before .before .before .before .before .before .before .before .before .before .args .a) (c .before .before .before .before .before .before .before .before .before .before .args .b) (c .before .before .before .before .before .before .before .before .before .before .args .d) (c .before .before .before .before .before .before .before .if1 .left) (c .before .before .before .before .before .before .word .ensures) (c .before .before .before .before .before .word2 .ensures)) (c .before .before .before .before .head-below .ensures) (c .before .before .before .if2 .taken) (c .before .before .kind .ensures) (c .before .match .rest .0 .0 .0 .1) (c .before .match .rest .0 .0 .1) (c .before .match .rest .0 .1) (c .before .match .rest .1) (c .same-owner .ensures)
+below-returns-12 t c = keys (sub-level (belowBy (now (c .before .before .before .before .before .before .before .before .before .before .args .anc))) (effBelowBy (now (c .before .before .before .before .before .before .before .before .before .before .args .anc))) (now (c .before .before .before .before .before .before .before .before .before .before .args .types)) (now (c .before .before .before .before .before .before .before .before .before .before .args .sets)) (c .before .before .before .before .before .before .before .before .before .before .args .a) (c .before .before .before .before .before .before .before .before .before .before .args .b) (c .before .before .before .before .before .before .before .before .before .before .args .d) (c .before .before .before .before .before .before .before .if1 .left) (c .before .before .before .before .before .before .word .ensures) (c .before .before .before .before .before .word2 .ensures)) (c .before .before .before .before .head-below .ensures) (c .before .before .before .if2 .taken) (c .before .before .kind .ensures) (c .before .match .rest .0 .0 .0 .1) (c .before .match .rest .0 .0 .1) (c .before .match .rest .0 .1) (c .before .match .rest .1) (c .same-owner .ensures)
 
 pub +above+below-spec : {M : Type 1} → statement M
 +above+below-spec = close μ-above μ-below (λ t. above-lts.spec (
@@ -1749,6 +2376,10 @@ pub +above+below-spec : {M : Type 1} → statement M
   head-below-reads.Learnt,
   kind-reads.Asked,
   kind-reads.Learnt,
+  branches-reads.Asked,
+  branches-reads.Learnt,
+  compare-deep-reads.Asked,
+  compare-deep-reads.Learnt,
   first-reads.Asked,
   first-reads.Learnt,
   above-below t,
@@ -1774,18 +2405,24 @@ pub +above+below-spec : {M : Type 1} → statement M
     (above-returns-2 t)
     (above-kind-requires t)
     (above-returns-3 t)
+    (above-branches-requires t)
+    (above-compare-deep-requires t)
+    (above-returns-4 t)
     (above-first-requires t)
     (above-first-requires-2 t)
     (above-above-requires t)
     (above-second-requires t)
     (above-second-requires-2 t)
     (above-above-requires-2 t)
-    (above-returns-4 t)
     (above-returns-5 t)
+    (above-returns-6 t)
     (above-first-requires-3 t)
     (above-first-requires-4 t)
     (above-same-requires t)
-    (above-returns-6 t)
+    (above-returns-7 t)
+    (above-branches-requires-2 t)
+    (above-compare-deep-requires-2 t)
+    (above-returns-8 t)
     (above-first-requires-5 t)
     (above-first-requires-6 t)
     (above-below-requires t)
@@ -1795,11 +2432,11 @@ pub +above+below-spec : {M : Type 1} → statement M
     (above-word-requires-3 t)
     (above-word-requires-4 t)
     (above-eff-below-requires t)
-    (above-returns-7 t)
-    (above-returns-8 t)
     (above-returns-9 t)
+    (above-returns-10 t)
+    (above-returns-11 t)
     (above-same-owner-requires t)
-    (above-returns-10 t))
+    (above-returns-12 t))
     λ t. below-lts.spec (
       word-reads.Asked,
       word-reads.Learnt,
@@ -1807,6 +2444,10 @@ pub +above+below-spec : {M : Type 1} → statement M
       head-below-reads.Learnt,
       kind-reads.Asked,
       kind-reads.Learnt,
+      branches-reads.Asked,
+      branches-reads.Learnt,
+      compare-deep-reads.Asked,
+      compare-deep-reads.Learnt,
       first-reads.Asked,
       first-reads.Learnt,
       below-below t,
@@ -1832,18 +2473,24 @@ pub +above+below-spec : {M : Type 1} → statement M
     (below-returns-2 t)
     (below-kind-requires t)
     (below-returns-3 t)
+    (below-branches-requires t)
+    (below-compare-deep-requires t)
+    (below-returns-4 t)
     (below-first-requires t)
     (below-first-requires-2 t)
     (below-below-requires t)
     (below-second-requires t)
     (below-second-requires-2 t)
     (below-below-requires-2 t)
-    (below-returns-4 t)
     (below-returns-5 t)
+    (below-returns-6 t)
     (below-first-requires-3 t)
     (below-first-requires-4 t)
     (below-same-requires t)
-    (below-returns-6 t)
+    (below-returns-7 t)
+    (below-branches-requires-2 t)
+    (below-compare-deep-requires-2 t)
+    (below-returns-8 t)
     (below-first-requires-5 t)
     (below-first-requires-6 t)
     (below-above-requires t)
@@ -1853,8 +2500,8 @@ pub +above+below-spec : {M : Type 1} → statement M
     (below-word-requires-3 t)
     (below-word-requires-4 t)
     (below-eff-below-requires t)
-    (below-returns-7 t)
-    (below-returns-8 t)
     (below-returns-9 t)
-    (below-same-owner-requires t)
     (below-returns-10 t)
+    (below-returns-11 t)
+    (below-same-owner-requires t)
+    (below-returns-12 t)

@@ -62,8 +62,8 @@ at16-requires-2 c κs = search needs
 go-requires : tie.Need-go-requires
 go-requires c κs = search needs
 
-cast-t35 : tie.Need-cast-t35
-cast-t35 c = search needs
+cast-unkeyed : tie.Need-cast-unkeyed
+cast-unkeyed c = search needs
 
 unkeyed-requires-2 : tie.Need-unkeyed-requires-2
 unkeyed-requires-2 c κs = search needs
@@ -73,7 +73,7 @@ give-requires-2 c κs = search needs
 
 returns-2 : tie.Need-returns-2
 unfolding codeIn decode enterCmd
-returns-2 c = λ w. simp (← c .before .before .before .before .before .before .at64 .ensures, c .before .before .match .keys1) (gave-new (view (c .before .before .before .before .before .before .before .before .before .before .args .self) (putBindings (putFunctions (putFrames w (now (c .before .before .before .before .before .before .before .before .before .before .args .frames))) (now (c .before .before .before .before .before .before .before .before .before .before .args .functions))) (now (c .before .before .before .before .before .before .before .before .before .before .args .bindings)))) (c .before .before .before .before .before .before .before .before .before .before .args .self) (putBindings (putFunctions (putFrames w (now (c .before .before .before .before .before .before .before .before .before .before .args .frames))) (now (c .before .before .before .before .before .before .before .before .before .before .args .functions))) (now (c .before .before .before .before .before .before .before .before .before .before .args .bindings))) _ _ (c .before .unkeyed .ensures) (c .give .ensures) refl)
+returns-2 c = λ w. simp (← c .before .before .before .before .before .before .at64 .ensures, c .before .before .match .keys1) (gave-new (view (c .before .before .before .before .before .before .before .before .before .before .args .self) (putBindings (putFunctions (putFrames w (now (c .before .before .before .before .before .before .before .before .before .before .args .frames))) (now (c .before .before .before .before .before .before .before .before .before .before .args .functions))) (now (c .before .before .before .before .before .before .before .before .before .before .args .bindings)))) (c .before .before .before .before .before .before .before .before .before .before .args .self) (putBindings (putFunctions (putFrames w (now (c .before .before .before .before .before .before .before .before .before .before .args .frames))) (now (c .before .before .before .before .before .before .before .before .before .before .args .functions))) (now (c .before .before .before .before .before .before .before .before .before .before .args .bindings))) _ _ _ (c .before .unkeyed .ensures) (c .give .ensures) refl)
 
 returns-3 : tie.Need-returns-3
 unfolding codeIn decode enterCmd
@@ -89,7 +89,7 @@ returns-5 c = λ w. goes (view (c .before .before .before .before .before .befor
 
 returns-6 : tie.Need-returns-6
 unfolding enterCmd
-returns-6 c = λ w. gave-new _ _ _ _ _ (c .before .unkeyed2 .ensures) (c .give2 .ensures) (ap (λ k. enterCmd (c .before .before .before .before .before .before .before .before .before .before .args .e .0) k (view (c .before .before .before .before .before .before .before .before .before .before .args .self) (putBindings (putFunctions (putFrames w (now (c .before .before .before .before .before .before .before .before .before .before .args .frames))) (now (c .before .before .before .before .before .before .before .before .before .before .args .functions))) (now (c .before .before .before .before .before .before .before .before .before .before .args .bindings))))) (code-number (now (c .before .before .before .before .before .before .before .before .before .before .args .heads)) (now (c .before .before .before .before .before .before .before .before .before .before .args .slots)) (c .before .before .before .before .before .before .before .before .before .before .args .e .0) _ (c .before .before .before .before .before .before .at64 .ensures) _ (c .before .before .before .before .need .ensures) (c .before .before .before .if1 .left) (c .before .before .match .rest .0 .0 .0 .1) (c .before .before .match .rest .0 .0 .1) (c .before .before .match .rest .0 .1) (c .before .before .match .rest .1)))
+returns-6 c = λ w. gave-new _ _ _ _ _ _ (c .before .unkeyed2 .ensures) (c .give2 .ensures) (ap (λ k. enterCmd (c .before .before .before .before .before .before .before .before .before .before .args .e .0) k (view (c .before .before .before .before .before .before .before .before .before .before .args .self) (putBindings (putFunctions (putFrames w (now (c .before .before .before .before .before .before .before .before .before .before .args .frames))) (now (c .before .before .before .before .before .before .before .before .before .before .args .functions))) (now (c .before .before .before .before .before .before .before .before .before .before .args .bindings))))) (code-number (now (c .before .before .before .before .before .before .before .before .before .before .args .heads)) (now (c .before .before .before .before .before .before .before .before .before .before .args .slots)) (c .before .before .before .before .before .before .before .before .before .before .args .e .0) _ (c .before .before .before .before .before .before .at64 .ensures) _ (c .before .before .before .before .need .ensures) (c .before .before .before .if1 .left) (c .before .before .match .rest .0 .0 .0 .1) (c .before .before .match .rest .0 .0 .1) (c .before .before .match .rest .0 .1) (c .before .before .match .rest .1)))
 
 pub enter-spec : {M : Type 1} → statement M
 enter-spec =
@@ -112,7 +112,7 @@ enter-spec =
     add-at16
     at16-requires-2
     go-requires
-    cast-t35
+    cast-unkeyed
     unkeyed-requires-2
     give-requires-2
     returns-2

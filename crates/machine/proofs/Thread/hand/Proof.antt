@@ -14,6 +14,9 @@ use Rattle.machine.proofs.Thread.hand.Tie as tie
 cap-requires : tie.Need-cap-requires
 cap-requires c κs = search needs
 
+cast-n : tie.Need-cast-n
+cast-n c = search needs
+
 stop-requires : tie.Need-stop-requires
 stop-requires c κs = search needs
 
@@ -76,6 +79,7 @@ hand-spec =
     tie.close
     (tie.spec
     cap-requires
+    cast-n
     stop-requires
     returns
     sub-top

@@ -5,6 +5,9 @@ use borrow.Author.Needs.{needs}
 use Rattle.machine.proofs.Thread.push.Statement.{statement}
 use Rattle.machine.proofs.Thread.push.Tie as tie
 
+cast-put-fresh : tie.Need-cast-put-fresh
+cast-put-fresh c = search needs
+
 put-fresh-requires : tie.Need-put-fresh-requires
 put-fresh-requires c κs = search needs
 
@@ -25,4 +28,12 @@ returns-2 c = λ w. is-full _ _ _ (c .stop .ensures) (push-full (c .before .befo
 
 pub push-spec : {M : Type 1} → statement M
 push-spec =
-    tie.close (tie.spec put-fresh-requires add-next go-requires stop-requires returns returns-2)
+    tie.close
+    (tie.spec
+    cast-put-fresh
+    put-fresh-requires
+    add-next
+    go-requires
+    stop-requires
+    returns
+    returns-2)
