@@ -14,9 +14,9 @@ use Rattle.syntax.specs.Reading.{Refusal, Read, refused, read, reading}
 use Rattle.syntax.specs.ReadLaws.{JobOk, read-ok}
 use Rattle.syntax.specs.Words.{codeIn, filled, nameWords, typeWords, valueWords, headWords, slotWords, typeWord, valueWord}
 use Rattle.syntax.specs.WordLaws.{Bytes, JobFits, job-fits, code-back, word-at}
-use Rattle.typing.specs.Layout.{Points, new, old, Layout, point, pointsTo, lay, layoutOf}
+use Rattle.typing.specs.Layout.{Points, new, old, Layout, point, pointsTo, layoutFrom, layoutOf}
 use Rattle.typing.specs.Verdict.{Verdict, accept, refuse, verdictOf}
-use Rattle.typing.specs.Tables.{Tables, short, laidOut, filledBy, verdictWith, filledRead, keptOn, tablesAfter}
+use Rattle.typing.specs.Tables.{Tables, short, layoutFor, filledBy, verdictWith, filledRead, keptOn, tablesAfter}
 use Rattle.semantics.specs.Calls.{Call}
 use Rattle.semantics.specs.Demand3.{exprOf, callsOf, Allowed, demand3}
 use Rattle.start.specs.Begun.{Holds}
@@ -39,25 +39,25 @@ unfolding point
 point-keeps (new y) L i x e = some-left (L .entries) (y ∷ []) i x e
 point-keeps (old j) L i x e = e
 
-lay-keeps : (var : ℕ → ℕ) (eff : ℕ → Effect) (l : List (Cmd ℕ)) (L : Layout) (i : ℕ) (x : TypeEntry) → getElem? (L .entries) i ≡ some x → getElem? (lay var eff l L .entries) i ≡ some x
-unfolding lay
-lay-keeps var eff [] L i x e = e
-lay-keeps var eff (k ∷ l) L i x e = lay-keeps var eff l (point _ L) i x (point-keeps _ L i x e)
+layoutFrom-keeps : (var : ℕ → ℕ) (eff : ℕ → Effect) (l : List (Cmd ℕ)) (L : Layout) (i : ℕ) (x : TypeEntry) → getElem? (L .entries) i ≡ some x → getElem? (layoutFrom var eff l L .entries) i ≡ some x
+unfolding layoutFrom
+layoutFrom-keeps var eff [] L i x e = e
+layoutFrom-keeps var eff (k ∷ l) L i x e = layoutFrom-keeps var eff l (point _ L) i x (point-keeps _ L i x e)
 
-laid-keeps : (J : Job) (i : ℕ) (x : TypeEntry) → getElem? (J .types) i ≡ some x → getElem? (laidOut J .entries) i ≡ some x
-unfolding laidOut layoutOf
-laid-keeps J i x e = lay-keeps _ _ (J .cmds) _ i x (some-left (J .types) _ i x e)
+layoutFor-keeps : (J : Job) (i : ℕ) (x : TypeEntry) → getElem? (J .types) i ≡ some x → getElem? (layoutFor J .entries) i ≡ some x
+unfolding layoutFor layoutOf
+layoutFor-keeps J i x e = layoutFrom-keeps _ _ (J .cmds) _ i x (some-left (J .types) _ i x e)
 
-laid-holds : (J : Job) → JobFits J → (n t v : ℕ)
-    → Holds J (filled n 0 (nameWords J)) (length (J .names)) (filled t 0 (typeWords (laidOut J .entries))) (filled v 0 (valueWords J)) (length (J .values)) (J .rights)
-laid-holds J f n t v =
+layoutFor-holds : (J : Job) → JobFits J → (n t v : ℕ)
+    → Holds J (filled n 0 (nameWords J)) (length (J .names)) (filled t 0 (typeWords (layoutFor J .entries))) (filled v 0 (valueWords J)) (length (J .values)) (J .rights)
+layoutFor-holds J f n t v =
     let h = held.filled-holds J f n t v in
     record {
       all-names = h .all-names;
       all-values = h .all-values;
       its-rights = h .its-rights;
       name = h .name;
-      type = λ i x e. word-at typeWord t (laidOut J .entries) i x (laid-keeps J i x e);
+      type = λ i x e. word-at typeWord t (layoutFor J .entries) i x (layoutFor-keeps J i x e);
       value = h .value;
       number = h .number;
     }
@@ -85,7 +85,7 @@ shape-accept w bytes J a c = rw (sym a, c)
 
 ready-of : (J : Job) (g : Shape) (x w : Tables) → JobOk J → JobFits J → g ≡ shapeOf J → x ≡ filledBy J w → Ready J g (x .names) (x .types) (x .values)
 unfolding filledBy shapeOf
-ready-of J g x w o f a b = record { ok = o; shape = a; holds = rw (a, b) (laid-holds J f _ _ _) }
+ready-of J g x w o f a b = record { ok = o; shape = a; holds = rw (a, b) (layoutFor-holds J f _ _ _) }
 
 code-of : (J : Job) (x w : Tables) → JobOk J → JobFits J → x ≡ filledBy J w → (i : ℕ) → codeIn (x .heads) (x .slots) i ≡ exprOf J i
 unfolding filledBy

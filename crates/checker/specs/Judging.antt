@@ -18,7 +18,7 @@ use Rattle.syntax.specs.Words.{filled, nameWords, typeWord, setWord, typeWords,
 use Rattle.syntax.specs.WordLaws.{Bytes, JobFits, job-fits, filled-at, filled-none, filled-length}
 use Rattle.typing.specs.Verdict as rules
 use Rattle.typing.specs.Least.{types}
-use Rattle.typing.specs.Tables.{Tables, most-entries, short, zeros, cleared, effectOf, laidOut, filledBy, filledRead, keptOn, tablesAfter, verdictWith}
+use Rattle.typing.specs.Tables.{Tables, most-entries, short, zeros, cleared, effectOf, layoutFor, filledBy, filledRead, keptOn, tablesAfter, verdictWith}
 use Rattle.typing.specs.Numbered.{Sofar, Whole, whole, halted, numbering}
 use Rattle.typing.specs.NumberedLaws.{Inv, Fits, inv-fits}
 use Rattle.typing.specs.NumberedWords.{words-back}
@@ -273,8 +273,8 @@ unfolding keptOn filledRead filledBy
 kept-same (rules.accept T e) (refused u) w x l = cleared-same w x l
 kept-same (rules.accept T e) (read J) w x l =
     λ i.
-    tables (filled (l .names i) 0 (nameWords J)) (filled (l .types i) 0 (typeWords (laidOut J .entries))) (filled (l .sets i) 0 (setWords (laidOut J .entries))) (filled (l .values i) 0 (valueWords J)) (filled (l .heads i) 0 (headWords J))
-    (filled (l .slots i) 0 (slotWords J)) (filled (l .entries i) 0 (laidOut J .of)) (filled (l .effects i) 0 (map effectOf (types (sourceOf J))))
+    tables (filled (l .names i) 0 (nameWords J)) (filled (l .types i) 0 (typeWords (layoutFor J .entries))) (filled (l .sets i) 0 (setWords (layoutFor J .entries))) (filled (l .values i) 0 (valueWords J)) (filled (l .heads i) 0 (headWords J))
+    (filled (l .slots i) 0 (slotWords J)) (filled (l .entries i) 0 (layoutFor J .of)) (filled (l .effects i) 0 (map effectOf (types (sourceOf J))))
 kept-same (rules.refuse n) r w x l = cleared-same w x l
 
 -- The answers of the check

@@ -12,7 +12,7 @@ ghost use Prim.Native.Nat.{ℕ, _≤_, _/_, _%_};
 ghost use lib.ListN.{getD};
 ghost use lib.Dec.{eqb};
 ghost use Rattle.syntax.specs.Words.{codeIn, entryIn};
-ghost use Rattle.typing.specs.Layout as laid;
+ghost use Rattle.typing.specs.Layout as layout;
 ghost use Rattle.typing.specs.Numbered.{keyIn, resultAt};
 ghost use Rattle.names.specs.Ancestors.{reduceBy, touchBy};
 ghost use Rattle.types.specs.Entry.{entryOf};
@@ -320,7 +320,7 @@ fn key(e: Entry) -> Name
 }
 
 fn rekeyed(k: Name, e: Entry) -> Entry
-    ensures { λ r. ⌜ made (entryOf r) ≡ laid.rekeyed (k .0) (entryOf e) ⌝ }
+    ensures { λ r. ⌜ made (entryOf r) ≡ layout.rekeyed (k .0) (entryOf e) ⌝ }
 {
     match e {
         Entry::Number(_) => Entry::Number(k),

@@ -31,7 +31,7 @@ use Rattle.job.specs.declared.Shape.{Shape}
 use Rattle.job.specs.declared.Entry.{Entry}
 use Rattle.job.specs.declared.Entry.the-variants.{Refuse, Named, Typed, Valued, Rights, Formed, Last}
 use Rattle.job.proofs.Ops.{byteOf, op-byte, section-is, width-narrow, width-is, misplaced-is, full-is, fieldsFrom, fields-from}
-use Rattle.job.proofs.Entered.{okW, grown, enter-is, wordsOf, newDepth, entryW, judgedW}
+use Rattle.job.proofs.Entered.{okW, extended, enter-is, wordsOf, newDepth, entryW, judgedW}
 use Rattle.job.proofs.Exprs as exprs
 use Rattle.job.proofs.TypeLaws as typed
 use Rattle.job.proofs.ValueLaws as valued
@@ -174,15 +174,15 @@ pub data Adds : Written → Type 0 where
 pub data Agrees (J : Job) (sec w n : ℕ) : Step → Entry → Type 0 where
   ag-refuse : (m : ℕ) → Agrees J sec w n (refuse m) (Refuse m)
   ag-last : Agrees J sec w n (finish J) Last
-  ag-on : (x : Written) → Adds x → okW x J ≡ true → w ≤ n → Agrees J sec w n (proceed (record { section = sec; job = grown x J })) (entryW x J)
+  ag-on : (x : Written) → Adds x → okW x J ≡ true → w ≤ n → Agrees J sec w n (proceed (record { section = sec; job = extended x J })) (entryW x J)
 
-agree-on : (J : Job) (sec w n : ℕ) → sec < 5 → (x : Written) → Adds x → w ≤ n → (b : Bool) → okW x J ≡ b → Agrees J sec w n (settle sec (given b (grown x J))) (cond b (entryW x J) (Refuse 6))
+agree-on : (J : Job) (sec w n : ℕ) → sec < 5 → (x : Written) → Adds x → w ≤ n → (b : Bool) → okW x J ≡ b → Agrees J sec w n (settle sec (given b (extended x J))) (cond b (entryW x J) (Refuse 6))
 unfolding settle given
 agree-on J sec w n h x a l false e = ag-refuse 6
-agree-on J sec w n h x a l true e = subst (λ (c : Bool). Agrees J sec w n (cond c (finish (grown x J)) (proceed (record { section = sec; job = grown x J }))) (entryW x J)) (sym (ne-eqb sec 5 (λ z. omega arith))) (ag-on x a e l)
+agree-on J sec w n h x a l true e = subst (λ (c : Bool). Agrees J sec w n (cond c (finish (extended x J)) (proceed (record { section = sec; job = extended x J }))) (entryW x J)) (sym (ne-eqb sec 5 (λ z. omega arith))) (ag-on x a e l)
 
-agree-entered : (J : Job) (sec w n : ℕ) (x : Written) → Wrote sec x → places x ≡ 5 → w ≤ n → Agrees J sec w n (settle sec (given (okW x J) (grown x J))) (judgedW x J)
-unfolding judgedW okW grown entryW settle given places
+agree-entered : (J : Job) (sec w n : ℕ) (x : Written) → Wrote sec x → places x ≡ 5 → w ≤ n → Agrees J sec w n (settle sec (given (okW x J) (extended x J))) (judgedW x J)
+unfolding judgedW okW extended entryW settle given places
 agree-entered J sec w n x (wrote-name d) f l = agree-on J 0 w n (omega arith) (w-name d) (adds-name d) l (nameOk (J .names) d) refl
 agree-entered J sec w n x (wrote-type e) f l = agree-on J 1 w n (omega arith) (w-type e) (adds-type e) l (typeOk (J .names) (J .types) e) refl
 agree-entered J sec w n x (wrote-value h) f l = agree-on J 2 w n (omega arith) (w-value h) (adds-value h) l (hostValueOk (J .names) (J .types) h) refl
@@ -232,7 +232,7 @@ agrees J names types depths k cur b o s e =
         let l : width o ≤ length s = ltb-false (length s) (width o) z in
         let same : fieldsFrom (operands o) (b ∷ s) 1 ≡ fields (operands o) s = from l in
         subst (λ (t : Step). Agrees J (sectionOf o) (width o) (length s) t (judgedW x J))
-        (ap (λ (f : List ℕ). settle (sectionOf o) (given (okW (written o f) J) (grown (written o f) J))) same ∙ ap (λ (y : Option Job). settle (sectionOf o) y) (sym (enter-is (written o (fields (operands o) s)) J)))
+        (ap (λ (f : List ℕ). settle (sectionOf o) (given (okW (written o f) J) (extended (written o f) J))) same ∙ ap (λ (y : Option Job). settle (sectionOf o) y) (sym (enter-is (written o (fields (operands o) s)) J)))
         (agree-entered J (sectionOf o) (width o) (length s) x (wrote o (fieldsFrom (operands o) (b ∷ s) 1)) (five-places o (fieldsFrom (operands o) (b ∷ s) 1)) l)
       where
         from : width o ≤ length s → fieldsFrom (operands o) (b ∷ s) 1 ≡ fields (operands o) s

@@ -22,17 +22,17 @@ okW (w-cmd k) J = cmdOk J k
 okW w-end J = true
 okW unwritten J = false
 
-unfoldable pub grown : Written → Job → Job
-grown (w-name d) J = record { names = J .names ++ (d ∷ []); types = J .types; values = J .values; rights = J .rights; cmds = J .cmds }
-grown (w-type e) J = record { names = J .names; types = J .types ++ (e ∷ []); values = J .values; rights = J .rights; cmds = J .cmds }
-grown (w-value h) J = record { names = J .names; types = J .types; values = J .values ++ (h ∷ []); rights = J .rights; cmds = J .cmds }
-grown (w-rights s) J = record { names = J .names; types = J .types; values = J .values; rights = s; cmds = J .cmds }
-grown (w-cmd k) J = record { names = J .names; types = J .types; values = J .values; rights = J .rights; cmds = J .cmds ++ (k ∷ []) }
-grown w-end J = J
-grown unwritten J = J
+unfoldable pub extended : Written → Job → Job
+extended (w-name d) J = record { names = J .names ++ (d ∷ []); types = J .types; values = J .values; rights = J .rights; cmds = J .cmds }
+extended (w-type e) J = record { names = J .names; types = J .types ++ (e ∷ []); values = J .values; rights = J .rights; cmds = J .cmds }
+extended (w-value h) J = record { names = J .names; types = J .types; values = J .values ++ (h ∷ []); rights = J .rights; cmds = J .cmds }
+extended (w-rights s) J = record { names = J .names; types = J .types; values = J .values; rights = s; cmds = J .cmds }
+extended (w-cmd k) J = record { names = J .names; types = J .types; values = J .values; rights = J .rights; cmds = J .cmds ++ (k ∷ []) }
+extended w-end J = J
+extended unwritten J = J
 
-pub enter-is : (w : Written) (J : Job) → enter w J ≡ given (okW w J) (grown w J)
-unfolding enter okW grown given
+pub enter-is : (w : Written) (J : Job) → enter w J ≡ given (okW w J) (extended w J)
+unfolding enter okW extended given
 enter-is (w-name d) J = refl
 enter-is (w-type e) J = refl
 enter-is (w-value h) J = refl

@@ -12,7 +12,7 @@ use Rattle.order.specs.Sets.{all-of}
 use Rattle.syntax.specs.Commands.{Cmd, c-num, c-top, c-var, c-pair, c-part, c-fn, c-app, c-new, c-asg, c-read, c-sum, c-test, c-lim, c-grant, c-newkey, c-assoc}
 use Rattle.syntax.specs.Commands.{Op, operands}
 use Rattle.syntax.specs.Commands.{x-number, x-top, x-variable, x-pair, x-part, x-function, x-apply, x-cell, x-assign, x-read, x-sum, x-test, x-limit, x-grant, x-newkey, x-associate}
-use Rattle.syntax.specs.Operands.{plain, inner, kids, typesOf, usesVar, bindsVar, bindsName}
+use Rattle.syntax.specs.Operands.{plain, inner, children, typesOf, usesVar, bindsVar, bindsName}
 use Rattle.syntax.specs.Job.{Name, Job}
 use Rattle.syntax.specs.Words.{headWord, slots, filled}
 use Rattle.syntax.specs.Reading.{Written, w-cmd, unwritten, partOf, sumOf, limitOf, written, localName, cmdOk}
@@ -35,22 +35,22 @@ unfolding _and_
 one-variable false f r = refl
 one-variable true f r = refl
 
-one-kid : (k0 : Bool) (f r : Entry) → cond (cond k0 true false) (cond true f r) r ≡ cond ((((((cond k0 true false) and true) and true) and true) and true)) f r
+one-child : (k0 : Bool) (f r : Entry) → cond (cond k0 true false) (cond true f r) r ≡ cond ((((((cond k0 true false) and true) and true) and true) and true)) f r
 unfolding _and_
-one-kid false f r = refl
-one-kid true f r = refl
+one-child false f r = refl
+one-child true f r = refl
 
-two-kids : (k0 k1 : Bool) (f r : Entry) → cond (cond k0 (cond k1 true false) false) (cond true f r) r ≡ cond ((((((cond k0 (cond k1 true false) false) and true) and true) and true) and true)) f r
+two-children : (k0 k1 : Bool) (f r : Entry) → cond (cond k0 (cond k1 true false) false) (cond true f r) r ≡ cond ((((((cond k0 (cond k1 true false) false) and true) and true) and true) and true)) f r
 unfolding _and_
-two-kids false k1 f r = refl
-two-kids true false f r = refl
-two-kids true true f r = refl
+two-children false k1 f r = refl
+two-children true false f r = refl
+two-children true true f r = refl
 
-kid-type : (k0 t0 : Bool) (f r : Entry) → cond (cond k0 (cond t0 true false) false) (cond true f r) r ≡ cond ((((((cond k0 true false) and (cond t0 true false)) and true) and true) and true)) f r
+child-type : (k0 t0 : Bool) (f r : Entry) → cond (cond k0 (cond t0 true false) false) (cond true f r) r ≡ cond ((((((cond k0 true false) and (cond t0 true false)) and true) and true) and true)) f r
 unfolding _and_
-kid-type false t0 f r = refl
-kid-type true false f r = refl
-kid-type true true f r = refl
+child-type false t0 f r = refl
+child-type true false f r = refl
+child-type true true f r = refl
 
 three-type : (k0 k1 k2 t0 : Bool) (f r : Entry) → cond (cond k0 (cond k1 (cond k2 (cond t0 true false) false) false) false) (cond true f r) r ≡ cond ((((((cond k0 (cond k1 (cond k2 true false) false) false) and (cond t0 true false)) and true) and true) and true)) f r
 unfolding _and_
@@ -141,55 +141,55 @@ ok-if false k w J = refl
 
 module _ (s : List ℕ) (J : Job) where
   pub law-x-number : formEntry (byteOf x-number) s (J .names) (shapeOf J) ≡ judgedW (written x-number (fieldsFrom (operands x-number) s 1)) J
-  unfolding digitOf formEntry placesOk slotsOk slotOk kindOf formOf slotOf offsetOf leadOf leadOk byteOf written operands fieldsFrom judgedW okW entryW cmdOk kids plain inner typesOf usesVar bindsVar bindsName all-of wordsOf headWord slots filled shapeOf
+  unfolding digitOf formEntry placesOk slotsOk slotOk kindOf formOf slotOf offsetOf leadOf leadOk byteOf written operands fieldsFrom judgedW okW entryW cmdOk children plain inner typesOf usesVar bindsVar bindsName all-of wordsOf headWord slots filled shapeOf
   law-x-number = no-operand _ _
 
   pub law-x-top : formEntry (byteOf x-top) s (J .names) (shapeOf J) ≡ judgedW (written x-top (fieldsFrom (operands x-top) s 1)) J
-  unfolding digitOf formEntry placesOk slotsOk slotOk kindOf formOf slotOf offsetOf leadOf leadOk byteOf written operands fieldsFrom judgedW okW entryW cmdOk kids plain inner typesOf usesVar bindsVar bindsName all-of wordsOf headWord slots filled shapeOf
+  unfolding digitOf formEntry placesOk slotsOk slotOk kindOf formOf slotOf offsetOf leadOf leadOk byteOf written operands fieldsFrom judgedW okW entryW cmdOk children plain inner typesOf usesVar bindsVar bindsName all-of wordsOf headWord slots filled shapeOf
   law-x-top = no-operand _ _
 
   pub law-x-variable : formEntry (byteOf x-variable) s (J .names) (shapeOf J) ≡ judgedW (written x-variable (fieldsFrom (operands x-variable) s 1)) J
-  unfolding digitOf formEntry placesOk slotsOk slotOk kindOf formOf slotOf offsetOf leadOf leadOk byteOf written operands fieldsFrom judgedW okW entryW cmdOk kids plain inner typesOf usesVar bindsVar bindsName all-of wordsOf headWord slots filled shapeOf
+  unfolding digitOf formEntry placesOk slotsOk slotOk kindOf formOf slotOf offsetOf leadOf leadOk byteOf written operands fieldsFrom judgedW okW entryW cmdOk children plain inner typesOf usesVar bindsVar bindsName all-of wordsOf headWord slots filled shapeOf
   law-x-variable = one-variable (ltb (fieldAt 1 s 1) 64) _ _
 
   pub law-x-pair : formEntry (byteOf x-pair) s (J .names) (shapeOf J) ≡ judgedW (written x-pair (fieldsFrom (operands x-pair) s 1)) J
-  unfolding digitOf formEntry placesOk slotsOk slotOk kindOf formOf slotOf offsetOf leadOf leadOk byteOf written operands fieldsFrom judgedW okW entryW cmdOk kids plain inner typesOf usesVar bindsVar bindsName all-of wordsOf headWord slots filled shapeOf
-  law-x-pair = two-kids (ltb (fieldAt 2 s 1) (length (J .cmds))) (ltb (fieldAt 2 s 3) (length (J .cmds))) _ _
+  unfolding digitOf formEntry placesOk slotsOk slotOk kindOf formOf slotOf offsetOf leadOf leadOk byteOf written operands fieldsFrom judgedW okW entryW cmdOk children plain inner typesOf usesVar bindsVar bindsName all-of wordsOf headWord slots filled shapeOf
+  law-x-pair = two-children (ltb (fieldAt 2 s 1) (length (J .cmds))) (ltb (fieldAt 2 s 3) (length (J .cmds))) _ _
 
   pub law-x-apply : formEntry (byteOf x-apply) s (J .names) (shapeOf J) ≡ judgedW (written x-apply (fieldsFrom (operands x-apply) s 1)) J
-  unfolding digitOf formEntry placesOk slotsOk slotOk kindOf formOf slotOf offsetOf leadOf leadOk byteOf written operands fieldsFrom judgedW okW entryW cmdOk kids plain inner typesOf usesVar bindsVar bindsName all-of wordsOf headWord slots filled shapeOf
-  law-x-apply = two-kids (ltb (fieldAt 2 s 1) (length (J .cmds))) (ltb (fieldAt 2 s 3) (length (J .cmds))) _ _
+  unfolding digitOf formEntry placesOk slotsOk slotOk kindOf formOf slotOf offsetOf leadOf leadOk byteOf written operands fieldsFrom judgedW okW entryW cmdOk children plain inner typesOf usesVar bindsVar bindsName all-of wordsOf headWord slots filled shapeOf
+  law-x-apply = two-children (ltb (fieldAt 2 s 1) (length (J .cmds))) (ltb (fieldAt 2 s 3) (length (J .cmds))) _ _
 
   pub law-x-assign : formEntry (byteOf x-assign) s (J .names) (shapeOf J) ≡ judgedW (written x-assign (fieldsFrom (operands x-assign) s 1)) J
-  unfolding digitOf formEntry placesOk slotsOk slotOk kindOf formOf slotOf offsetOf leadOf leadOk byteOf written operands fieldsFrom judgedW okW entryW cmdOk kids plain inner typesOf usesVar bindsVar bindsName all-of wordsOf headWord slots filled shapeOf
-  law-x-assign = two-kids (ltb (fieldAt 2 s 1) (length (J .cmds))) (ltb (fieldAt 2 s 3) (length (J .cmds))) _ _
+  unfolding digitOf formEntry placesOk slotsOk slotOk kindOf formOf slotOf offsetOf leadOf leadOk byteOf written operands fieldsFrom judgedW okW entryW cmdOk children plain inner typesOf usesVar bindsVar bindsName all-of wordsOf headWord slots filled shapeOf
+  law-x-assign = two-children (ltb (fieldAt 2 s 1) (length (J .cmds))) (ltb (fieldAt 2 s 3) (length (J .cmds))) _ _
 
   pub law-x-grant : formEntry (byteOf x-grant) s (J .names) (shapeOf J) ≡ judgedW (written x-grant (fieldsFrom (operands x-grant) s 1)) J
-  unfolding digitOf formEntry placesOk slotsOk slotOk kindOf formOf slotOf offsetOf leadOf leadOk byteOf written operands fieldsFrom judgedW okW entryW cmdOk kids plain inner typesOf usesVar bindsVar bindsName all-of wordsOf headWord slots filled shapeOf
-  law-x-grant = two-kids (ltb (fieldAt 2 s 1) (length (J .cmds))) (ltb (fieldAt 2 s 3) (length (J .cmds))) _ _
+  unfolding digitOf formEntry placesOk slotsOk slotOk kindOf formOf slotOf offsetOf leadOf leadOk byteOf written operands fieldsFrom judgedW okW entryW cmdOk children plain inner typesOf usesVar bindsVar bindsName all-of wordsOf headWord slots filled shapeOf
+  law-x-grant = two-children (ltb (fieldAt 2 s 1) (length (J .cmds))) (ltb (fieldAt 2 s 3) (length (J .cmds))) _ _
 
   pub law-x-associate : formEntry (byteOf x-associate) s (J .names) (shapeOf J) ≡ judgedW (written x-associate (fieldsFrom (operands x-associate) s 1)) J
-  unfolding digitOf formEntry placesOk slotsOk slotOk kindOf formOf slotOf offsetOf leadOf leadOk byteOf written operands fieldsFrom judgedW okW entryW cmdOk kids plain inner typesOf usesVar bindsVar bindsName all-of wordsOf headWord slots filled shapeOf
-  law-x-associate = two-kids (ltb (fieldAt 2 s 1) (length (J .cmds))) (ltb (fieldAt 2 s 3) (length (J .cmds))) _ _
+  unfolding digitOf formEntry placesOk slotsOk slotOk kindOf formOf slotOf offsetOf leadOf leadOk byteOf written operands fieldsFrom judgedW okW entryW cmdOk children plain inner typesOf usesVar bindsVar bindsName all-of wordsOf headWord slots filled shapeOf
+  law-x-associate = two-children (ltb (fieldAt 2 s 1) (length (J .cmds))) (ltb (fieldAt 2 s 3) (length (J .cmds))) _ _
 
   pub law-x-read : formEntry (byteOf x-read) s (J .names) (shapeOf J) ≡ judgedW (written x-read (fieldsFrom (operands x-read) s 1)) J
-  unfolding digitOf formEntry placesOk slotsOk slotOk kindOf formOf slotOf offsetOf leadOf leadOk byteOf written operands fieldsFrom judgedW okW entryW cmdOk kids plain inner typesOf usesVar bindsVar bindsName all-of wordsOf headWord slots filled shapeOf
-  law-x-read = one-kid (ltb (fieldAt 2 s 1) (length (J .cmds))) _ _
+  unfolding digitOf formEntry placesOk slotsOk slotOk kindOf formOf slotOf offsetOf leadOf leadOk byteOf written operands fieldsFrom judgedW okW entryW cmdOk children plain inner typesOf usesVar bindsVar bindsName all-of wordsOf headWord slots filled shapeOf
+  law-x-read = one-child (ltb (fieldAt 2 s 1) (length (J .cmds))) _ _
 
   pub law-x-function : formEntry (byteOf x-function) s (J .names) (shapeOf J) ≡ judgedW (written x-function (fieldsFrom (operands x-function) s 1)) J
-  unfolding digitOf formEntry placesOk slotsOk slotOk kindOf formOf slotOf offsetOf leadOf leadOk byteOf written operands fieldsFrom judgedW okW entryW cmdOk kids plain inner typesOf usesVar bindsVar bindsName all-of wordsOf headWord slots filled shapeOf bindsOk
+  unfolding digitOf formEntry placesOk slotsOk slotOk kindOf formOf slotOf offsetOf leadOf leadOk byteOf written operands fieldsFrom judgedW okW entryW cmdOk children plain inner typesOf usesVar bindsVar bindsName all-of wordsOf headWord slots filled shapeOf bindsOk
   law-x-function = binder (ltb (fieldAt 2 s 4) (length (J .cmds))) (ltb (fieldAt 2 s 2) (length (J .types))) (leb (length (J .values)) (fieldAt 1 s 1)) (ltb (fieldAt 1 s 1) 64) _ _
 
   pub law-x-cell : formEntry (byteOf x-cell) s (J .names) (shapeOf J) ≡ judgedW (written x-cell (fieldsFrom (operands x-cell) s 1)) J
-  unfolding digitOf formEntry placesOk slotsOk slotOk kindOf formOf slotOf offsetOf leadOf leadOk byteOf written operands fieldsFrom judgedW okW entryW cmdOk kids plain inner typesOf usesVar bindsVar bindsName all-of wordsOf headWord slots filled shapeOf
-  law-x-cell = kid-type (ltb (fieldAt 2 s 3) (length (J .cmds))) (ltb (fieldAt 2 s 1) (length (J .types))) _ _
+  unfolding digitOf formEntry placesOk slotsOk slotOk kindOf formOf slotOf offsetOf leadOf leadOk byteOf written operands fieldsFrom judgedW okW entryW cmdOk children plain inner typesOf usesVar bindsVar bindsName all-of wordsOf headWord slots filled shapeOf
+  law-x-cell = child-type (ltb (fieldAt 2 s 3) (length (J .cmds))) (ltb (fieldAt 2 s 1) (length (J .types))) _ _
 
   pub law-x-test : formEntry (byteOf x-test) s (J .names) (shapeOf J) ≡ judgedW (written x-test (fieldsFrom (operands x-test) s 1)) J
-  unfolding digitOf formEntry placesOk slotsOk slotOk kindOf formOf slotOf offsetOf leadOf leadOk byteOf written operands fieldsFrom judgedW okW entryW cmdOk kids plain inner typesOf usesVar bindsVar bindsName all-of wordsOf headWord slots filled shapeOf
+  unfolding digitOf formEntry placesOk slotsOk slotOk kindOf formOf slotOf offsetOf leadOf leadOk byteOf written operands fieldsFrom judgedW okW entryW cmdOk children plain inner typesOf usesVar bindsVar bindsName all-of wordsOf headWord slots filled shapeOf
   law-x-test = three-type (ltb (fieldAt 2 s 1) (length (J .cmds))) (ltb (fieldAt 2 s 3) (length (J .cmds))) (ltb (fieldAt 2 s 5) (length (J .cmds))) (ltb (fieldAt 2 s 7) (length (J .types))) _ _
 
   pub law-x-newkey : formEntry (byteOf x-newkey) s (J .names) (shapeOf J) ≡ judgedW (written x-newkey (fieldsFrom (operands x-newkey) s 1)) J
-  unfolding digitOf formEntry placesOk slotsOk slotOk kindOf formOf slotOf offsetOf leadOf leadOk byteOf written operands fieldsFrom judgedW okW entryW cmdOk kids plain inner typesOf usesVar bindsVar bindsName all-of wordsOf headWord slots filled shapeOf bindsOk newKeyOk
+  unfolding digitOf formEntry placesOk slotsOk slotOk kindOf formOf slotOf offsetOf leadOf leadOk byteOf written operands fieldsFrom judgedW okW entryW cmdOk children plain inner typesOf usesVar bindsVar bindsName all-of wordsOf headWord slots filled shapeOf bindsOk newKeyOk
   law-x-newkey = key-binder (ltb (fieldAt 2 s 3) (length (J .cmds))) (ltb (fieldAt 2 s 5) (length (J .cmds))) (ltb (fieldAt 2 s 7) (length (J .types))) (leb (length (J .values)) (fieldAt 1 s 1)) (ltb (fieldAt 1 s 1) 64) (localName (J .names) (fieldAt 1 s 2)) _ _
 
   none-two : (k : Bool) (r : Entry) → cond (cond k true false) r r ≡ r
@@ -202,7 +202,7 @@ module _ (s : List ℕ) (J : Job) where
   none-three false l r = refl
 
   pub law-x-part : formEntry (byteOf x-part) s (J .names) (shapeOf J) ≡ judgedW (written x-part (fieldsFrom (operands x-part) s 1)) J
-  unfolding digitOf formEntry placesOk slotsOk slotOk kindOf formOf slotOf offsetOf leadOf leadOk byteOf written operands fieldsFrom judgedW okW entryW cmdOk kids plain inner typesOf usesVar bindsVar bindsName all-of wordsOf headWord slots filled shapeOf partOf eitherOf
+  unfolding digitOf formEntry placesOk slotsOk slotOk kindOf formOf slotOf offsetOf leadOf leadOk byteOf written operands fieldsFrom judgedW okW entryW cmdOk children plain inner typesOf usesVar bindsVar bindsName all-of wordsOf headWord slots filled shapeOf partOf eitherOf
   law-x-part = at (eqb i 1) refl (eqb i 2) refl
     where
       i : ℕ
@@ -219,12 +219,12 @@ module _ (s : List ℕ) (J : Job) where
 
       at : (e : Bool) → eqb i 1 ≡ e → (f : Bool) → eqb i 2 ≡ f
           → cond (cond k true false) (cond (cond e true f) (with i) (Refuse 6)) (Refuse 6) ≡ judgedW (cond e (w-cmd (c-part a true)) (cond f (w-cmd (c-part a false)) unwritten)) J
-      at true p f q = ap (λ (j : ℕ). cond (cond k true false) (with j) (Refuse 6)) (eqb-true i 1 p) ∙ one-kid k (with 1) (Refuse 6)
-      at false p true q = ap (λ (j : ℕ). cond (cond k true false) (with j) (Refuse 6)) (eqb-true i 2 q) ∙ one-kid k (with 2) (Refuse 6)
+      at true p f q = ap (λ (j : ℕ). cond (cond k true false) (with j) (Refuse 6)) (eqb-true i 1 p) ∙ one-child k (with 1) (Refuse 6)
+      at false p true q = ap (λ (j : ℕ). cond (cond k true false) (with j) (Refuse 6)) (eqb-true i 2 q) ∙ one-child k (with 2) (Refuse 6)
       at false p false q = none-two k (Refuse 6)
 
   pub law-x-sum : formEntry (byteOf x-sum) s (J .names) (shapeOf J) ≡ judgedW (written x-sum (fieldsFrom (operands x-sum) s 1)) J
-  unfolding digitOf formEntry placesOk slotsOk slotOk kindOf formOf slotOf offsetOf leadOf leadOk byteOf written operands fieldsFrom judgedW okW entryW cmdOk kids plain inner typesOf usesVar bindsVar bindsName all-of wordsOf headWord slots filled shapeOf sumOf eitherOf
+  unfolding digitOf formEntry placesOk slotsOk slotOk kindOf formOf slotOf offsetOf leadOf leadOk byteOf written operands fieldsFrom judgedW okW entryW cmdOk children plain inner typesOf usesVar bindsVar bindsName all-of wordsOf headWord slots filled shapeOf sumOf eitherOf
   law-x-sum = at (eqb i 0) refl (eqb i 1) refl
     where
       i : ℕ
@@ -247,8 +247,8 @@ module _ (s : List ℕ) (J : Job) where
 
       at : (e : Bool) → eqb i 0 ≡ e → (f : Bool) → eqb i 1 ≡ f
           → cond (cond k (cond l true false) false) (cond (cond e true f) (with i) (Refuse 6)) (Refuse 6) ≡ judgedW (cond e (w-cmd (c-sum true a b)) (cond f (w-cmd (c-sum false a b)) unwritten)) J
-      at true p f q = ap (λ (j : ℕ). cond (cond k (cond l true false) false) (with j) (Refuse 6)) (eqb-true i 0 p) ∙ two-kids k l (with 0) (Refuse 6)
-      at false p true q = ap (λ (j : ℕ). cond (cond k (cond l true false) false) (with j) (Refuse 6)) (eqb-true i 1 q) ∙ two-kids k l (with 1) (Refuse 6)
+      at true p f q = ap (λ (j : ℕ). cond (cond k (cond l true false) false) (with j) (Refuse 6)) (eqb-true i 0 p) ∙ two-children k l (with 0) (Refuse 6)
+      at false p true q = ap (λ (j : ℕ). cond (cond k (cond l true false) false) (with j) (Refuse 6)) (eqb-true i 1 q) ∙ two-children k l (with 1) (Refuse 6)
       at false p false q = none-three k l (Refuse 6)
 
   form-same : (h e : ℕ) {a b c d : ℕ} {a' b' c' d' : ℕ} → a ≡ a' → b ≡ b' → c ≡ c' → d ≡ d'
@@ -256,7 +256,7 @@ module _ (s : List ℕ) (J : Job) where
   form-same h e p q r t = rw (p, q, r, t)
 
   pub law-x-limit : formEntry (byteOf x-limit) s (J .names) (shapeOf J) ≡ judgedW (written x-limit (fieldsFrom (operands x-limit) s 1)) J
-  unfolding digitOf formEntry placesOk slotsOk slotOk kindOf formOf slotOf offsetOf leadOf leadOk byteOf written operands fieldsFrom judgedW okW entryW cmdOk kids plain inner typesOf usesVar bindsVar bindsName all-of wordsOf headWord slots filled shapeOf limitOf limitOk keyOk _and_
+  unfolding digitOf formEntry placesOk slotsOk slotOk kindOf formOf slotOf offsetOf leadOf leadOk byteOf written operands fieldsFrom judgedW okW entryW cmdOk children plain inner typesOf usesVar bindsVar bindsName all-of wordsOf headWord slots filled shapeOf limitOf limitOk keyOk _and_
   law-x-limit = at (fieldAt 1 s 1) (leb (fieldAt 1 s 1) 4) refl
     where
       k : ℕ → ℕ

@@ -31,7 +31,7 @@ use Rattle.job.specs.declared.Answer.the-variants as answers
 use Rattle.job.specs.declared.Entry.{Entry}
 use Rattle.job.specs.declared.Entry.the-variants.{Refuse, Named, Typed, Valued, Rights, Formed}
 use Rattle.job.proofs.Ops.{op-byte, section-is, width-is, width-none}
-use Rattle.job.proofs.Entered.{grown, wordsOf, newDepth, entryW}
+use Rattle.job.proofs.Entered.{extended, wordsOf, newDepth, entryW}
 use Rattle.job.proofs.Filling.{stored, filled-two, filled-five, flat-snoc, five-entries}
 use Rattle.job.proofs.Agree.{Kept, Adds, adds-name, adds-type, adds-value, adds-rights, adds-cmd, Agrees, ag-refuse, ag-last, ag-on, agrees}
 
@@ -137,9 +137,9 @@ kept {J = J} {n = n} {kn = kn} {kt = kt} o a =
 -- The tables after an entry
 
 module _ (J : Job) (g g' : Shape) (d n t s v h p d' n' t' s' v' h' p' : List ℕ) (kn kt ks kv kh kp : ℕ) (long : Long kn kt ks kv kh kp) (a : Tables J g d n t s v h p kn kt ks kv kh kp) where
-  grow-name : (x : Name) → 2 + length (J .names ++ (x ∷ [])) ≤ 64 → g' ≡ shapeAfter (Named (nameWord x)) g → Put (Named (nameWord x)) g d n t s v h p d' n' t' s' v' h' p' → Tables (grown (w-name x) J) g' d' n' t' s' v' h' p' kn kt ks kv kh kp
-  unfolding grown shapeOf shapeAfter namesAfter typesAfter setsAfter depthsAfter valuesAfter headsAfter slotsAfter
-  grow-name x r w' q =
+  extend-name : (x : Name) → 2 + length (J .names ++ (x ∷ [])) ≤ 64 → g' ≡ shapeAfter (Named (nameWord x)) g → Put (Named (nameWord x)) g d n t s v h p d' n' t' s' v' h' p' → Tables (extended (w-name x) J) g' d' n' t' s' v' h' p' kn kt ks kv kh kp
+  unfolding extended shapeOf shapeAfter namesAfter typesAfter setsAfter depthsAfter valuesAfter headsAfter slotsAfter
+  extend-name x r w' q =
       let w : length (map nameWord (J .names)) ≡ length (J .names) = length-map (J .names) nameWord in
       let y = length-snoc (J .names) x in
       let e : g .names ≡ length (J .names) = ap (λ (k : Shape). k .names) (a .shape) in
@@ -149,7 +149,7 @@ module _ (J : Job) (g g' : Shape) (d n t s v h p d' n' t' s' v' h' p' : List ℕ
             ∙ ap (λ (k : ℕ). record { names = k; types = length (J .types); values = length (J .values); cmds = length (J .cmds); rights = J .rights }) (add-one (length (J .names)) ∙ sym y);
         holds =
             record {
-              names = stored kn (nameWords J) (nameWords (grown (w-name x) J)) (g .names + 2) (nameWord x) (a .holds .names) (q .names) (omega (arith, long .names)) (omega arith) (ap (λ (m : List ℕ). 0 ∷ 0 ∷ m) (map-snoc nameWord (J .names) x));
+              names = stored kn (nameWords J) (nameWords (extended (w-name x) J)) (g .names + 2) (nameWord x) (a .holds .names) (q .names) (omega (arith, long .names)) (omega arith) (ap (λ (m : List ℕ). 0 ∷ 0 ∷ m) (map-snoc nameWord (J .names) x));
               types = q .types ∙ a .holds .types;
               sets = q .sets ∙ a .holds .sets;
               values = q .values ∙ a .holds .values;
@@ -161,10 +161,10 @@ module _ (J : Job) (g g' : Shape) (d n t s v h p d' n' t' s' v' h' p' : List ℕ
         five = a .five;
       }
 
-  grow-type : (x : TypeEntry) → TypesOk (J .names) (J .types) → length (J .types ++ (x ∷ [])) ≤ 256 → g' ≡ shapeAfter (Typed (typeWord x) (setWord x) (newDepth J x)) g → Put (Typed (typeWord x) (setWord x) (newDepth J x)) g d n t s v h p d' n' t' s' v' h' p'
-      → Tables (grown (w-type x) J) g' d' n' t' s' v' h' p' kn kt ks kv kh kp
-  unfolding grown shapeOf shapeAfter namesAfter typesAfter setsAfter depthsAfter valuesAfter headsAfter slotsAfter newDepth
-  grow-type x ok r w' q =
+  extend-type : (x : TypeEntry) → TypesOk (J .names) (J .types) → length (J .types ++ (x ∷ [])) ≤ 256 → g' ≡ shapeAfter (Typed (typeWord x) (setWord x) (newDepth J x)) g → Put (Typed (typeWord x) (setWord x) (newDepth J x)) g d n t s v h p d' n' t' s' v' h' p'
+      → Tables (extended (w-type x) J) g' d' n' t' s' v' h' p' kn kt ks kv kh kp
+  unfolding extended shapeOf shapeAfter namesAfter typesAfter setsAfter depthsAfter valuesAfter headsAfter slotsAfter newDepth
+  extend-type x ok r w' q =
       let w : length (map typeWord (J .types)) ≡ length (J .types) = length-map (J .types) typeWord in
       let u : length (map setWord (J .types)) ≡ length (J .types) = length-map (J .types) setWord in
       let y = length-snoc (J .types) x in
@@ -198,9 +198,9 @@ module _ (J : Job) (g g' : Shape) (d n t s v h p d' n' t' s' v' h' p' : List ℕ
           ap (λ (o : ℕ). getD (set d (g .types) (newDepth J x)) o 0) j ∙ getD-set-same d (g .types) (newDepth J x) 0 (omega (arith, a .depths-long, length-snoc (J .types) x))
           ∙ sym (ap (λ (o : ℕ). depth (tree (J .types ++ (x ∷ [])) o)) k)
 
-  grow-value : (x : HostValue ℕ) → length (J .values ++ (x ∷ [])) ≤ 64 → g' ≡ shapeAfter (Valued (valueWord x)) g → Put (Valued (valueWord x)) g d n t s v h p d' n' t' s' v' h' p' → Tables (grown (w-value x) J) g' d' n' t' s' v' h' p' kn kt ks kv kh kp
-  unfolding grown shapeOf shapeAfter namesAfter typesAfter setsAfter depthsAfter valuesAfter headsAfter slotsAfter
-  grow-value x r w' q =
+  extend-value : (x : HostValue ℕ) → length (J .values ++ (x ∷ [])) ≤ 64 → g' ≡ shapeAfter (Valued (valueWord x)) g → Put (Valued (valueWord x)) g d n t s v h p d' n' t' s' v' h' p' → Tables (extended (w-value x) J) g' d' n' t' s' v' h' p' kn kt ks kv kh kp
+  unfolding extended shapeOf shapeAfter namesAfter typesAfter setsAfter depthsAfter valuesAfter headsAfter slotsAfter
+  extend-value x r w' q =
       let w : length (map valueWord (J .values)) ≡ length (J .values) = length-map (J .values) valueWord in
       let y = length-snoc (J .values) x in
       let e : g .values ≡ length (J .values) = ap (λ (k : Shape). k .values) (a .shape) in
@@ -213,7 +213,7 @@ module _ (J : Job) (g g' : Shape) (d n t s v h p d' n' t' s' v' h' p' : List ℕ
               names = q .names ∙ a .holds .names;
               types = q .types ∙ a .holds .types;
               sets = q .sets ∙ a .holds .sets;
-              values = stored kv (valueWords J) (valueWords (grown (w-value x) J)) (g .values) (valueWord x) (a .holds .values) (q .values) (omega (arith, long .values)) (omega arith) (map-snoc valueWord (J .values) x);
+              values = stored kv (valueWords J) (valueWords (extended (w-value x) J)) (g .values) (valueWord x) (a .holds .values) (q .values) (omega (arith, long .values)) (omega arith) (map-snoc valueWord (J .values) x);
               heads = q .heads ∙ a .holds .heads;
               slots = q .slots ∙ a .holds .slots;
             };
@@ -222,9 +222,9 @@ module _ (J : Job) (g g' : Shape) (d n t s v h p d' n' t' s' v' h' p' : List ℕ
         five = a .five;
       }
 
-  grow-rights : (x : ℕ) → g' ≡ shapeAfter (Rights x) g → Put (Rights x) g d n t s v h p d' n' t' s' v' h' p' → Tables (grown (w-rights x) J) g' d' n' t' s' v' h' p' kn kt ks kv kh kp
-  unfolding grown shapeOf shapeAfter namesAfter typesAfter setsAfter depthsAfter valuesAfter headsAfter slotsAfter
-  grow-rights x w' q =
+  extend-rights : (x : ℕ) → g' ≡ shapeAfter (Rights x) g → Put (Rights x) g d n t s v h p d' n' t' s' v' h' p' → Tables (extended (w-rights x) J) g' d' n' t' s' v' h' p' kn kt ks kv kh kp
+  unfolding extended shapeOf shapeAfter namesAfter typesAfter setsAfter depthsAfter valuesAfter headsAfter slotsAfter
+  extend-rights x w' q =
       record {
         shape = w' ∙ ap (λ (k : Shape). shapeAfter (Rights x) k) (a .shape);
         holds =
@@ -241,9 +241,9 @@ module _ (J : Job) (g g' : Shape) (d n t s v h p d' n' t' s' v' h' p' : List ℕ
         five = a .five;
       }
 
-  grow-cmd : (x : Cmd ℕ) → length (slots x) ≡ 5 → length (J .cmds ++ (x ∷ [])) ≤ 512 → g' ≡ shapeAfter (Formed (wordsOf x)) g → Put (Formed (wordsOf x)) g d n t s v h p d' n' t' s' v' h' p' → Tables (grown (w-cmd x) J) g' d' n' t' s' v' h' p' kn kt ks kv kh kp
-  unfolding grown shapeOf shapeAfter namesAfter typesAfter setsAfter depthsAfter valuesAfter headsAfter slotsAfter wordsOf
-  grow-cmd x l r w' q =
+  extend-cmd : (x : Cmd ℕ) → length (slots x) ≡ 5 → length (J .cmds ++ (x ∷ [])) ≤ 512 → g' ≡ shapeAfter (Formed (wordsOf x)) g → Put (Formed (wordsOf x)) g d n t s v h p d' n' t' s' v' h' p' → Tables (extended (w-cmd x) J) g' d' n' t' s' v' h' p' kn kt ks kv kh kp
+  unfolding extended shapeOf shapeAfter namesAfter typesAfter setsAfter depthsAfter valuesAfter headsAfter slotsAfter wordsOf
+  extend-cmd x l r w' q =
       let w : length (map headWord (J .cmds)) ≡ length (J .cmds) = length-map (J .cmds) headWord in
       let y = length-snoc (J .cmds) x in
       let e : g .cmds ≡ length (J .cmds) = ap (λ (k : Shape). k .cmds) (a .shape) in
@@ -258,7 +258,7 @@ module _ (J : Job) (g g' : Shape) (d n t s v h p d' n' t' s' v' h' p' : List ℕ
               types = q .types ∙ a .holds .types;
               sets = q .sets ∙ a .holds .sets;
               values = q .values ∙ a .holds .values;
-              heads = stored kh (headWords J) (headWords (grown (w-cmd x) J)) (g .cmds) (headWord x) (a .holds .heads) (q .heads) (omega (arith, long .heads)) (omega arith) (map-snoc headWord (J .cmds) x);
+              heads = stored kh (headWords J) (headWords (extended (w-cmd x) J)) (g .cmds) (headWord x) (a .holds .heads) (q .heads) (omega (arith, long .heads)) (omega arith) (map-snoc headWord (J .cmds) x);
               slots =
                   q .slots ∙ ap (λ (m : List ℕ). Rattle.job.specs.Entries.fiveAt m (g .cmds * 5) (wordsOf x)) (a .holds .slots)
                   ∙ filled-five kp (slotWords J) (g .cmds * 5) (wordsOf x) (omega (arith, long .slots, a .five)) (omega (arith, a .five))
@@ -269,14 +269,14 @@ module _ (J : Job) (g g' : Shape) (d n t s v h p d' n' t' s' v' h' p' : List ℕ
         five = ap length (flat-snoc slots (J .cmds) x) ∙ length-append (slotWords J) (slots x) ∙ omega (arith, a .five);
       }
 
-  grow-tables : (x : Written) → Adds x → TypesOk (J .names) (J .types) → (sec : ℕ) → Sofar sec (grown x J) → g' ≡ shapeAfter (entryW x J) g → Put (entryW x J) g d n t s v h p d' n' t' s' v' h' p'
-      → Tables (grown x J) g' d' n' t' s' v' h' p' kn kt ks kv kh kp
-  unfolding entryW grown
-  grow-tables x (adds-name y) ok sec o w' q = grow-name y (o .few-names) w' q
-  grow-tables x (adds-type y) ok sec o w' q = grow-type y ok (o .few-types) w' q
-  grow-tables x (adds-value y) ok sec o w' q = grow-value y (o .few-values) w' q
-  grow-tables x (adds-rights y) ok sec o w' q = grow-rights y w' q
-  grow-tables x (adds-cmd y l) ok sec o w' q = grow-cmd y l (o .few-cmds) w' q
+  extend-tables : (x : Written) → Adds x → TypesOk (J .names) (J .types) → (sec : ℕ) → Sofar sec (extended x J) → g' ≡ shapeAfter (entryW x J) g → Put (entryW x J) g d n t s v h p d' n' t' s' v' h' p'
+      → Tables (extended x J) g' d' n' t' s' v' h' p' kn kt ks kv kh kp
+  unfolding entryW extended
+  extend-tables x (adds-name y) ok sec o w' q = extend-name y (o .few-names) w' q
+  extend-tables x (adds-type y) ok sec o w' q = extend-type y ok (o .few-types) w' q
+  extend-tables x (adds-value y) ok sec o w' q = extend-value y (o .few-values) w' q
+  extend-tables x (adds-rights y) ok sec o w' q = extend-rights y w' q
+  extend-tables x (adds-cmd y l) ok sec o w' q = extend-cmd y l (o .few-cmds) w' q
 
 -- One command
 
@@ -335,9 +335,9 @@ step-on bytes b s cur g g' d n t u v h p d' n' t' u' v' h' p' kn kt ks kv kh kp 
     st = record { section = cur; job = k .J }
 
     next : State
-    next = record { section = sectionOf o; job = grown x (k .J) }
+    next = record { section = sectionOf o; job = extended x (k .J) }
 
-    more : Sofar (sectionOf o) (grown x (k .J))
+    more : Sofar (sectionOf o) (extended x (k .J))
     more = sofar-of ok next refl
 
     at : (f : ℕ) → suc (length s) < f → reading bytes ≡ readFrom f (length bytes - suc (length s)) st (b ∷ s) → Going bytes (drop (width o) s) (sectionOf o) g' d' n' t' u' v' h' p' kn kt ks kv kh kp
@@ -347,9 +347,9 @@ step-on bytes b s cur g g' d n t u v h p d' n' t' u' v' h' p' kn kt ks kv kh kp 
         let i = k .within in
         let j : length bytes - suc (length s) + 1 + width o ≡ length bytes - length (drop (width o) s) = omega arith in
         record {
-          J = grown x (k .J);
+          J = extended x (k .J);
           sofar = more;
-          tables = grow-tables (k .J) g g' d n t u v h p d' n' t' u' v' h' p' kn kt ks kv kh kp long (k .tables) x a (k .sofar .types) (sectionOf o) more w' q;
+          tables = extend-tables (k .J) g g' d n t u v h p d' n' t' u' v' h' p' kn kt ks kv kh kp long (k .tables) x a (k .sofar .types) (sectionOf o) more w' q;
           fuel = f;
           enough = omega arith;
           within = omega arith;

@@ -10,7 +10,7 @@ use lib.Dec.{eqb}
 use borrow.Author.Tests.{ne-eqb}
 use Rattle.order.specs.Effects.{Effect}
 use mathlib.Core.Option.{none, some}
-use Rattle.syntax.specs.Types.{Ty, e-num, grow, treeIn, tree}
+use Rattle.syntax.specs.Types.{Ty, e-num, entryTree, treeIn, tree}
 use Rattle.syntax.specs.Commands.{Cmd, mapCmd}
 use Rattle.syntax.specs.Operands.{nth}
 use Rattle.syntax.specs.Job.{Job, sourceOf}
@@ -50,36 +50,36 @@ use Rattle.lines.specs.Places.{refusal-place}
 
 -- the kind of a type, by its byte
 module _ (byte q a b s : ℕ) (f : ℕ → Ty) where
-  pub is-pair : byte ≡ 0x11 → Pair ≡ typeSort (grow (entryBits byte q a b s) f)
-  unfolding entryBits grow typeSort
+  pub is-pair : byte ≡ 0x11 → Pair ≡ typeSort (entryTree (entryBits byte q a b s) f)
+  unfolding entryBits entryTree typeSort
   is-pair e = rw e
 
-  pub is-cell : byte ≡ 0x12 → Cell ≡ typeSort (grow (entryBits byte q a b s) f)
-  unfolding entryBits grow typeSort
+  pub is-cell : byte ≡ 0x12 → Cell ≡ typeSort (entryTree (entryBits byte q a b s) f)
+  unfolding entryBits entryTree typeSort
   is-cell e = rw e
 
-  pub is-function : byte ≡ 0x13 → Function ≡ typeSort (grow (entryBits byte q a b s) f)
-  unfolding entryBits grow typeSort
+  pub is-function : byte ≡ 0x13 → Function ≡ typeSort (entryTree (entryBits byte q a b s) f)
+  unfolding entryBits entryTree typeSort
   is-function e = rw e
 
-  pub is-limit : byte ≡ 0x14 → Limit ≡ typeSort (grow (entryBits byte q a b s) f)
-  unfolding entryBits grow typeSort
+  pub is-limit : byte ≡ 0x14 → Limit ≡ typeSort (entryTree (entryBits byte q a b s) f)
+  unfolding entryBits entryTree typeSort
   is-limit e = rw e
 
-  pub is-grant : byte ≡ 0x15 → Grant ≡ typeSort (grow (entryBits byte q a b s) f)
-  unfolding entryBits grow typeSort
+  pub is-grant : byte ≡ 0x15 → Grant ≡ typeSort (entryTree (entryBits byte q a b s) f)
+  unfolding entryBits entryTree typeSort
   is-grant e = rw e
 
-  pub is-number : (byte ≡ 0x11 → ⊥) → (byte ≡ 0x12 → ⊥) → (byte ≡ 0x13 → ⊥) → (byte ≡ 0x14 → ⊥) → (byte ≡ 0x15 → ⊥) → Number ≡ typeSort (grow (entryBits byte q a b s) f)
-  unfolding entryBits grow typeSort
+  pub is-number : (byte ≡ 0x11 → ⊥) → (byte ≡ 0x12 → ⊥) → (byte ≡ 0x13 → ⊥) → (byte ≡ 0x14 → ⊥) → (byte ≡ 0x15 → ⊥) → Number ≡ typeSort (entryTree (entryBits byte q a b s) f)
+  unfolding entryBits entryTree typeSort
   is-number c d e g h =
       simp (ne-eqb byte 0x11 c, ne-eqb byte 0x12 d, ne-eqb byte 0x13 e, ne-eqb byte 0x14 g, ne-eqb byte 0x15 h) (at (eqb byte 0x10))
     where
-      at : (x : Bool) → Number ≡ typeSort (grow (cond x (some (e-num q)) none) f)
+      at : (x : Bool) → Number ≡ typeSort (entryTree (cond x (some (e-num q)) none) f)
       at true = refl
       at false = refl
 
-pub sort-is : (types sets : List ℕ) (i w : ℕ) (k : Sort) → ((q a b s : ℕ) (f : ℕ → Ty) → k ≡ typeSort (grow (entryBits (w % 256) q a b s) f)) → w ≡ getD types i 0
+pub sort-is : (types sets : List ℕ) (i w : ℕ) (k : Sort) → ((q a b s : ℕ) (f : ℕ → Ty) → k ≡ typeSort (entryTree (entryBits (w % 256) q a b s) f)) → w ≡ getD types i 0
     → k ≡ typeSort (treeOf types sets i)
 unfolding treeOf treeIn entryIn
 sort-is types sets i w k h e = rw (sym e) (h _ _ _ _ _)

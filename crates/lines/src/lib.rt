@@ -13,7 +13,7 @@ ghost use mathlib.Core.List.{List, _++_};
 ghost use Prim.Native.Nat.{ℕ, _<_, _≤_};
 ghost use lib.ListN.{length};
 ghost use Rattle.order.specs.Effects.{Effect};
-ghost use Rattle.syntax.specs.Types.{Ty, grow};
+ghost use Rattle.syntax.specs.Types.{Ty, entryTree};
 ghost use Rattle.syntax.specs.Job.{Job, sourceOf};
 ghost use Rattle.syntax.specs.Words.{codeIn, entryBits};
 ghost use Rattle.semantics.specs.Room.{isDone};
@@ -29,7 +29,7 @@ ghost use Rattle.begin.specs.Starts.{Ready};
 
 // The kind of a type, by the command byte of its word.
 fn type_sort(byte: u64) -> Sort
-    ensures { λ r. ⌜ ((q a b s : ℕ) (f : ℕ → Ty) → r ≡ typeSort (grow (entryBits byte q a b s) f)) ⌝ }
+    ensures { λ r. ⌜ ((q a b s : ℕ) (f : ℕ → Ty) → r ≡ typeSort (entryTree (entryBits byte q a b s) f)) ⌝ }
 {
     match byte {
         0x11 => Sort::Pair,

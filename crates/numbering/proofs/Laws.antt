@@ -75,8 +75,8 @@ bound-le Nothing x = omega arith
 bound-le (Function v t) x = omega arith
 bound-le (NewKey v r) x = omega arith
 
-pub bound-grows : (b : Binder) (x y : Bound) → y ≡ boundOne b x → y .count ≤ x .count + 3
-bound-grows b x y h = omega (arith, bound-le b x, ap (λ (z : Bound). z .count) h)
+pub bound-extends : (b : Binder) (x y : Bound) → y ≡ boundOne b x → y .count ≤ x .count + 3
+bound-extends b x y h = omega (arith, bound-le b x, ap (λ (z : Bound). z .count) h)
 
 -- Turns
 

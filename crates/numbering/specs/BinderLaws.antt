@@ -22,7 +22,7 @@ use Rattle.typing.specs.Layout.{newKeys, keyEntries, Typing, typing, hostVars, 
 use Rattle.typing.specs.NumberedTables.{withKey, key-split}
 use Rattle.numbering.specs.declared.Binder.{Binder}
 use Rattle.numbering.specs.declared.Binder.the-variants.{Nothing, Function, NewKey}
-use Rattle.numbering.specs.Binders.{binderOf, layKey, Bound, bound, boundOne, boundFrom, hostsFrom}
+use Rattle.numbering.specs.Binders.{binderOf, storeKey, Bound, bound, boundOne, boundFrom, hostsFrom}
 
 -- By commands
 
@@ -105,9 +105,9 @@ word-more k T x i w e f h =
 key-length : (T : List TypeEntry) (r : ℕ) → length (withKey T r) ≡ length T + 3
 key-length T r = omega (arith, length-snoc ((T ++ (e-lim 0 r ∷ [])) ++ (e-grant 0 r ∷ [])) (e-pair 0 (length T) (suc (length T))), length-snoc (T ++ (e-lim 0 r ∷ [])) (e-grant 0 r), length-snoc T (e-lim 0 r))
 
-laid : (k : ℕ) (T : List TypeEntry) (r : ℕ) → length T + 3 ≤ k → length T + 3 ≤ 65536 → layKey (filled k 0 (typeWords T)) (length T) r ≡ filled k 0 (typeWords (withKey T r))
-unfolding layKey typeWord
-laid k T r h small =
+layout : (k : ℕ) (T : List TypeEntry) (r : ℕ) → length T + 3 ≤ k → length T + 3 ≤ 65536 → storeKey (filled k 0 (typeWords T)) (length T) r ≡ filled k 0 (typeWords (withKey T r))
+unfolding storeKey typeWord
+layout k T r h small =
     let a = e-lim 0 r in
     let b = e-grant 0 r in
     let c = e-pair 0 (length T) (suc (length T)) in
@@ -130,12 +130,12 @@ module _ (k : ℕ) (l : List (Cmd ℕ)) (T : List TypeEntry) (vs : List ℕ)
     (rest : (U : List TypeEntry) (us : List ℕ) → length U + 3 * length (newKeys l) ≤ k → length U + 3 * length (newKeys l) ≤ 65536
     → Keys k (U ++ keyEntries (length U) (newKeys l)) (boundAll l (bound (length U) (filled k 0 (typeWords U)) us))) where
   more : (v r : ℕ) → length T + 3 * suc (length (newKeys l)) ≤ k → length T + 3 * suc (length (newKeys l)) ≤ 65536
-      → Keys k (T ++ keyEntries (length T) (r ∷ newKeys l)) (boundAll l (bound (length T + 3) (layKey (filled k 0 (typeWords T)) (length T) r) (set vs v ((length T + 2) % 65536))))
+      → Keys k (T ++ keyEntries (length T) (r ∷ newKeys l)) (boundAll l (bound (length T + 3) (storeKey (filled k 0 (typeWords T)) (length T) r) (set vs v ((length T + 2) % 65536))))
   more v r p q =
       let us : List ℕ = set vs v ((length T + 2) % 65536) in
-      let e : bound (length (withKey T r)) (filled k 0 (typeWords (withKey T r))) us ≡ bound (length T + 3) (layKey (filled k 0 (typeWords T)) (length T) r) us =
-      λ i. bound (key-length T r i) (sym (laid k T r (omega arith) (omega arith)) i) us in
-      subst (λ (U : List TypeEntry). Keys k U (boundAll l (bound (length T + 3) (layKey (filled k 0 (typeWords T)) (length T) r) us))) (sym (key-split T r (newKeys l)))
+      let e : bound (length (withKey T r)) (filled k 0 (typeWords (withKey T r))) us ≡ bound (length T + 3) (storeKey (filled k 0 (typeWords T)) (length T) r) us =
+      λ i. bound (key-length T r i) (sym (layout k T r (omega arith) (omega arith)) i) us in
+      subst (λ (U : List TypeEntry). Keys k U (boundAll l (bound (length T + 3) (storeKey (filled k 0 (typeWords T)) (length T) r) us))) (sym (key-split T r (newKeys l)))
       (subst (λ (x : Bound). Keys k (withKey T r ++ keyEntries (length (withKey T r)) (newKeys l)) (boundAll l x)) e
       (rest (withKey T r) us (omega (arith, key-length T r)) (omega (arith, key-length T r))))
 
@@ -246,7 +246,7 @@ vars-all (k ∷ l) n ts vs v h a =
         unfold keyOf boundOne varOf stepOf in
         let z : (n + 2) % 65536 ≡ 2 + n = omega arith in
         let y : n + 3 ≡ 3 + n = omega arith in
-        rec (n + 3) (layKey ts n r) (set vs x ((n + 2) % 65536)) (omega arith) (length-set vs x ((n + 2) % 65536))
+        rec (n + 3) (storeKey ts n r) (set vs x ((n + 2) % 65536)) (omega arith) (length-set vs x ((n + 2) % 65536))
         ∙ (λ i. entryOr (boundVars (y i) l) v (getD (set vs x (z i)) v 0)) ∙ one-var l (3 + n) vs x (2 + n) v (low x by-key) (once x by-key)
 
 -- The host's variables

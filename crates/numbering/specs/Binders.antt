@@ -27,8 +27,8 @@ binderOf (c-newkey v r a b t) = NewKey v r
 binderOf (c-assoc a b) = Nothing
 
 -- the type table with the entries of a 3E from n on
-unfoldable pub layKey : List ℕ → ℕ → ℕ → List ℕ
-layKey types n r = set (set (set types n (typeBits 0x14 0 r 0)) (n + 1) (typeBits 0x15 0 r 0)) (n + 2) (typeBits 0x11 0 (n % 65536) ((n + 1) % 65536))
+unfoldable pub storeKey : List ℕ → ℕ → ℕ → List ℕ
+storeKey types n r = set (set (set types n (typeBits 0x14 0 r 0)) (n + 1) (typeBits 0x15 0 r 0)) (n + 2) (typeBits 0x11 0 (n % 65536) ((n + 1) % 65536))
 
 -- the number of entries, the type table, the entries of the variables
 pub record Bound : Type 0 where
@@ -42,7 +42,7 @@ bound n types vars = record { count = n; types = types; vars = vars }
 unfoldable pub boundOne : Binder → Bound → Bound
 boundOne Nothing x = x
 boundOne (Function v t) x = bound (x .count) (x .types) (set (x .vars) v t)
-boundOne (NewKey v r) x = bound (x .count + 3) (layKey (x .types) (x .count) r) (set (x .vars) v ((x .count + 2) % 65536))
+boundOne (NewKey v r) x = bound (x .count + 3) (storeKey (x .types) (x .count) r) (set (x .vars) v ((x .count + 2) % 65536))
 
 -- n expressions from e on
 unfoldable pub boundFrom : List ℕ → List ℕ → ℕ → ℕ → Bound → Bound

@@ -141,9 +141,9 @@ module _ {J : Job} (j : JobOk J) (f : JobFits J) (scoped : treeRefusal (sourceOf
   unfolding bindersBy
   as-commands = bound-all (filled kh 0 (headWords J)) (filled kp 0 (slotWords J)) (J .cmds) 0 _ (λ i. let z : 0 + i ≡ i = omega arith in ap (codeIn (filled kh 0 (headWords J)) (filled kp 0 (slotWords J))) z ∙ code i)
 
-  laid : Keys kt (startOf J .entries) binders
+  layout : Keys kt (startOf J .entries) binders
   unfolding startOf
-  laid =
+  layout =
       subst (λ (x : Bound). Keys kt (J .types ++ keyEntries (length (J .types)) (newKeys (J .cmds))) x) (sym as-commands)
       (keys-all kt (J .cmds) (J .types) hosted (omega (arith, few)) (omega (arith, few)))
 
@@ -236,4 +236,4 @@ module _ {J : Job} (j : JobOk J) (f : JobFits J) (scoped : treeRefusal (sourceOf
       (all (binders .vars) variables (length (J .cmds)) 0 (startOf J) (omega arith) (inv-start j scoped (agree kn j)))
     where
       start : work (binders .count) (binders .types) (filled ks 0 (setWords (J .types))) (filled ko 0 []) (filled ke 0 []) ≡ workOf kt ks ko ke (startOf J)
-      start = unfold startOf in λ i. work (laid .count i) (laid .types i) (sym (sets-kept ks (J .types) (length (J .types)) (newKeys (J .cmds)) (omega (arith, few))) i) (filled ko 0 []) (filled ke 0 [])
+      start = unfold startOf in λ i. work (layout .count i) (layout .types i) (sym (sets-kept ks (J .types) (length (J .types)) (newKeys (J .cmds)) (omega (arith, few))) i) (filled ko 0 []) (filled ke 0 [])

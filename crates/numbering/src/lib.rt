@@ -9,7 +9,7 @@ ghost use lib.ListN.{set};
 ghost use Rattle.syntax.specs.Words.{typeBits, typeWord, setWord, codeIn};
 ghost use Rattle.types.specs.Entry.{entryOf};
 ghost use Rattle.infer.specs.Answer.{made, resultIn};
-ghost use Rattle.numbering.specs.Binders.{binderOf, layKey, bound, boundOne, boundFrom, hostsFrom};
+ghost use Rattle.numbering.specs.Binders.{binderOf, storeKey, bound, boundOne, boundFrom, hostsFrom};
 ghost use Rattle.numbering.specs.Pass.{work, Settled, typedFrom, Ended, numberedBy};
 
 // What an expression binds: a function's variable with the entry of its type, or a variable and a local name by 3E.
@@ -99,9 +99,9 @@ fn binder_at<'a>(heads: &'a [u64], slots: &'a [u16], e: u16) -> Binder
 }
 
 // The three entries of a 3E with local name r, from n on: its limit key, its grant key, and their pair.
-fn lay_key(types: &mut [u64], n: usize, r: u8)
+fn store_key(types: &mut [u64], n: usize, r: u8)
     requires { ⌜ n ≤ 327680 ⌝ }
-    ensures { λ _. ⌜ now (types .exit) ≡ layKey (now (types .entry)) n r ⌝ }
+    ensures { λ _. ⌜ now (types .exit) ≡ storeKey (now (types .entry)) n r ⌝ }
 {
     put64(types, n, bits(0x14, 0, r as u16, 0));
     put64(types, n + 1, bits(0x15, 0, r as u16, 0));
@@ -120,7 +120,7 @@ fn bind_one(b: Binder, n: usize, types: &mut [u64], vars: &mut [u16; 64]) -> usi
             return n;
         }
         Binder::NewKey(v, r) => {
-            lay_key(types, n, r);
+            store_key(types, n, r);
             put16(vars, v as usize, short(n + 2));
             return n + 3;
         }

@@ -11,7 +11,7 @@ use lib.Dec.{eqb}
 use borrow.Author.Tests.{eq-eqb, eqb-true, eqb-false, ltb-true}
 use Rattle.order.specs.Bools.{and-r}
 use Rattle.order.specs.Order.{Below, bot, here, there}
-use Rattle.order.specs.OrderLaws.{below-grow, below-le, getElem?-seam, getElem?-at, getElem?-append, length-snoc}
+use Rattle.order.specs.OrderLaws.{below-append, below-le, getElem?-seam, getElem?-at, getElem?-append, length-snoc}
 use Rattle.order.specs.Sets.{members}
 use Rattle.order.specs.Effects.{Effect, names, join, drop, raise}
 use Rattle.order.specs.EffectLaws.{drop-or, raise-off, raise-on}
@@ -35,7 +35,7 @@ use Rattle.semantics.specs.Invariant.{StackOk, so-nil, so-cons, ThreadOk
 use Rattle.semantics.specs.Growth.{ext-refl, fits-ext, on-ext, covers-ext, envOk-ext, env-ext, stack-ext}
 use Rattle.semantics.specs.Enabled.{on-more, on-enabled, on-below, on-narrow, keys-snoc, on-under, add-new, add-old, on-name, covers-join-l, covers-join-r, covers-old, covers-touch, covers-map, map-covers, covers-more}
 use Rattle.semantics.specs.Bindings.{fits-sub, inst-off, env-zero, env-one, env-mono, env-sub, env-lt, env-lookup, covers-below, covers-keys, mono-new, up-new}
-use Rattle.semantics.specs.Stores.{world, store-wider, fn-grows, add-fn, pair-grows, add-pair, cell-grows, add-cell, set-cell}
+use Rattle.semantics.specs.Stores.{world, store-wider, fn-extends, add-fn, pair-extends, add-pair, cell-extends, add-cell, set-cell}
 
 -- from the world W a step leads into a wider one
 pub data Good (S : Src) (W : World) : Out → Type 0 where
@@ -135,7 +135,7 @@ module _ (S : Src) (σ : Store) (pt : List TwoTy) (ft : List FnTy) (ct : List RT
     unfolding newFn inst
     newFn-ok {x = x} {b = b} {E = E} {Γ = Γ} {T = T} {U = U} {s = s} o h k =
         let t : FnTy = record { from = inst (look E) T; to = inst (look E) U; eff = map (look E) (names s) } in
-        let w = fn-grows st t in
+        let w = fn-extends st t in
         room-ok _ (λ z. g-step (record {
           pt = pt;
           ft = ft ++ (t ∷ []);
@@ -239,7 +239,7 @@ module _ (S : Src) (σ : Store) (pt : List TwoTy) (ft : List FnTy) (ct : List RT
     unfolding actPair
     pair-ok {v} {w} {A} {B} f g k =
         let t : TwoTy = record { one = A; two = B } in
-        let x = pair-grows st t in
+        let x = pair-extends st t in
         room-ok _ (λ z. g-step (record {
           pt = pt ++ (t ∷ []);
           ft = ft;
@@ -285,7 +285,7 @@ module _ (S : Src) (σ : Store) (pt : List TwoTy) (ft : List FnTy) (ct : List RT
     new-ok : {v : Value} {T : RTy} → Fits W v T → Stack (rcell 0 T) → Good S W (actNew v m)
     unfolding actNew
     new-ok {v} {T} f k =
-        let x = cell-grows st T in
+        let x = cell-extends st T in
         room-ok _ (λ z. g-step (record {
           pt = pt;
           ft = ft;
@@ -434,7 +434,7 @@ module _ (S : Src) (σ : Store) (pt : List TwoTy) (ft : List FnTy) (ct : List RT
         posK = omega arith
 
         wx : Ext W W1
-        wx = record { pts = λ i a e. e; fts = λ i a e. e; cts = λ i a e. e; ks = λ a b. below-grow (j ∷ []); klen = omega (arith, length-snoc (σ .keys) j); lks = getElem?-append (σ .bindings) (l1 ∷ l2 ∷ []) }
+        wx = record { pts = λ i a e. e; fts = λ i a e. e; cts = λ i a e. e; ks = λ a b. below-append (j ∷ []); klen = omega (arith, length-snoc (σ .keys) j); lks = getElem?-append (σ .bindings) (l1 ∷ l2 ∷ []) }
 
         wx′ : Ext W W′
         wx′ = record { pts = getElem?-append pt (tw ∷ []); fts = λ i a e. e; cts = λ i a e. e; ks = wx .ks; klen = wx .klen; lks = wx .lks }

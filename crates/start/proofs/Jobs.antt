@@ -12,7 +12,7 @@ use Rattle.order.specs.Bools.{and-l, and-r}
 use Rattle.order.specs.OrderLaws.{getElem?-lt}
 use Rattle.order.specs.Sets.{setOf}
 use Rattle.order.specs.Effects as effects
-use Rattle.syntax.specs.Types.{Ty, num, pair, cell, fn, lim, grant, TypeEntry, e-num, e-pair, e-cell, e-fn, e-lim, e-grant, grow, treeIn, tree}
+use Rattle.syntax.specs.Types.{Ty, num, pair, cell, fn, lim, grant, TypeEntry, e-num, e-pair, e-cell, e-fn, e-lim, e-grant, entryTree, treeIn, tree}
 use Rattle.syntax.specs.Job.{Name, HostValue, Job, valueOf, sourceOf}
 use Rattle.syntax.specs.Words.{typeWord}
 use Rattle.syntax.specs.Reading.{declared, partsOk, typeOk, unkeyedNumber, hostTypeOk, hostValueOk}
@@ -64,8 +64,8 @@ unkeyed-num (grant p r) h = absurd (false≢true h)
 -- a host value's type by its word
 head-of :
     (ds : List Name) (i n : ℕ) (f : ℕ → Ty) (o : Option TypeEntry) (w : ℕ) → length ds ≤ 62 → i ≤ 256 → ((e : TypeEntry) → o ≡ some e → partsOk ds i e ≡ true) →
-    ((e : TypeEntry) → o ≡ some e → w ≡ typeWord e) → hostTypeOk ds (grow o f) n ≡ true → headOf w ≡ grow o f
-unfolding grow hostTypeOk partsOk declared
+    ((e : TypeEntry) → o ≡ some e → w ≡ typeWord e) → hostTypeOk ds (entryTree o f) n ≡ true → headOf w ≡ entryTree o f
+unfolding entryTree hostTypeOk partsOk declared
 head-of ds i n f none w few le p g h = absurd (false≢true h)
 head-of ds i n f (some (e-num q)) w few le p g h = absurd (false≢true h)
 head-of ds i n f (some (e-pair q a b)) w few le p g h = absurd (false≢true h)

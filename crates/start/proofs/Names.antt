@@ -16,7 +16,7 @@ use Rattle.semantics.specs.Start.{bindTo, Named, addName, addNames}
 use Rattle.names.specs.Ancestors.{nameOf, namesIn}
 use Rattle.store.specs.Words.{upIn, linkIn}
 use Rattle.store.specs.Tables.{Wrote, listOf}
-use Rattle.store.proofs.Laws.{list-length, list-grown, list-get}
+use Rattle.store.proofs.Laws.{list-length, list-extended, list-get}
 use Rattle.store.proofs.Writes.{up-put}
 use Rattle.start.specs.Entries.{keyIn, Within, namedIn, unnamed, NameEntered, NamesEntered}
 
@@ -51,7 +51,7 @@ module _ (names keys of bindings keys′ of′ bindings′ : List ℕ) (a nkeys 
   host-entered up h g e u wk wo wb =
       let m : nkeys + 1 - 2 ≡ nkeys - 2 + 1 = omega arith in
       record {
-        same = simp (← ew, eq-eqb _ _ e, m, list-grown upIn keys keys′ nkeys up wk, list-grown upIn of of′ a nkeys wo, list-grown linkIn bindings bindings′ (nkeys - 2) _ wb, u, list-length);
+        same = simp (← ew, eq-eqb _ _ e, m, list-extended upIn keys keys′ nkeys up wk, list-extended upIn of of′ a nkeys wo, list-extended linkIn bindings bindings′ (nkeys - 2) _ wb, u, list-length);
         low = omega arith;
         few = omega arith;
       }
@@ -59,7 +59,7 @@ module _ (names keys of bindings keys′ of′ bindings′ : List ℕ) (a nkeys 
   pub local-entered :
       2 ≤ nkeys → nkeys ≤ a → (w / 256 ≡ 1 → ⊥) → Wrote upIn of of′ a 0 → NameEntered names a nkeys keys of bindings keys of′ bindings nkeys
   unfolding namedIn addName nameOf
-  local-entered h g e wo = record { same = simp (← ew, ne-eqb _ _ e, list-grown upIn of of′ a 0 wo); low = h; few = omega arith }
+  local-entered h g e wo = record { same = simp (← ew, ne-eqb _ _ e, list-extended upIn of of′ a 0 wo); low = h; few = omega arith }
 
 -- 0 and 1
 pub first-two :

@@ -13,7 +13,7 @@ use Rattle.semantics.specs.Machine.{Value, unkeyed, k-num, k-cell, k-lim, k-gra
 use Rattle.semantics.specs.Start.{bindTo, hostValue, hostCell, Valued, addValues}
 use Rattle.store.specs.Words.{cellIn, linkIn}
 use Rattle.store.specs.Tables.{Wrote, listOf}
-use Rattle.store.proofs.Laws.{list-length, list-grown}
+use Rattle.store.proofs.Laws.{list-length, list-extended}
 use Rattle.start.specs.Entries.{headOf, hostOf, valuesFrom, valuedIn, addValue, ValueEntered, ValuesLeft, ValuesEntered}
 
 -- a host value by the command byte of its type
@@ -62,7 +62,7 @@ module _ (key : ℕ → ℕ) (types values : List ℕ) (v w t ncells nbindings :
     unfolding valuedIn addValue hostOf bindTo
     cell-entered e wc =
         record {
-          same = simp (list-grown cellIn cells cells′ ncells _ wc, list-grown linkIn bindings bindings′ nbindings _ wb, list-length, ← ew, ← et, cell-some t (w / 16777216 % 4294967296) e, ex);
+          same = simp (list-extended cellIn cells cells′ ncells _ wc, list-extended linkIn bindings bindings′ nbindings _ wb, list-length, ← ew, ← et, cell-some t (w / 16777216 % 4294967296) e, ex);
           few = omega arith;
         }
 
@@ -71,7 +71,7 @@ module _ (key : ℕ → ℕ) (types values : List ℕ) (v w t ncells nbindings :
     unfolding valuedIn addValue hostOf bindTo
     key-entered e =
         record {
-          same = simp (list-grown linkIn bindings bindings′ nbindings _ wb, list-length, ← ew, ← et, cell-none t (w / 16777216 % 4294967296) e, append-nil, ex);
+          same = simp (list-extended linkIn bindings bindings′ nbindings _ wb, list-length, ← ew, ← et, cell-none t (w / 16777216 % 4294967296) e, append-nil, ex);
           few = omega arith;
         }
 

@@ -49,8 +49,8 @@ module _ {T : Type 0} where
   inner (c-assoc a b) = []
 
   -- every operand that is an expression
-  unfoldable pub kids : Cmd T → List ℕ
-  kids k = plain k ++ inner k
+  unfoldable pub children : Cmd T → List ℕ
+  children k = plain k ++ inner k
 
   -- the type operand
   unfoldable pub typesOf : Cmd T → List T

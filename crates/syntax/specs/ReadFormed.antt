@@ -14,10 +14,10 @@ use Rattle.order.specs.SetLaws.{all-of→}
 use Rattle.order.specs.OrderLaws.{Proper, proper-two, proper-snoc, getElem?-append, getElem?-lt, length-snoc}
 use Rattle.order.specs.Effects.{Effect, names}
 use Rattle.order.specs.EffectLaws.{name-mem}
-use Rattle.syntax.specs.Types.{Ty, num, pair, cell, fn, lim, grant, TypeEntry, e-num, e-pair, e-cell, e-fn, e-lim, e-grant, grow, treeIn, tree, depth, namesIn}
+use Rattle.syntax.specs.Types.{Ty, num, pair, cell, fn, lim, grant, TypeEntry, e-num, e-pair, e-cell, e-fn, e-lim, e-grant, entryTree, treeIn, tree, depth, namesIn}
 use Rattle.syntax.specs.TypeLaws.{Part, of-pair-1, of-pair-2, of-cell, of-fn-1, of-fn-2, Earlier, tree-entry, tree-kept}
 use Rattle.syntax.specs.Commands.{Cmd, c-num, c-top, c-var, c-pair, c-part, c-fn, c-app, c-new, c-asg, c-read, c-sum, c-test, c-lim, c-grant, c-newkey, c-assoc, mapCmd}
-use Rattle.syntax.specs.Operands.{nth, plain, inner, kids, typesOf, usesVar, bindsVar, bindsName}
+use Rattle.syntax.specs.Operands.{nth, plain, inner, children, typesOf, usesVar, bindsVar, bindsName}
 use Rattle.syntax.specs.Job.{Name, HostValue, Job, uppers, valueOf, sourceOf}
 use Rattle.syntax.specs.Reading.{most-depth, declared, setOk, isHost, hostName, openName, localName, nameOk, partsOk, typeOk, unkeyedNumber, hostTypeOk, hostValueOk, cmdOk, most-variables, read, reading}
 use Rattle.syntax.specs.ReadLaws.{nothing, more, built-at, NamesOk, TypesOk, JobOk, withCmds, read-ok}
@@ -38,9 +38,9 @@ mem-at (List·Memᴰ·tail m) = let z = mem-at m in (suc (z .0), z .1)
 -- Names
 
 -- a host name stays one when names are added
-pub host-grow : (ds es : List Name) (q : ℕ) → hostName ds q ≡ true → hostName (ds ++ es) q ≡ true
+pub host-append : (ds es : List Name) (q : ℕ) → hostName ds q ≡ true → hostName (ds ++ es) q ≡ true
 unfolding hostName isHost
-host-grow ds es q e = at (or-cases (eqb q 1) (leb 2 q and isHost (getElem? ds (q - 2))) e)
+host-append ds es q e = at (or-cases (eqb q 1) (leb 2 q and isHost (getElem? ds (q - 2))) e)
   where
     longer : (o : Option Name) → getElem? ds (q - 2) ≡ o → isHost o ≡ true → isHost (getElem? (ds ++ es) (q - 2)) ≡ true
     longer none z h = absurd (false≢true h)
@@ -90,7 +90,7 @@ names-proper (more {l} b d e) =
 
 pub host-upper : {ds : List Name} → NamesOk ds → (i : ℕ) (d : Name) → getElem? ds i ≡ some d → d .host ≡ true → hostName ds (d .upper) ≡ true
 host-upper {ds} b i d e h =
-    subst (λ l. hostName l (d .upper) ≡ true) (take-append-drop i ds) (host-grow (take i ds) (drop i ds) (d .upper) (upper-ok (take i ds) d (built-at nameOk b i d e) .host-upper h))
+    subst (λ l. hostName l (d .upper) ≡ true) (take-append-drop i ds) (host-append (take i ds) (drop i ds) (d .upper) (upper-ok (take i ds) d (built-at nameOk b i d e) .host-upper h))
 
 -- Declared types
 
@@ -112,7 +112,7 @@ pub types-earlier : (ds : List Name) {ts : List TypeEntry} → TypesOk ds ts →
 types-earlier ds b = record { part = λ i x e. parts-earlier ds i x (entry-parts ds b i x e) }
 
 -- the tree of an entry is made of the trees of its parts
-pub tree-at : (ds : List Name) {ts : List TypeEntry} → TypesOk ds ts → (i : ℕ) (e : TypeEntry) → getElem? ts i ≡ some e → tree ts i ≡ grow (some e) (tree ts)
+pub tree-at : (ds : List Name) {ts : List TypeEntry} → TypesOk ds ts → (i : ℕ) (e : TypeEntry) → getElem? ts i ≡ some e → tree ts i ≡ entryTree (some e) (tree ts)
 tree-at ds b i e h = tree-entry (types-earlier ds b) i e h
 
 -- no declared type is deeper than 16
@@ -146,11 +146,11 @@ two-declared ds q r x y {n} m = at (List·Memᴰ·cases-cons m)
     at (inr z) = rw (List·Memᴰ·eq-of-singleton z) y
 
 -- an entry's tree has the entry's own names, which are declared, and those of its parts
-grow-declared : (ds : List Name) (n : ℕ) (e : TypeEntry) → partsOk ds n e ≡ true → (f : ℕ → Ty) → ((a : ℕ) → a < n → (x : ℕ) → List·Memᴰ x (namesIn (f a)) → declared ds x ≡ true)
-    → (x : ℕ) → List·Memᴰ x (namesIn (grow (some e) f)) → declared ds x ≡ true
-unfolding grow partsOk namesIn
-grow-declared ds n (e-num q) h f s x m = rw (List·Memᴰ·eq-of-singleton m) h
-grow-declared ds n (e-pair q a b) h f s x m = at (List·Memᴰ·cases-cons m)
+entryTree-declared : (ds : List Name) (n : ℕ) (e : TypeEntry) → partsOk ds n e ≡ true → (f : ℕ → Ty) → ((a : ℕ) → a < n → (x : ℕ) → List·Memᴰ x (namesIn (f a)) → declared ds x ≡ true)
+    → (x : ℕ) → List·Memᴰ x (namesIn (entryTree (some e) f)) → declared ds x ≡ true
+unfolding entryTree partsOk namesIn
+entryTree-declared ds n (e-num q) h f s x m = rw (List·Memᴰ·eq-of-singleton m) h
+entryTree-declared ds n (e-pair q a b) h f s x m = at (List·Memᴰ·cases-cons m)
   where
     part : List·Memᴰ x (namesIn (f a)) ⊎ List·Memᴰ x (namesIn (f b)) → declared ds x ≡ true
     part (inl z) = s a (ltb-true a n (and-r _ _ (and-l _ _ h))) x z
@@ -159,12 +159,12 @@ grow-declared ds n (e-pair q a b) h f s x m = at (List·Memᴰ·cases-cons m)
     at : (x ≡ q) ⊎ List·Memᴰ x (namesIn (f a) ++ namesIn (f b)) → declared ds x ≡ true
     at (inl z) = rw z (and-l _ _ (and-l _ _ h))
     at (inr z) = part (List·Memᴰ·append-cases (namesIn (f a)) z)
-grow-declared ds n (e-cell q a) h f s x m = at (List·Memᴰ·cases-cons m)
+entryTree-declared ds n (e-cell q a) h f s x m = at (List·Memᴰ·cases-cons m)
   where
     at : (x ≡ q) ⊎ List·Memᴰ x (namesIn (f a)) → declared ds x ≡ true
     at (inl z) = rw z (and-l _ _ h)
     at (inr z) = s a (ltb-true a n (and-r _ _ h)) x z
-grow-declared ds n (e-fn q a b p) h f s x m = at (List·Memᴰ·cases-cons m)
+entryTree-declared ds n (e-fn q a b p) h f s x m = at (List·Memᴰ·cases-cons m)
   where
     last : List·Memᴰ x (namesIn (f b)) ⊎ List·Memᴰ x (names p) → declared ds x ≡ true
     last (inl z) = s b (ltb-true b n (and-r _ _ (and-l _ _ h))) x z
@@ -177,17 +177,17 @@ grow-declared ds n (e-fn q a b p) h f s x m = at (List·Memᴰ·cases-cons m)
     at : (x ≡ q) ⊎ List·Memᴰ x (namesIn (f a) ++ (namesIn (f b) ++ names p)) → declared ds x ≡ true
     at (inl z) = rw z (and-l _ _ (and-l _ _ (and-l _ _ h)))
     at (inr z) = part (List·Memᴰ·append-cases (namesIn (f a)) z)
-grow-declared ds n (e-lim q r) h f s x m = two-declared ds q r (and-l _ _ (and-l _ _ h)) (and-r _ _ (and-l _ _ h)) m
-grow-declared ds n (e-grant q r) h f s x m = two-declared ds q r (and-l _ _ (and-l _ _ h)) (and-r _ _ (and-l _ _ h)) m
+entryTree-declared ds n (e-lim q r) h f s x m = two-declared ds q r (and-l _ _ (and-l _ _ h)) (and-r _ _ (and-l _ _ h)) m
+entryTree-declared ds n (e-grant q r) h f s x m = two-declared ds q r (and-l _ _ (and-l _ _ h)) (and-r _ _ (and-l _ _ h)) m
 
 levels-declared : (ds : List Name) {ts : List TypeEntry} → TypesOk ds ts → (f i : ℕ) (x : ℕ) → List·Memᴰ x (namesIn (treeIn f (getElem? ts) i)) → declared ds x ≡ true
-unfolding treeIn grow namesIn
+unfolding treeIn entryTree namesIn
 levels-declared ds b zero i x m = rw (List·Memᴰ·eq-of-singleton m) (zero-declared ds)
 levels-declared ds {ts} b (suc f) i x m = at (getElem? ts i) refl (λ a y w. levels-declared ds b f a y w) m
   where
-    at : (o : Option TypeEntry) → getElem? ts i ≡ o → ((a y : ℕ) → List·Memᴰ y (namesIn (treeIn f (getElem? ts) a)) → declared ds y ≡ true) → List·Memᴰ x (namesIn (grow o (treeIn f (getElem? ts)))) → declared ds x ≡ true
+    at : (o : Option TypeEntry) → getElem? ts i ≡ o → ((a y : ℕ) → List·Memᴰ y (namesIn (treeIn f (getElem? ts) a)) → declared ds y ≡ true) → List·Memᴰ x (namesIn (entryTree o (treeIn f (getElem? ts)))) → declared ds x ≡ true
     at none z s w = rw (List·Memᴰ·eq-of-singleton w) (zero-declared ds)
-    at (some e) z s w = grow-declared ds i e (entry-parts ds b i e z) (treeIn f (getElem? ts)) (λ a u y v. s a y v) x w
+    at (some e) z s w = entryTree-declared ds i e (entry-parts ds b i e z) (treeIn f (getElem? ts)) (λ a u y v. s a y v) x w
 
 -- every name in a declared type is declared
 pub tree-declared : (ds : List Name) {ts : List TypeEntry} → TypesOk ds ts → (i x : ℕ) → List·Memᴰ x (namesIn (tree ts i)) → declared ds x ≡ true
@@ -223,13 +223,13 @@ unfolding openName
 zero-open ds = or-l (eqb 0 0) (hostName ds 0) refl
 
 pub host-typed : {ds : List Name} {ts : List TypeEntry} → TypesOk ds ts → (t n : ℕ) → hostTypeOk ds (tree ts t) n ≡ true → HostTyped ds (tree ts t)
-unfolding tree treeIn grow typeOk partsOk hostTypeOk
+unfolding tree treeIn entryTree typeOk partsOk hostTypeOk
 host-typed {ds} {ts} b t n e = at (getElem? ts t) (λ x z. and-l _ _ (built-at _ b t x z)) e
   where
     key : (q r : ℕ) → (declared ds q and declared ds r and not (eqb r 0)) ≡ true → (openName ds q and openName ds r and eqb n 0) ≡ true → (openName ds q ≡ true) × (hostName ds r ≡ true)
     key q r x y = (and-l _ _ (and-l _ _ y), open-host ds r (and-r _ _ (and-l _ _ y)) (and-r _ _ x))
 
-    at : (o : Option TypeEntry) → ((x : TypeEntry) → o ≡ some x → partsOk ds (length (take t ts)) x ≡ true) → hostTypeOk ds (grow o (treeIn t (getElem? ts))) n ≡ true → HostTyped ds (grow o (treeIn t (getElem? ts)))
+    at : (o : Option TypeEntry) → ((x : TypeEntry) → o ≡ some x → partsOk ds (length (take t ts)) x ≡ true) → hostTypeOk ds (entryTree o (treeIn t (getElem? ts))) n ≡ true → HostTyped ds (entryTree o (treeIn t (getElem? ts)))
     at none f h = absurd (false≢true h)
     at (some (e-num q)) f h = absurd (false≢true h)
     at (some (e-pair q x y)) f h = absurd (false≢true h)
@@ -255,8 +255,8 @@ host-names ds (ht-grant {q} {r} x y) m = two ds q r x (host-open ds r y) m
 
 module _ {T U : Type 0} (f : T → U) where
   -- other type operands change nothing else
-  mapped : (k : Cmd T) → (kids (mapCmd f k) ≡ kids k) × (bindsVar (mapCmd f k) ≡ bindsVar k) × (bindsName (mapCmd f k) ≡ bindsName k) × (typesOf (mapCmd f k) ≡ map f (typesOf k))
-  unfolding kids plain inner bindsVar bindsName typesOf mapCmd
+  mapped : (k : Cmd T) → (children (mapCmd f k) ≡ children k) × (bindsVar (mapCmd f k) ≡ bindsVar k) × (bindsName (mapCmd f k) ≡ bindsName k) × (typesOf (mapCmd f k) ≡ map f (typesOf k))
+  unfolding children plain inner bindsVar bindsName typesOf mapCmd
   mapped (c-num n) = (refl, refl, refl, refl)
   mapped c-top = (refl, refl, refl, refl)
   mapped (c-var v) = (refl, refl, refl, refl)
@@ -274,8 +274,8 @@ module _ {T U : Type 0} (f : T → U) where
   mapped (c-newkey v r a b t) = (refl, refl, refl, refl)
   mapped (c-assoc a b) = (refl, refl, refl, refl)
 
-  pub kids-map : (k : Cmd T) → kids (mapCmd f k) ≡ kids k
-  kids-map k = mapped k .0
+  pub children-map : (k : Cmd T) → children (mapCmd f k) ≡ children k
+  children-map k = mapped k .0
 
   pub bindsVar-map : (k : Cmd T) → bindsVar (mapCmd f k) ≡ bindsVar k
   bindsVar-map k = mapped k .1
@@ -301,7 +301,7 @@ nth-at (k ∷ l) (suc e) = nth-at l e
 
 -- what holds of expression e, where there are so many types and values
 pub record CmdFormed (ds : List Name) (types values e : ℕ) (k : Cmd ℕ) : Type 0 where
-  pub operand : (c : ℕ) → List·Memᴰ c (kids k) → c < e
+  pub operand : (c : ℕ) → List·Memᴰ c (children k) → c < e
   pub type-operand : (t : ℕ) → List·Memᴰ t (typesOf k) → t < types
   pub used-variable : (v : ℕ) → List·Memᴰ v (usesVar k) → v < most-variables
   pub bound-variable : (v : ℕ) → List·Memᴰ v (bindsVar k) → (values ≤ v) × (v < most-variables)
@@ -326,7 +326,7 @@ cmd-formed J e k le h =
 
 -- the number that stands past the end has no operands
 past-formed : (ds : List Name) (types values e : ℕ) → CmdFormed ds types values e (c-num 0)
-unfolding kids plain inner typesOf usesVar bindsVar bindsName
+unfolding children plain inner typesOf usesVar bindsVar bindsName
 past-formed ds types values e =
     record {
       operand = λ c m. absurd (List·Memᴰ·not-nil m);
@@ -361,7 +361,7 @@ unfolding sourceOf
 job-formed J j =
     record {
       some-expression = omega (arith, j .some-cmds, length-map (J .cmds) (mapCmd (tree (J .types))));
-      operand = λ e c m. cmds-formed j e .operand c (rw (kids-at e) at m);
+      operand = λ e c m. cmds-formed j e .operand c (rw (children-at e) at m);
       bound-variable = λ e v m. omega (arith, cmds-formed j e .bound-variable v (rw (bindsVar-at e) at m), length-map (J .values) (valueOf (J .types)));
       bound-name = λ e r m. cmds-formed j e .bound-name r (rw (bindsName-at e) at m);
       host-type = λ h m n w. host-names (J .names) (value-typed j h m) w;
@@ -371,8 +371,8 @@ job-formed J j =
     f : ℕ → Ty
     f = tree (J .types)
 
-    kids-at : (e : ℕ) → kids (nth (map (mapCmd f) (J .cmds)) e) ≡ kids (nth (J .cmds) e)
-    kids-at e = ap kids (nth-map f (J .cmds) e) ∙ kids-map f (nth (J .cmds) e)
+    children-at : (e : ℕ) → children (nth (map (mapCmd f) (J .cmds)) e) ≡ children (nth (J .cmds) e)
+    children-at e = ap children (nth-map f (J .cmds) e) ∙ children-map f (nth (J .cmds) e)
 
     bindsVar-at : (e : ℕ) → bindsVar (nth (map (mapCmd f) (J .cmds)) e) ≡ bindsVar (nth (J .cmds) e)
     bindsVar-at e = ap bindsVar (nth-map f (J .cmds) e) ∙ bindsVar-map f (nth (J .cmds) e)

@@ -12,7 +12,7 @@ use Rattle.syntax.specs.Types.{Ty, num, pair, cell, fn, lim, grant, Type
 use Rattle.syntax.specs.Commands.{Cmd, c-num, c-top, c-var, c-pair, c-part, c-fn, c-app, c-new, c-asg, c-read, c-sum, c-test, c-lim, c-grant, c-newkey, c-assoc}
 use Rattle.syntax.specs.Commands.{Op, o-host, o-local, o-number, o-pair, o-cell, o-function, o-limit, o-grant, o-value, o-rights, o-end, opOf, operands, width, sectionOf, fields}
 use Rattle.syntax.specs.Commands.{x-number, x-top, x-variable, x-pair, x-part, x-function, x-apply, x-cell, x-assign, x-read, x-sum, x-test, x-limit, x-grant, x-newkey, x-associate}
-use Rattle.syntax.specs.Operands.{kids, typesOf, usesVar, bindsVar, bindsName}
+use Rattle.syntax.specs.Operands.{children, typesOf, usesVar, bindsVar, bindsName}
 use Rattle.syntax.specs.Job.{Name, HostValue, Job, uppers}
 
 -- a refusal: its number, and its place
@@ -108,7 +108,7 @@ rightsOk ds s = setOk ds s and all-of (hostName ds) (members s)
 -- an expression: operands and types earlier, variables below 64, a bound variable not the host's, a bound name local
 unfoldable pub cmdOk : Job → Cmd ℕ → Bool
 cmdOk J k =
-    all-of (λ e. ltb e (length (J .cmds))) (kids k)
+    all-of (λ e. ltb e (length (J .cmds))) (children k)
     and all-of (λ t. ltb t (length (J .types))) (typesOf k)
     and all-of (λ v. ltb v most-variables) (usesVar k)
     and all-of (λ v. leb (length (J .values)) v and ltb v most-variables) (bindsVar k)

@@ -9,7 +9,7 @@ use Rattle.order.specs.Bools.{_and_}
 use Rattle.order.specs.Sets.{some-of, all-of}
 use Rattle.syntax.specs.Types.{Ty, pair, lim, grant, namesIn}
 use Rattle.syntax.specs.Commands.{Cmd, c-num, c-top, c-var, c-pair, c-part, c-fn, c-app, c-new, c-asg, c-read, c-sum, c-test, c-lim, c-grant, c-newkey, c-assoc}
-use Rattle.syntax.specs.Operands.{nth, kids, inner, typesOf, usesVar}
+use Rattle.syntax.specs.Operands.{nth, children, inner, typesOf, usesVar}
 use Rattle.syntax.specs.Job.{Name, HostValue, Src}
 use Rattle.syntax.specs.Reading.{Refusal}
 
@@ -84,7 +84,7 @@ count x (y ∷ l) = cond (eqb x y) 1 0 + count x l
 
 unfoldable pub uses : List (Cmd Ty) → ℕ → ℕ
 uses [] c = 0
-uses (k ∷ l) c = count c (kids k) + uses l c
+uses (k ∷ l) c = count c (children k) + uses l c
 
 -- 8: used once, "the last: not at all"
 unfoldable pub usedRight : Src → ℕ → Bool
@@ -104,7 +104,7 @@ bindsNew S e =
 -- the first expression that has the operand c, when the list starts at number i
 unfoldable pub parent : List (Cmd Ty) → ℕ → ℕ → ℕ
 parent [] i c = i
-parent (k ∷ l) i c = cond (memB c (kids k)) i (parent l (suc i) c)
+parent (k ∷ l) i c = cond (memB c (children k)) i (parent l (suc i) c)
 
 unfoldable pub scopeIn : ℕ → Cmd Ty → List Entry
 scopeIn c k = cond (memB c (inner k)) (binds k) []

@@ -20,7 +20,7 @@ use Rattle.syntax.specs.Types.{TypeEntry, e-num, e-pair, e-cell, e-fn, e
 use Rattle.syntax.specs.Commands.{Cmd, c-num, c-top, c-var, c-pair, c-part, c-fn, c-app, c-new, c-asg, c-read, c-sum, c-test, c-lim, c-grant, c-newkey, c-assoc}
 use Rattle.syntax.specs.Commands.{Op, o-host, o-local, o-number, o-pair, o-cell, o-function, o-limit, o-grant, o-value, o-rights, o-end, opOf, operands, width, sectionOf, little, fields}
 use Rattle.syntax.specs.Commands.{x-number, x-top, x-variable, x-pair, x-part, x-function, x-apply, x-cell, x-assign, x-read, x-sum, x-test, x-limit, x-grant, x-newkey, x-associate}
-use Rattle.syntax.specs.Operands.{nth, plain, inner, kids, typesOf, usesVar, bindsVar, bindsName}
+use Rattle.syntax.specs.Operands.{nth, plain, inner, children, typesOf, usesVar, bindsVar, bindsName}
 use Rattle.syntax.specs.Job.{Name, HostValue, Job}
 use Rattle.syntax.specs.Reading.{Refusal, State, declared, localName, setOk, nameOk, partsOk, typeOk, hostValueOk, rightsOk, cmdOk}
 use Rattle.syntax.specs.Reading.{Written, w-name, w-type, w-value, w-rights, w-cmd, w-end, unwritten, partOf, sumOf, limitOf, written, given, enter, misplaced, full}
@@ -512,7 +512,7 @@ third : {a b c : ℕ} {l : List ℕ} → List·Memᴰ c (a ∷ b ∷ c ∷ l)
 third = List·Memᴰ·tail second
 
 cmd-fits : {ds : List Name} {types values e : ℕ} (k : Cmd ℕ) → CmdFormed ds types values e k → 2 + length ds ≤ 64 → types ≤ 256 → e ≤ 512 → literal k < 4294967296 → keyCount k ≤ 4 → CmdFits k
-unfolding kids plain inner typesOf usesVar bindsVar bindsName literal keyCount localName
+unfolding children plain inner typesOf usesVar bindsVar bindsName literal keyCount localName
 cmd-fits {ds} {types} {values} {e} k w d t n x y = at k (λ c m. operand c (w .operand c m)) (λ c m. ofType c (w .type-operand c m)) (w .used-variable) (λ v m. w .bound-variable v m .1) (λ r m. ofName r (w .bound-name r m)) x y
   where
     operand : (c : ℕ) → c < e → c < 512
@@ -524,7 +524,7 @@ cmd-fits {ds} {types} {values} {e} k w d t n x y = at k (λ c m. operand c (w .o
     ofName : (r : ℕ) → localName ds r ≡ true → r < 64
     ofName r h = name-lt ds r d (and-r _ _ (and-l _ _ h))
 
-    at : (k : Cmd ℕ) → ((c : ℕ) → List·Memᴰ c (kids k) → c < 512) → ((c : ℕ) → List·Memᴰ c (typesOf k) → c < 256) → ((v : ℕ) → List·Memᴰ v (usesVar k) → v < 64)
+    at : (k : Cmd ℕ) → ((c : ℕ) → List·Memᴰ c (children k) → c < 512) → ((c : ℕ) → List·Memᴰ c (typesOf k) → c < 256) → ((v : ℕ) → List·Memᴰ v (usesVar k) → v < 64)
         → ((v : ℕ) → List·Memᴰ v (bindsVar k) → v < 64) → ((r : ℕ) → List·Memᴰ r (bindsName k) → r < 64) → literal k < 4294967296 → keyCount k ≤ 4 → CmdFits k
     at (c-num n) o p u b r x y = num-fits x
     at c-top o p u b r x y = top-fits

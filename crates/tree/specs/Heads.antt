@@ -11,7 +11,7 @@ use borrow.Author.Tests.{lt-ltb, le-ltb, ltb-true, ltb-false, ne-eqb, eqb-true}
 use Rattle.order.specs.Sets.{bit}
 use Rattle.order.specs.SetLaws.{bit-pow, bit-zero, lt-bit, lt-pow}
 use Rattle.syntax.specs.Commands.{Cmd, c-num, c-top, c-var, c-pair, c-part, c-fn, c-app, c-new, c-asg, c-read, c-sum, c-test, c-lim, c-grant, c-newkey, c-assoc}
-use Rattle.syntax.specs.Operands.{plain, inner, kids}
+use Rattle.syntax.specs.Operands.{plain, inner, children}
 use Rattle.syntax.specs.Words.{headWord, slots, filled}
 use Rattle.syntax.specs.Tree.{count}
 use Rattle.tree.specs.Passes.{oneOf, arityOf, isOperand}
@@ -141,26 +141,26 @@ uses5 b q s c =
     useAt (opAt b q 4) (getD s 4 0) c
     + (useAt (opAt b q 3) (getD s 3 0) c + (useAt (opAt b q 2) (getD s 2 0) c + (useAt (opAt b q 1) (getD s 1 0) c + useAt (opAt b q 0) (getD s 0 0) c)))
 
-pub kids-count : (k : Cmd ℕ) → length (slots k) ≡ 5 → (c : ℕ) → count c (kids k) ≡ uses5 (byteOf k) (keysOf k) (slots k) c
-unfolding kids plain inner count uses5 useAt opAt arityOf byteOf keysOf slots filled
-kids-count (c-num n) h c = refl
-kids-count c-top h c = refl
-kids-count (c-var v) h c = refl
-kids-count (c-pair a b) h c = omega arith
-kids-count (c-part a i) h c = omega arith
-kids-count (c-fn v t b) h c = omega arith
-kids-count (c-app a b) h c = omega arith
-kids-count (c-new t a) h c = omega arith
-kids-count (c-asg a b) h c = omega arith
-kids-count (c-read a) h c = omega arith
-kids-count (c-sum i a b) h c = omega arith
-kids-count (c-test x y z t) h c = omega arith
-kids-count (c-lim [] b) h c = omega arith
-kids-count (c-lim (w ∷ []) b) h c = omega arith
-kids-count (c-lim (w ∷ x ∷ []) b) h c = omega arith
-kids-count (c-lim (w ∷ x ∷ y ∷ []) b) h c = omega arith
-kids-count (c-lim (w ∷ x ∷ y ∷ z ∷ []) b) h c = omega arith
-kids-count (c-lim (w ∷ x ∷ y ∷ z ∷ u ∷ l) b) h c = absurd (omega (arith, h, length-append (l ++ replicate (4 - length (w ∷ x ∷ y ∷ z ∷ u ∷ l)) 0xFFFF) (b ∷ [])))
-kids-count (c-grant a b) h c = omega arith
-kids-count (c-newkey v r a b t) h c = omega arith
-kids-count (c-assoc a b) h c = omega arith
+pub children-count : (k : Cmd ℕ) → length (slots k) ≡ 5 → (c : ℕ) → count c (children k) ≡ uses5 (byteOf k) (keysOf k) (slots k) c
+unfolding children plain inner count uses5 useAt opAt arityOf byteOf keysOf slots filled
+children-count (c-num n) h c = refl
+children-count c-top h c = refl
+children-count (c-var v) h c = refl
+children-count (c-pair a b) h c = omega arith
+children-count (c-part a i) h c = omega arith
+children-count (c-fn v t b) h c = omega arith
+children-count (c-app a b) h c = omega arith
+children-count (c-new t a) h c = omega arith
+children-count (c-asg a b) h c = omega arith
+children-count (c-read a) h c = omega arith
+children-count (c-sum i a b) h c = omega arith
+children-count (c-test x y z t) h c = omega arith
+children-count (c-lim [] b) h c = omega arith
+children-count (c-lim (w ∷ []) b) h c = omega arith
+children-count (c-lim (w ∷ x ∷ []) b) h c = omega arith
+children-count (c-lim (w ∷ x ∷ y ∷ []) b) h c = omega arith
+children-count (c-lim (w ∷ x ∷ y ∷ z ∷ []) b) h c = omega arith
+children-count (c-lim (w ∷ x ∷ y ∷ z ∷ u ∷ l) b) h c = absurd (omega (arith, h, length-append (l ++ replicate (4 - length (w ∷ x ∷ y ∷ z ∷ u ∷ l)) 0xFFFF) (b ∷ [])))
+children-count (c-grant a b) h c = omega arith
+children-count (c-newkey v r a b t) h c = omega arith
+children-count (c-assoc a b) h c = omega arith

@@ -16,7 +16,7 @@ use Rattle.order.specs.Sets.{bit, some-of}
 use Rattle.order.specs.SetLaws.{bool-ext, bit-or, bit-pow}
 use Rattle.order.specs.Effects.{Effect, names}
 use Rattle.order.specs.EffectLaws.{name-bit, bit-name}
-use Rattle.syntax.specs.Types.{Ty, namesIn, TypeEntry, e-num, e-pair, e-cell, e-fn, e-lim, e-grant, grow, tree}
+use Rattle.syntax.specs.Types.{Ty, namesIn, TypeEntry, e-num, e-pair, e-cell, e-fn, e-lim, e-grant, entryTree, tree}
 use Rattle.syntax.specs.Job.{Name}
 use Rattle.syntax.specs.Reading.{declared, partsOk}
 use Rattle.syntax.specs.Words.{typeBits, typeWord, setWord}
@@ -87,8 +87,8 @@ two n q r k l =
 
 -- an entry's names, where those of the entries before it are right
 module _ (ds : List Name) (few : 2 + length ds ≤ 64) (T : ℕ → Ty) (m : List ℕ) (n : ℕ) (some-name : n ≢ 0) where
-  entry-names : (i : ℕ) → i ≤ 256 → ((a : ℕ) → a < i → bit (getD m a 0) n ≡ memB n (namesIn (T a))) → (t : TypeEntry) → partsOk ds i t ≡ true → bit (typeNames (typeWord t) (setWord t) m) n ≡ memB n (namesIn (grow (some t) T))
-  unfolding namesBy typeWord setWord grow namesIn partsOk
+  entry-names : (i : ℕ) → i ≤ 256 → ((a : ℕ) → a < i → bit (getD m a 0) n ≡ memB n (namesIn (T a))) → (t : TypeEntry) → partsOk ds i t ≡ true → bit (typeNames (typeWord t) (setWord t) m) n ≡ memB n (namesIn (entryTree (some t) T))
+  unfolding namesBy typeWord setWord entryTree namesIn partsOk
   entry-names i h f (e-num q) p =
       let k : q < 64 = name-lt ds q few p in
       ap (λ (x : ℕ). bit x n) (by-fields (fields 0x10 q 0 0 (omega arith) (omega arith) (omega arith) (omega arith)) 0 m) ∙ one-all q n k ∙ sym (single n q)

@@ -14,14 +14,14 @@ use Rattle.order.specs.Sets.{bit, some-of}
 use Rattle.order.specs.SetLaws.{bit-or}
 use Rattle.syntax.specs.Types.{Ty}
 use Rattle.syntax.specs.Commands.{Cmd, c-num, c-top, c-var, c-pair, c-part, c-fn, c-app, c-new, c-asg, c-read, c-sum, c-test, c-lim, c-grant, c-newkey, c-assoc, mapCmd}
-use Rattle.syntax.specs.Operands.{nth, plain, inner, kids, bindsVar, bindsName}
+use Rattle.syntax.specs.Operands.{nth, plain, inner, children, bindsVar, bindsName}
 use Rattle.syntax.specs.Words as words
 use Rattle.syntax.specs.Job.{Src}
 use Rattle.syntax.specs.Tree.{Entry, binds, varsOf, namesOf, memB, count, hostCtx, past, root, uses, usedRight, parent, scopeIn, ctx, nameIn}
 use Rattle.syntax.specs.Scope.{count-mem, uses-mem, mem-uses, parent-is}
-use Rattle.syntax.specs.ReadFormed.{kids-map, nth-map}
+use Rattle.syntax.specs.ReadFormed.{children-map, nth-map}
 use Rattle.tree.specs.Passes.{oneOf, arityOf, isOperand, isBody, boundOf, handedTo, putIn, handStep, handedDown, scopesBy}
-use Rattle.tree.specs.Heads.{byteOf, byte-is, keysOf, opAt, operand-is, useAt, uses5, kids-count, one-bit}
+use Rattle.tree.specs.Heads.{byteOf, byte-is, keysOf, opAt, operand-is, useAt, uses5, children-count, one-bit}
 use Rattle.tree.specs.Binders.{kindOf, kind-app, memB-app, Own, own, own-mem}
 
 -- Operands by place
@@ -95,22 +95,22 @@ mem-count x (y ∷ l) h = at (eqb x y) refl h (λ k. mem-count x l k)
     at true e k f = List·Memᴰ·head (eqb-true x y e)
     at false e k f = List·Memᴰ·tail (f (omega arith))
 
-pub kid-place : (k : Cmd ℕ) → length (words.slots k) ≡ 5 → (c : ℕ) → List·Memᴰ c (kids k) → (i : ℕ) × (i < 5) × (isOperand (words.headWord k) i ≡ true) × (getD (words.slots k) i 0 ≡ c)
-kid-place k h c m =
-    let z = place-of (byteOf k) (keysOf k) (words.slots k) c (omega (arith, kids-count k h c, count-mem c (kids k) m)) in
+pub child-place : (k : Cmd ℕ) → length (words.slots k) ≡ 5 → (c : ℕ) → List·Memᴰ c (children k) → (i : ℕ) × (i < 5) × (isOperand (words.headWord k) i ≡ true) × (getD (words.slots k) i 0 ≡ c)
+child-place k h c m =
+    let z = place-of (byteOf k) (keysOf k) (words.slots k) c (omega (arith, children-count k h c, count-mem c (children k) m)) in
     (z .0, z .1, operand-is k (z .0) ∙ z .2, z .3)
 
-pub place-kid : (k : Cmd ℕ) → length (words.slots k) ≡ 5 → (i : ℕ) → i < 5 → isOperand (words.headWord k) i ≡ true → List·Memᴰ (getD (words.slots k) i 0) (kids k)
-place-kid k h i l e =
+pub place-child : (k : Cmd ℕ) → length (words.slots k) ≡ 5 → (i : ℕ) → i < 5 → isOperand (words.headWord k) i ≡ true → List·Memᴰ (getD (words.slots k) i 0) (children k)
+place-child k h i l e =
     let c = getD (words.slots k) i 0 in
-    mem-count c (kids k) (omega (arith, kids-count k h c, use-here (byteOf k) (keysOf k) (words.slots k) i l (sym (operand-is k i) ∙ e)))
+    mem-count c (children k) (omega (arith, children-count k h c, use-here (byteOf k) (keysOf k) (words.slots k) i l (sym (operand-is k i) ∙ e)))
 
 -- the operand in place i is the body where the head says so
 unfoldable bodyAt : ℕ → ℕ → Bool
 bodyAt b i = cond (eqb b 0x35) (eqb i 0) (cond (eqb b 0x3E) (eqb i 1) false)
 
-body-at : (f : ℕ → Ty) (k : Cmd ℕ) (i : ℕ) → opAt (byteOf k) (keysOf k) i ≡ true → count (getD (words.slots k) i 0) (kids k) ≤ 1 → memB (getD (words.slots k) i 0) (inner (mapCmd f k)) ≡ bodyAt (byteOf k) i
-unfolding opAt arityOf byteOf keysOf words.slots words.filled inner mapCmd kids plain count bodyAt memB some-of
+body-at : (f : ℕ → Ty) (k : Cmd ℕ) (i : ℕ) → opAt (byteOf k) (keysOf k) i ≡ true → count (getD (words.slots k) i 0) (children k) ≤ 1 → memB (getD (words.slots k) i 0) (inner (mapCmd f k)) ≡ bodyAt (byteOf k) i
+unfolding opAt arityOf byteOf keysOf words.slots words.filled inner mapCmd children plain count bodyAt memB some-of
 body-at f (c-num n) i o h = refl
 body-at f c-top i o h = refl
 body-at f (c-var v) i o h = refl
@@ -138,7 +138,7 @@ body-at f (c-newkey v r a b t) (suc zero) o h = rw (eq-eqb b b refl)
 body-at f (c-newkey v r a b t) (suc (suc i)) o h = absurd (omega (arith, ltb-true (suc (suc i)) 2 o))
 body-at f (c-assoc a b) i o h = refl
 
-pub body-is : (f : ℕ → Ty) (k : Cmd ℕ) (i : ℕ) → isOperand (words.headWord k) i ≡ true → count (getD (words.slots k) i 0) (kids k) ≤ 1 → memB (getD (words.slots k) i 0) (inner (mapCmd f k)) ≡ isBody (words.headWord k) i
+pub body-is : (f : ℕ → Ty) (k : Cmd ℕ) (i : ℕ) → isOperand (words.headWord k) i ≡ true → count (getD (words.slots k) i 0) (children k) ≤ 1 → memB (getD (words.slots k) i 0) (inner (mapCmd f k)) ≡ isBody (words.headWord k) i
 unfolding isBody bodyAt
 body-is f k i o h = body-at f k i (sym (operand-is k i) ∙ o) h ∙ ap (λ (b : ℕ). bodyAt b i) (sym (byte-is k))
 
@@ -169,7 +169,7 @@ in-own named Δ Γ {b} o n h = at named (ap (memB n) (kind-app named Δ Γ) ∙ 
 
 module _ (S : Src) (l : List (Cmd ℕ)) (f : ℕ → Ty) (is : S .cmds ≡ map (mapCmd f) l) (some-cmd : 0 < length l) (few : length l ≤ 512)
     (used : (e : ℕ) → e < length l → usedRight S e ≡ true)
-    (operand : (e c : ℕ) → List·Memᴰ c (kids (nth l e)) → c < e) where
+    (operand : (e c : ℕ) → List·Memᴰ c (children (nth l e)) → c < e) where
   size : length (S .cmds) ≡ length l
   size = ap length is ∙ length-map l (mapCmd f)
 
@@ -185,8 +185,8 @@ module _ (S : Src) (l : List (Cmd ℕ)) (f : ℕ → Ty) (is : S .cmds ≡ map (
   code-at : (e : ℕ) → nth (S .cmds) e ≡ mapCmd f (nth l e)
   code-at e = ap (λ (m : List (Cmd Ty)). nth m e) is ∙ nth-map f l e
 
-  kids-at : (e : ℕ) → kids (nth (S .cmds) e) ≡ kids (nth l e)
-  kids-at e = ap kids (code-at e) ∙ kids-map f (nth l e)
+  children-at : (e : ℕ) → children (nth (S .cmds) e) ≡ children (nth l e)
+  children-at e = ap children (code-at e) ∙ children-map f (nth l e)
 
   once : (e : ℕ) → e < root S → uses (S .cmds) e ≡ 1
   unfolding usedRight
@@ -198,15 +198,15 @@ module _ (S : Src) (l : List (Cmd ℕ)) (f : ℕ → Ty) (is : S .cmds ≡ map (
 
   -- a parent of e: one that has it as an operand
   pub record Above (e p : ℕ) : Type 0 where
-    pub has : List·Memᴰ e (kids (nth (S .cmds) p))
+    pub has : List·Memᴰ e (children (nth (S .cmds) p))
     pub below-root : e < root S
     pub later : e < p
     pub in-job : p < length l
     pub found : parent (S .cmds) 0 e ≡ p
 
-  pub above-is : (e p : ℕ) → List·Memᴰ e (kids (nth l p)) → Above e p
+  pub above-is : (e p : ℕ) → List·Memᴰ e (children (nth l p)) → Above e p
   above-is e p m =
-      let k : List·Memᴰ e (kids (nth (S .cmds) p)) = subst⁻¹ (λ (x : List ℕ). List·Memᴰ e x) (kids-at p) m in
+      let k : List·Memᴰ e (children (nth (S .cmds) p)) = subst⁻¹ (λ (x : List ℕ). List·Memᴰ e x) (children-at p) m in
       let u = uses-mem (S .cmds) p e k in
       let q : e < p = operand p e m in
       let r : p < length l = omega (arith, u .2, size) in
@@ -216,7 +216,7 @@ module _ (S : Src) (l : List (Cmd ℕ)) (f : ℕ → Ty) (is : S .cmds ≡ map (
   pub above : (e : ℕ) → e < root S → (p : ℕ) × Above e p
   above e h =
       let z = mem-uses (S .cmds) e (omega (arith, once e h)) in
-      (z .0, above-is e (z .0) (subst (λ (x : List ℕ). List·Memᴰ e x) (kids-at (z .0)) (z .1)))
+      (z .0, above-is e (z .0) (subst (λ (x : List ℕ). List·Memᴰ e x) (children-at (z .0)) (z .1)))
 
   -- the context by one step up, and by any number of steps that is enough
   step-up : (g e p : ℕ) → Above e p → ctx S (suc g) e ≡ scopeIn e (nth (S .cmds) p) ++ ctx S g p
@@ -289,7 +289,7 @@ module _ (S : Src) (l : List (Cmd ℕ)) (f : ℕ → Ty) (is : S .cmds ≡ map (
             let ne : c ≢ root S = eqb-false c (root S) e in
             let u = above c (omega (arith, root-is)) in
             let q = u .0 in
-            let z = kid-place (nth l q) (five q (u .1 .in-job)) c (subst (λ (x : List ℕ). List·Memᴰ c x) (kids-at q) (u .1 .has)) in
+            let z = child-place (nth l q) (five q (u .1 .in-job)) c (subst (λ (x : List ℕ). List·Memᴰ c x) (children-at q) (u .1 .has)) in
             d-place q (z .0) (omega (arith, u .1 .later)) (z .1) (u .1 .in-job) (ap (λ (w : ℕ). isOperand w (z .0)) (head q (u .1 .in-job)) ∙ z .2) (slot q (z .0) (u .1 .in-job) (z .1) ∙ z .3)
 
     -- what is handed to the operand in place i of p is its scope
@@ -300,10 +300,10 @@ module _ (S : Src) (l : List (Cmd ℕ)) (f : ℕ → Ty) (is : S .cmds ≡ map (
         let c = getD places (p * 5 + i) 0 in
         let sc : c ≡ getD (words.slots (nth l p)) i 0 = slot p i h k in
         let op : isOperand (words.headWord (nth l p)) i ≡ true = ap (λ (w : ℕ). isOperand w i) (sym (head p h)) ∙ o in
-        let m : List·Memᴰ c (kids (nth l p)) = subst⁻¹ (λ (y : ℕ). List·Memᴰ y (kids (nth l p))) sc (place-kid (nth l p) (five p h) i k op) in
+        let m : List·Memᴰ c (children (nth l p)) = subst⁻¹ (λ (y : ℕ). List·Memᴰ y (children (nth l p))) sc (place-child (nth l p) (five p h) i k op) in
         let a = above-is c p m in
-        let few : count (getD (words.slots (nth l p)) i 0) (kids (nth l p)) ≤ 1 =
-        omega (arith, ap (λ (y : ℕ). count y (kids (nth l p))) sc, ap (count c) (kids-at p), uses-mem (S .cmds) p c (a .has) .1, once c (a .below-root)) in
+        let few : count (getD (words.slots (nth l p)) i 0) (children (nth l p)) ≤ 1 =
+        omega (arith, ap (λ (y : ℕ). count y (children (nth l p))) sc, ap (count c) (children-at p), uses-mem (S .cmds) p c (a .has) .1, once c (a .below-root)) in
         let b : memB c (inner (nth (S .cmds) p)) ≡ isBody w i =
         ap₂ (λ (y : ℕ) (z : Cmd Ty). memB y (inner z)) sc (code-at p) ∙ body-is f (nth l p) i op few ∙ ap (λ (w : ℕ). isBody w i) (sym (head p h)) in
         record { bits = λ n q. body (isBody w i) n q ∙ sym (ap (λ (Γ : List Entry). inKind named Γ n) (around-up c p a ∙ ap (λ (y : Bool). cond y (binds (nth (S .cmds) p)) [] ++ around p) b)) }

@@ -12,12 +12,12 @@ use borrow.Author.Tests.{lt-ltb, eq-eqb, ne-eqb, eqb-true, eqb-false}
 use Rattle.order.specs.SetLaws.{bool-ext}
 use Rattle.syntax.specs.Types.{Ty}
 use Rattle.syntax.specs.Commands.{Cmd, mapCmd}
-use Rattle.syntax.specs.Operands.{nth, kids}
+use Rattle.syntax.specs.Operands.{nth, children}
 use Rattle.syntax.specs.Words as words
 use Rattle.syntax.specs.Tree.{count, uses, past, firstBad}
-use Rattle.syntax.specs.ReadFormed.{kids-map, nth-map}
+use Rattle.syntax.specs.ReadFormed.{children-map, nth-map}
 use Rattle.tree.specs.Passes.{isOperand, oneMore, tallied, countStep, counted, countsBy, rightCount}
-use Rattle.tree.specs.Heads.{byteOf, keysOf, opAt, operand-is, useAt, uses5, kids-count}
+use Rattle.tree.specs.Heads.{byteOf, keysOf, opAt, operand-is, useAt, uses5, children-count}
 
 -- two tests that agree find the same expression
 pub bad-cong : (p q : ℕ → Bool) (n i : ℕ) → ((j : ℕ) → i ≤ j → j < i + n → p j ≡ q j) → firstBad p i n ≡ firstBad q i n
@@ -101,7 +101,7 @@ counts-are heads places n c h =
     (counted-is heads places (n * 5) (replicate 512 0) c 0 (length-replicate {A = ℕ} 512 0) h (record { low = λ k. getD-replicate 512 c 0 0 h; high = λ k. absurd (omega arith) }))
 
 -- the uses in the places are the uses by the expressions
-uses-next : (l : List (Cmd Ty)) (n c : ℕ) → n < length l → uses (take (suc n) l) c ≡ count c (kids (nth l n)) + uses (take n l) c
+uses-next : (l : List (Cmd Ty)) (n c : ℕ) → n < length l → uses (take (suc n) l) c ≡ count c (children (nth l n)) + uses (take n l) c
 unfolding uses nth
 uses-next [] n c h = absurd (omega arith)
 uses-next (k ∷ l) zero c h = omega arith
@@ -127,7 +127,7 @@ module _ (l : List (Cmd ℕ)) (f : ℕ → Ty) (heads places : List ℕ)
       let m : ℕ = n * 5 in
       let z : suc n * 5 ≡ suc (suc (suc (suc (suc m)))) = omega arith in
       let k : n < length (map (mapCmd f) l) = omega (arith, length-map l (mapCmd f)) in
-      let same : kids (nth (map (mapCmd f) l) n) ≡ kids (nth l n) = ap kids (nth-map f l n) ∙ kids-map f (nth l n) in
+      let same : children (nth (map (mapCmd f) l) n) ≡ children (nth l n) = ap children (nth-map f l n) ∙ children-map f (nth l n) in
       ap (λ (j : ℕ). usesIn heads places j c) z
       ∙ omega (
         arith,
@@ -136,7 +136,7 @@ module _ (l : List (Cmd ℕ)) (f : ℕ → Ty) (heads places : List ℕ)
         place n 2 (suc (suc m)) c h (omega arith) (omega arith),
         place n 1 (suc m) c h (omega arith) (omega arith),
         place n 0 m c h (omega arith) (omega arith),
-        kids-count (nth l n) (five n h) c,
+        children-count (nth l n) (five n h) c,
         uses-next (map (mapCmd f) l) n c k,
         ap (count c) same,
         uses-are n c (omega arith),

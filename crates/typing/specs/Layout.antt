@@ -140,9 +140,9 @@ unfoldable pub point : Points → Layout → Layout
 point (new e) L = record { entries = L .entries ++ (e ∷ []); of = L .of ++ (length (L .entries) ∷ []) }
 point (old i) L = record { entries = L .entries; of = L .of ++ (i ∷ []) }
 
-unfoldable pub lay : (ℕ → ℕ) → (ℕ → Effect) → List (Cmd ℕ) → Layout → Layout
-lay var eff [] L = L
-lay var eff (k ∷ l) L = lay var eff l (point (pointsTo var eff (L .entries) (λ e. getD (L .of) e 0) k) L)
+unfoldable pub layoutFrom : (ℕ → ℕ) → (ℕ → Effect) → List (Cmd ℕ) → Layout → Layout
+layoutFrom var eff [] L = L
+layoutFrom var eff (k ∷ l) L = layoutFrom var eff l (point (pointsTo var eff (L .entries) (λ e. getD (L .of) e 0) k) L)
 
 unfoldable pub layoutOf : Job → (ℕ → Effect) → Layout
-layoutOf J eff = lay (varEntry J) eff (J .cmds) (record { entries = J .types ++ keyEntries (length (J .types)) (newKeys (J .cmds)); of = [] })
+layoutOf J eff = layoutFrom (varEntry J) eff (J .cmds) (record { entries = J .types ++ keyEntries (length (J .types)) (newKeys (J .cmds)); of = [] })

@@ -14,7 +14,7 @@ use Rattle.order.specs.Effects.{Effect, pure, touch, join, drop, raise, reduce,
 use Rattle.order.specs.EffectLaws.{eff-refl, eff-trans, eff-join-mono, eff-touch-mono, reduce-below, drop-mono, raise-mono, →effBelow}
 use Rattle.syntax.specs.Types.{Ty, num, pair, cell, fn, lim, grant, keyOf, rekey}
 use Rattle.syntax.specs.Commands.{Cmd, c-num, c-top, c-var, c-pair, c-part, c-fn, c-app, c-new, c-asg, c-read, c-sum, c-test, c-lim, c-grant, c-newkey, c-assoc}
-use Rattle.syntax.specs.Operands.{nth, plain, inner, kids}
+use Rattle.syntax.specs.Operands.{nth, plain, inner, children}
 use Rattle.syntax.specs.Job.{Src, upOf}
 use Rattle.syntax.specs.Formed.{Formed}
 use Rattle.syntax.specs.Tree.{Entry, e-var, e-name, treeRefusal}
@@ -168,33 +168,33 @@ module _ (S : Src) (ok : Formed S) (tree : treeRefusal S ≡ none) where
 
   -- Operands
 
-  below : {e a : ℕ} (k : Cmd Ty) → nth (S .cmds) e ≡ k → List·Memᴰ a (kids k) → a < e
-  below {e} {a} k c m = ok .operand e a (subst⁻¹ (λ (k : Cmd Ty). List·Memᴰ a (kids k)) c m)
+  below : {e a : ℕ} (k : Cmd Ty) → nth (S .cmds) e ≡ k → List·Memᴰ a (children k) → a < e
+  below {e} {a} k c m = ok .operand e a (subst⁻¹ (λ (k : Cmd Ty). List·Memᴰ a (children k)) c m)
 
-  saw : {e a : ℕ} {A : Ty} {s : Effect} (k : Cmd Ty) → e < length (S .cmds) → nth (S .cmds) e ≡ k → List·Memᴰ a (kids k) → typeOf S a ≡ typed A s → pre e a ≡ typed A s
+  saw : {e a : ℕ} {A : Ty} {s : Effect} (k : Cmd Ty) → e < length (S .cmds) → nth (S .cmds) e ≡ k → List·Memᴰ a (children k) → typeOf S a ≡ typed A s → pre e a ≡ typed A s
   saw {e} {a} k lt c m h = seen S e a (omega arith) (below k c m) ∙ h
 
   abbrev hd : {a : ℕ} {l : List ℕ} → List·Memᴰ a (a ∷ l)
   hd = List·Memᴰ·head refl
 
-  in-keys : (b : ℕ) {a : ℕ} {ks : List ℕ} → List·Memᴰ a ks → List·Memᴰ a (kids {T = Ty} (c-lim ks b))
-  unfolding kids plain inner
+  in-keys : (b : ℕ) {a : ℕ} {ks : List ℕ} → List·Memᴰ a ks → List·Memᴰ a (children {T = Ty} (c-lim ks b))
+  unfolding children plain inner
   in-keys b {ks = ks} m = Memᴰ·append-left [] (Memᴰ·append-left (b ∷ []) m)
 
-  in-body : (ks : List ℕ) {b : ℕ} → List·Memᴰ b (kids {T = Ty} (c-lim ks b))
-  unfolding kids plain inner
+  in-body : (ks : List ℕ) {b : ℕ} → List·Memᴰ b (children {T = Ty} (c-lim ks b))
+  unfolding children plain inner
   in-body ks = Memᴰ·append-left [] (Memᴰ·append-right ks hd)
 
   -- what is known of the expressions before e
   abbrev IH : ℕ → Type 0
   IH e = (a : ℕ) → a < e → (Γ : List Entry) (T : Ty) (t : Effect) → Has S Γ a T t → Agree Γ → Least S a T t
 
-  least-keys : {Γ : List Entry} {e : ℕ} {k : Cmd Ty} {ks rs : List ℕ} {s : Effect} → e < length (S .cmds) → nth (S .cmds) e ≡ k → IH e → HasKeys S Γ ks rs s → Agree Γ → ((a : ℕ) → List·Memᴰ a ks → List·Memᴰ a (kids k)) → LeastKeys e ks rs s
+  least-keys : {Γ : List Entry} {e : ℕ} {k : Cmd Ty} {ks rs : List ℕ} {s : Effect} → e < length (S .cmds) → nth (S .cmds) e ≡ k → IH e → HasKeys S Γ ks rs s → Agree Γ → ((a : ℕ) → List·Memᴰ a ks → List·Memᴰ a (children k)) → LeastKeys e ks rs s
   least-keys {e = e} l c ih k-nil g i = no-keys e
   least-keys l c ih (k-cons x ks) g i = let z = ih _ (below _ c (i _ hd)) _ _ _ x g in key-least (saw _ l c (i _ hd) (z .got)) (z .sub) (z .under) (least-keys l c ih ks g (λ a m. i a (List·Memᴰ·tail m)))
 
   at : {Γ : List Entry} {e : ℕ} {T : Ty} {t : Effect} → e < length (S .cmds) → IH e → Has S Γ e T t → Agree Γ → Least S e T t
-  unfolding kids plain inner pick
+  unfolding children plain inner pick
   at l ih (h-num c) g = num-least l c
   at l ih (h-top c) g = top-least l c
   at l ih (h-var {x = x} {T = T} c v) g = var-least l c (g x T v)

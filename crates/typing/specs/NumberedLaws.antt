@@ -17,7 +17,7 @@ use Rattle.order.specs.Effects.{Effect, pure, touch, join, effBelow}
 use Rattle.syntax.specs.Types.{Ty, depth, TypeEntry, e-num, e-pair, e-cell, e-fn, e-lim, e-grant, tree}
 use Rattle.syntax.specs.TypeLaws.{tree-kept, tree-new}
 use Rattle.syntax.specs.Commands.{Cmd, c-num, c-top, c-var, c-pair, c-part, c-fn, c-app, c-new, c-asg, c-read, c-sum, c-test, c-lim, c-grant, c-newkey, c-assoc, mapCmd}
-use Rattle.syntax.specs.Operands.{nth, plain, inner, kids, usesVar}
+use Rattle.syntax.specs.Operands.{nth, plain, inner, children, usesVar}
 use Rattle.syntax.specs.Job.{Name, Job, uppers, upOf, sourceOf}
 use Rattle.syntax.specs.Reading.{Refusal, most-names, most-types, most-expressions, most-depth}
 use Rattle.syntax.specs.ReadLaws.{JobOk}
@@ -27,8 +27,8 @@ use Rattle.syntax.specs.Scope.{local-above}
 use Rattle.syntax.specs.Context.{Ctx, stands}
 use Rattle.typing.specs.Subtype.{subTy}
 use Rattle.typing.specs.Least.{Typed, typed, untyped, varType, typeAt, get, typesTo, types, typeOf, firstUntyped}
-use Rattle.typing.specs.Layout.{newKeys, keyEntries, varEntry, firstPart, secondPart, rekeyed, Points, new, old, pointsTo, Layout, point, lay, layoutOf}
-use Rattle.typing.specs.Tables.{most-entries, effectOf, effectIn, laidOut}
+use Rattle.typing.specs.Layout.{newKeys, keyEntries, varEntry, firstPart, secondPart, rekeyed, Points, new, old, pointsTo, Layout, point, layoutFrom, layoutOf}
+use Rattle.typing.specs.Tables.{most-entries, effectOf, effectIn, layoutFor}
 use Rattle.typing.specs.Filled.{typesTo-length, seen, typeOf-is, untyped-not, all-typed}
 use Rattle.typing.specs.Scoped.{ctx-type, ctx-var}
 use Rattle.typing.specs.Entries.{subIn}
@@ -41,101 +41,101 @@ use Rattle.typing.specs.NumberedStep.{Same, Match, m-new, m-old, m-no, O
 -- Where an expression's type stands
 
 -- a result and what the layout says of the same expression
-data Laid : Result → Points → Type 0 where
-  l-new : {x : TypeEntry} {s : Effect} → Laid (makes x s) (new x)
-  l-old : {i : ℕ} {s : Effect} → Laid (points i s) (old i)
-  l-no : {n : ℕ} {p : Points} → Laid (wrong n) p
+data LayoutAgrees : Result → Points → Type 0 where
+  l-new : {x : TypeEntry} {s : Effect} → LayoutAgrees (makes x s) (new x)
+  l-old : {i : ℕ} {s : Effect} → LayoutAgrees (points i s) (old i)
+  l-no : {n : ℕ} {p : Points} → LayoutAgrees (wrong n) p
 
-laid-need : (n : ℕ) (b : Bool) {r : Result} {p : Points} → Laid r p → Laid (need n b r) p
+layout-need : (n : ℕ) (b : Bool) {r : Result} {p : Points} → LayoutAgrees r p → LayoutAgrees (need n b r) p
 unfolding need
-laid-need n true l = l
-laid-need n false l = l-no
+layout-need n true l = l
+layout-need n false l = l-no
 
-laid-num : (o : Option TypeEntry) (g : ℕ → Result) {p : Points} → ((q : ℕ) → Laid (g q) p) → Laid (needNum o g) p
+layout-num : (o : Option TypeEntry) (g : ℕ → Result) {p : Points} → ((q : ℕ) → LayoutAgrees (g q) p) → LayoutAgrees (needNum o g) p
 unfolding needNum
-laid-num none g f = l-no
-laid-num (some (e-num q)) g f = f q
-laid-num (some (e-pair q a b)) g f = l-no
-laid-num (some (e-cell q a)) g f = l-no
-laid-num (some (e-fn q a b s)) g f = l-no
-laid-num (some (e-lim q r)) g f = l-no
-laid-num (some (e-grant q r)) g f = l-no
+layout-num none g f = l-no
+layout-num (some (e-num q)) g f = f q
+layout-num (some (e-pair q a b)) g f = l-no
+layout-num (some (e-cell q a)) g f = l-no
+layout-num (some (e-fn q a b s)) g f = l-no
+layout-num (some (e-lim q r)) g f = l-no
+layout-num (some (e-grant q r)) g f = l-no
 
-laid-pair : (o : Option TypeEntry) (g : ℕ → ℕ → ℕ → Result) (h : Option TypeEntry → Points) → ((q a b : ℕ) → Laid (g q a b) (h (some (e-pair q a b)))) → Laid (needPair o g) (h o)
+layout-pair : (o : Option TypeEntry) (g : ℕ → ℕ → ℕ → Result) (h : Option TypeEntry → Points) → ((q a b : ℕ) → LayoutAgrees (g q a b) (h (some (e-pair q a b)))) → LayoutAgrees (needPair o g) (h o)
 unfolding needPair
-laid-pair none g h f = l-no
-laid-pair (some (e-num q)) g h f = l-no
-laid-pair (some (e-pair q a b)) g h f = f q a b
-laid-pair (some (e-cell q a)) g h f = l-no
-laid-pair (some (e-fn q a b s)) g h f = l-no
-laid-pair (some (e-lim q r)) g h f = l-no
-laid-pair (some (e-grant q r)) g h f = l-no
+layout-pair none g h f = l-no
+layout-pair (some (e-num q)) g h f = l-no
+layout-pair (some (e-pair q a b)) g h f = f q a b
+layout-pair (some (e-cell q a)) g h f = l-no
+layout-pair (some (e-fn q a b s)) g h f = l-no
+layout-pair (some (e-lim q r)) g h f = l-no
+layout-pair (some (e-grant q r)) g h f = l-no
 
-laid-cell : (o : Option TypeEntry) (g : ℕ → ℕ → Result) (h : Option TypeEntry → Points) → ((q a : ℕ) → Laid (g q a) (h (some (e-cell q a)))) → Laid (needCell o g) (h o)
+layout-cell : (o : Option TypeEntry) (g : ℕ → ℕ → Result) (h : Option TypeEntry → Points) → ((q a : ℕ) → LayoutAgrees (g q a) (h (some (e-cell q a)))) → LayoutAgrees (needCell o g) (h o)
 unfolding needCell
-laid-cell none g h f = l-no
-laid-cell (some (e-num q)) g h f = l-no
-laid-cell (some (e-pair q a b)) g h f = l-no
-laid-cell (some (e-cell q a)) g h f = f q a
-laid-cell (some (e-fn q a b s)) g h f = l-no
-laid-cell (some (e-lim q r)) g h f = l-no
-laid-cell (some (e-grant q r)) g h f = l-no
+layout-cell none g h f = l-no
+layout-cell (some (e-num q)) g h f = l-no
+layout-cell (some (e-pair q a b)) g h f = l-no
+layout-cell (some (e-cell q a)) g h f = f q a
+layout-cell (some (e-fn q a b s)) g h f = l-no
+layout-cell (some (e-lim q r)) g h f = l-no
+layout-cell (some (e-grant q r)) g h f = l-no
 
-laid-fn : (o : Option TypeEntry) (g : ℕ → ℕ → ℕ → Effect → Result) (h : Option TypeEntry → Points) → ((q a b : ℕ) (s : Effect) → Laid (g q a b s) (h (some (e-fn q a b s)))) → Laid (needFn o g) (h o)
+layout-fn : (o : Option TypeEntry) (g : ℕ → ℕ → ℕ → Effect → Result) (h : Option TypeEntry → Points) → ((q a b : ℕ) (s : Effect) → LayoutAgrees (g q a b s) (h (some (e-fn q a b s)))) → LayoutAgrees (needFn o g) (h o)
 unfolding needFn
-laid-fn none g h f = l-no
-laid-fn (some (e-num q)) g h f = l-no
-laid-fn (some (e-pair q a b)) g h f = l-no
-laid-fn (some (e-cell q a)) g h f = l-no
-laid-fn (some (e-fn q a b s)) g h f = f q a b s
-laid-fn (some (e-lim q r)) g h f = l-no
-laid-fn (some (e-grant q r)) g h f = l-no
+layout-fn none g h f = l-no
+layout-fn (some (e-num q)) g h f = l-no
+layout-fn (some (e-pair q a b)) g h f = l-no
+layout-fn (some (e-cell q a)) g h f = l-no
+layout-fn (some (e-fn q a b s)) g h f = f q a b s
+layout-fn (some (e-lim q r)) g h f = l-no
+layout-fn (some (e-grant q r)) g h f = l-no
 
-laid-lim : (o : Option TypeEntry) (g : ℕ → ℕ → Result) (h : Option TypeEntry → Points) → ((q r : ℕ) → Laid (g q r) (h (some (e-lim q r)))) → Laid (needLim o g) (h o)
+layout-lim : (o : Option TypeEntry) (g : ℕ → ℕ → Result) (h : Option TypeEntry → Points) → ((q r : ℕ) → LayoutAgrees (g q r) (h (some (e-lim q r)))) → LayoutAgrees (needLim o g) (h o)
 unfolding needLim
-laid-lim none g h f = l-no
-laid-lim (some (e-num q)) g h f = l-no
-laid-lim (some (e-pair q a b)) g h f = l-no
-laid-lim (some (e-cell q a)) g h f = l-no
-laid-lim (some (e-fn q a b s)) g h f = l-no
-laid-lim (some (e-lim q r)) g h f = f q r
-laid-lim (some (e-grant q r)) g h f = l-no
+layout-lim none g h f = l-no
+layout-lim (some (e-num q)) g h f = l-no
+layout-lim (some (e-pair q a b)) g h f = l-no
+layout-lim (some (e-cell q a)) g h f = l-no
+layout-lim (some (e-fn q a b s)) g h f = l-no
+layout-lim (some (e-lim q r)) g h f = f q r
+layout-lim (some (e-grant q r)) g h f = l-no
 
-laid-grant : (o : Option TypeEntry) (g : ℕ → ℕ → Result) {p : Points} → ((q r : ℕ) → Laid (g q r) p) → Laid (needGrant o g) p
+layout-grant : (o : Option TypeEntry) (g : ℕ → ℕ → Result) {p : Points} → ((q r : ℕ) → LayoutAgrees (g q r) p) → LayoutAgrees (needGrant o g) p
 unfolding needGrant
-laid-grant none g f = l-no
-laid-grant (some (e-num q)) g f = l-no
-laid-grant (some (e-pair q a b)) g f = l-no
-laid-grant (some (e-cell q a)) g f = l-no
-laid-grant (some (e-fn q a b s)) g f = l-no
-laid-grant (some (e-lim q r)) g f = l-no
-laid-grant (some (e-grant q r)) g f = f q r
+layout-grant none g f = l-no
+layout-grant (some (e-num q)) g f = l-no
+layout-grant (some (e-pair q a b)) g f = l-no
+layout-grant (some (e-cell q a)) g f = l-no
+layout-grant (some (e-fn q a b s)) g f = l-no
+layout-grant (some (e-lim q r)) g f = l-no
+layout-grant (some (e-grant q r)) g f = f q r
 
 module _ (O : Ops) (var : ℕ → ℕ) (E : List TypeEntry) (of : ℕ → ℕ) (eff : ℕ → Effect) where
-  laid-keys : (ks : List ℕ) (n : ℕ) (s : Effect) (g : ℕ → Effect → Result) {p : Points} → ((m : ℕ) (t : Effect) → Laid (g m t) p) → Laid (keysFrom O var (getElem? E) of eff ks n s g) p
+  layout-keys : (ks : List ℕ) (n : ℕ) (s : Effect) (g : ℕ → Effect → Result) {p : Points} → ((m : ℕ) (t : Effect) → LayoutAgrees (g m t) p) → LayoutAgrees (keysFrom O var (getElem? E) of eff ks n s g) p
   unfolding keysFrom
-  laid-keys [] n s g f = f n s
-  laid-keys (a ∷ ks) n s g {p} f = laid-lim (getElem? E (of a)) _ (λ o. p) (λ q r. laid-keys ks (O .touch r n) (O .touch q (join (eff a) s)) g f)
+  layout-keys [] n s g f = f n s
+  layout-keys (a ∷ ks) n s g {p} f = layout-lim (getElem? E (of a)) _ (λ o. p) (λ q r. layout-keys ks (O .touch r n) (O .touch q (join (eff a) s)) g f)
 
-  laid-at : (fin : ℕ → Effect) (k : Cmd ℕ) → ((c : ℕ) → List·Memᴰ c (kids k) → fin c ≡ eff c) → Laid (resultAt O var (getElem? E) of eff k) (pointsTo var fin E of k)
-  unfolding resultAt pointsTo kids plain inner firstPart secondPart
-  laid-at fin (c-num n) h = l-new
-  laid-at fin c-top h = l-new
-  laid-at fin (c-var v) h = l-old
-  laid-at fin (c-pair a b) h = l-new
-  laid-at fin (c-part a true) h = laid-pair (getElem? E (of a)) _ (λ o. old (firstPart o)) (λ q x y. l-old)
-  laid-at fin (c-part a false) h = laid-pair (getElem? E (of a)) _ (λ o. old (secondPart o)) (λ q x y. l-old)
-  laid-at fin (c-fn v t b) h = subst⁻¹ (λ s. Laid (makes (e-fn 0 t (of b) (eff b)) pure) (new (e-fn 0 t (of b) s))) (h b (List·Memᴰ·head refl)) l-new
-  laid-at fin (c-app f a) h = laid-fn (getElem? E (of f)) _ (λ o. old (secondPart o)) (λ q x y s. laid-need 12 _ l-old)
-  laid-at fin (c-new t a) h = laid-need 12 _ l-new
-  laid-at fin (c-asg a b) h = laid-cell (getElem? E (of a)) _ (λ o. old (firstPart o)) (λ q x. laid-need 12 _ l-old)
-  laid-at fin (c-read a) h = laid-cell (getElem? E (of a)) _ (λ o. old (firstPart o)) (λ q x. l-old)
-  laid-at fin (c-sum i a b) h = laid-num (getElem? E (of a)) _ (λ p. laid-num (getElem? E (of b)) _ (λ q. l-new))
-  laid-at fin (c-test a b c t) h = laid-num (getElem? E (of a)) _ (λ q. laid-need 12 _ (laid-need 12 _ l-old))
-  laid-at fin (c-lim ks b) h = laid-keys ks 0 pure _ (λ rs s. laid-need 13 _ l-old)
-  laid-at fin (c-grant a b) h = laid-grant (getElem? E (of a)) _ (λ q r. l-old)
-  laid-at fin (c-newkey v r a b t) h = laid-lim (getElem? E (of a)) _ (λ o. old t) (λ q u. laid-need 11 _ (laid-need 12 _ l-old))
-  laid-at fin (c-assoc a b) h = laid-lim (getElem? E (of b)) _ (λ o. new (rekeyed (firstPart o) (getElem? E (of a)))) (λ q r. l-new)
+  layout-at : (fin : ℕ → Effect) (k : Cmd ℕ) → ((c : ℕ) → List·Memᴰ c (children k) → fin c ≡ eff c) → LayoutAgrees (resultAt O var (getElem? E) of eff k) (pointsTo var fin E of k)
+  unfolding resultAt pointsTo children plain inner firstPart secondPart
+  layout-at fin (c-num n) h = l-new
+  layout-at fin c-top h = l-new
+  layout-at fin (c-var v) h = l-old
+  layout-at fin (c-pair a b) h = l-new
+  layout-at fin (c-part a true) h = layout-pair (getElem? E (of a)) _ (λ o. old (firstPart o)) (λ q x y. l-old)
+  layout-at fin (c-part a false) h = layout-pair (getElem? E (of a)) _ (λ o. old (secondPart o)) (λ q x y. l-old)
+  layout-at fin (c-fn v t b) h = subst⁻¹ (λ s. LayoutAgrees (makes (e-fn 0 t (of b) (eff b)) pure) (new (e-fn 0 t (of b) s))) (h b (List·Memᴰ·head refl)) l-new
+  layout-at fin (c-app f a) h = layout-fn (getElem? E (of f)) _ (λ o. old (secondPart o)) (λ q x y s. layout-need 12 _ l-old)
+  layout-at fin (c-new t a) h = layout-need 12 _ l-new
+  layout-at fin (c-asg a b) h = layout-cell (getElem? E (of a)) _ (λ o. old (firstPart o)) (λ q x. layout-need 12 _ l-old)
+  layout-at fin (c-read a) h = layout-cell (getElem? E (of a)) _ (λ o. old (firstPart o)) (λ q x. l-old)
+  layout-at fin (c-sum i a b) h = layout-num (getElem? E (of a)) _ (λ p. layout-num (getElem? E (of b)) _ (λ q. l-new))
+  layout-at fin (c-test a b c t) h = layout-num (getElem? E (of a)) _ (λ q. layout-need 12 _ (layout-need 12 _ l-old))
+  layout-at fin (c-lim ks b) h = layout-keys ks 0 pure _ (λ rs s. layout-need 13 _ l-old)
+  layout-at fin (c-grant a b) h = layout-grant (getElem? E (of a)) _ (λ q r. l-old)
+  layout-at fin (c-newkey v r a b t) h = layout-lim (getElem? E (of a)) _ (λ o. old t) (λ q u. layout-need 11 _ (layout-need 12 _ l-old))
+  layout-at fin (c-assoc a b) h = layout-lim (getElem? E (of b)) _ (λ o. new (rekeyed (firstPart o) (getElem? E (of a)))) (λ q r. l-new)
 
 -- What holds when e expressions are done
 
@@ -144,19 +144,19 @@ pub record Inv (J : Job) (e : ℕ) (σ : Sofar) : Type 0 where
   pub count-effects : length (σ .effects) ≡ e
   -- the declared types and the entries of 3E come first
   pub more : List TypeEntry
-  pub grown : σ .entries ≡ startOf J .entries ++ more
+  pub extended : σ .entries ≡ startOf J .entries ++ more
   pub few : length more ≤ e
   pub table : TableOk (length (J .types)) (length (upOf (sourceOf J))) (σ .entries)
   -- each expression's entry has the expression's type, and its effect is the expression's
   pub each : (c : ℕ) → c < e → Operand (length (upOf (sourceOf J))) (σ .entries) (typeOf (sourceOf J)) (λ a. getD (σ .of) a 0) (λ a. getD (σ .effects) a 0) c
 
 -- the entries and where the expressions' types stand
-abbrev pub layOf : Sofar → Layout
-layOf σ = record { entries = σ .entries; of = σ .of }
+abbrev pub layoutIn : Sofar → Layout
+layoutIn σ = record { entries = σ .entries; of = σ .of }
 
 -- what one expression comes to
 pub data Stepped (J : Job) (e : ℕ) (σ : Sofar) (k : Cmd ℕ) : Numbered → Type 0 where
-  went : (τ : Sofar) → Inv J (suc e) τ → point (pointsTo (varEntry J) (effectIn J) (σ .entries) (λ a. getD (σ .of) a 0) k) (layOf σ) ≡ layOf τ → Stepped J e σ k (next τ)
+  went : (τ : Sofar) → Inv J (suc e) τ → point (pointsTo (varEntry J) (effectIn J) (σ .entries) (λ a. getD (σ .of) a 0) k) (layoutIn σ) ≡ layoutIn τ → Stepped J e σ k (next τ)
   stopped : (n : ℕ) → typeOf (sourceOf J) e ≡ untyped n → Stepped J e σ k (stop n)
 
 operand-on : {N : ℕ} {E F : List TypeEntry} {tab : ℕ → Typed} {of ov : ℕ → ℕ} {eff ev : ℕ → Effect} (c : ℕ) → Operand N E tab of eff c
@@ -172,7 +172,7 @@ extend-inv J e σ v F U q u ok {A} {i} p {s} {t} same g =
       count-of = length-snoc (σ .of) i ∙ ap suc (v .count-of);
       count-effects = length-snoc (σ .effects) t ∙ ap suc (v .count-effects);
       more = v .more ++ U;
-      grown = q ∙ ap (λ l. l ++ U) (v .grown) ∙ append-assoc (startOf J .entries) (v .more) U;
+      extended = q ∙ ap (λ l. l ++ U) (v .extended) ∙ append-assoc (startOf J .entries) (v .more) U;
       few = omega (arith, length-append (v .more) U, v .few);
       table = ok;
       each = λ c h. at c h (ltb c e) refl;
@@ -241,18 +241,18 @@ var-used J e x m = cmd-at J e ∙ at (nth (J .cmds) e) m
     at (c-assoc a b) m = absurd (List·Memᴰ·not-nil m)
 
 -- what is settled, by what trees and layout say
-settled : (J : Job) (e : ℕ) (σ : Sofar) (k : Cmd ℕ) → Inv J e σ → {o : Typed} {r : Result} {p : Points} → Match (length (J .types)) (length (upOf (sourceOf J))) (σ .entries) o r → Laid r p
+settled : (J : Job) (e : ℕ) (σ : Sofar) (k : Cmd ℕ) → Inv J e σ → {o : Typed} {r : Result} {p : Points} → Match (length (J .types)) (length (upOf (sourceOf J))) (σ .entries) o r → LayoutAgrees r p
     → typeOf (sourceOf J) e ≡ o → pointsTo (varEntry J) (effectIn J) (σ .entries) (λ a. getD (σ .of) a 0) k ≡ p → Stepped J e σ k (settle σ r)
 unfolding settle point
 settled J e σ k v (m-new {x = x} w a s) l-new g q =
     went _ (extend-inv J e σ v (σ .entries ++ (x ∷ [])) (x ∷ []) refl (omega arith) (table-snoc (v .table) w) (record { is = tree-new (table-earlier (v .table)) x (λ c p. part-low w p) ∙ sym a; low = omega (arith, length-snoc (σ .entries) x) }) s g)
-    (ap (λ z. point z (layOf σ)) q)
-settled J e σ k v (m-old {i = i} a s) l-old g q = went _ (extend-inv J e σ v (σ .entries) [] (sym (append-nil (σ .entries))) (omega arith) (v .table) a s g) (ap (λ z. point z (layOf σ)) q)
+    (ap (λ z. point z (layoutIn σ)) q)
+settled J e σ k v (m-old {i = i} a s) l-old g q = went _ (extend-inv J e σ v (σ .entries) [] (sym (append-nil (σ .entries))) (omega arith) (v .table) a s g) (ap (λ z. point z (layoutIn σ)) q)
 settled J e σ k v (m-no {n = n}) l-no g q = stopped n g
 
 -- what all expressions come to, from a state on
 data Outcome (J : Job) (l : List (Cmd ℕ)) (σ : Sofar) : Whole → Type 0 where
-  ended : (τ : Sofar) → Inv J (length (J .cmds)) τ → lay (varEntry J) (effectIn J) l (layOf σ) ≡ layOf τ → Outcome J l σ (whole τ)
+  ended : (τ : Sofar) → Inv J (length (J .cmds)) τ → layoutFrom (varEntry J) (effectIn J) l (layoutIn σ) ≡ layoutIn τ → Outcome J l σ (whole τ)
   broke : (n e : ℕ) → e < length (J .cmds) → ((c : ℕ) → c < e → (A : Ty) × (s : Effect) × (typeOf (sourceOf J) c ≡ typed A s)) → typeOf (sourceOf J) e ≡ untyped n
       → Outcome J l σ (halted (record { number = n; place = e }))
 
@@ -263,7 +263,7 @@ nth-seam (x ∷ p) k l = nth-seam p k l
 
 -- the layout of the job and the effects of its expressions
 unfoldable pub finalOf : Job → Sofar
-finalOf J = record { entries = laidOut J .entries; of = laidOut J .of; effects = map effectOf (types (sourceOf J)) }
+finalOf J = record { entries = layoutFor J .entries; of = layoutFor J .of; effects = map effectOf (types (sourceOf J)) }
 
 unfoldable pub wholeOf : Option Refusal → Sofar → Whole
 wholeOf none σ = whole σ
@@ -302,11 +302,11 @@ effect-at [] c = refl
 effect-at (x ∷ l) zero = refl
 effect-at (x ∷ l) (suc c) = effect-at l c
 
-final-is : (J : Job) (τ : Sofar) → Inv J (length (J .cmds)) τ → lay (varEntry J) (effectIn J) (J .cmds) (layOf (startOf J)) ≡ layOf τ → τ ≡ finalOf J
-unfolding finalOf laidOut layoutOf startOf effectOf
+final-is : (J : Job) (τ : Sofar) → Inv J (length (J .cmds)) τ → layoutFrom (varEntry J) (effectIn J) (J .cmds) (layoutIn (startOf J)) ≡ layoutIn τ → τ ≡ finalOf J
+unfolding finalOf layoutFor layoutOf startOf effectOf
 final-is J τ i p = λ k. record { entries = p′ k .entries; of = p′ k .of; effects = effects k }
   where
-    p′ : layOf τ ≡ laidOut J
+    p′ : layoutIn τ ≡ layoutFor J
     p′ = sym p
 
     effects : τ .effects ≡ map effectOf (types (sourceOf J))
@@ -321,14 +321,14 @@ module _ {J : Job} (j : JobOk J) (scoped : treeRefusal (sourceOf J) ≡ none) {O
   pub inv-start : Inv J 0 (startOf J)
   unfolding startOf
   inv-start =
-      record { count-of = refl; count-effects = refl; more = []; grown = sym (append-nil _); few = omega arith; table = start-table; each = λ c h. absurd (omega arith) }
+      record { count-of = refl; count-effects = refl; more = []; extended = sym (append-nil _); few = omega arith; table = start-table; each = λ c h. absurd (omega arith) }
 
   -- what stood in the table at the start stands there later
   later : {e : ℕ} {σ : Sofar} → Inv J e σ → {A : Ty} {i : ℕ} → TreeAt (startOf J .entries) A i → TreeAt (σ .entries) A i
   later {σ = σ} v {A} {i} p =
       record {
-        is = ap (λ l. tree l i) (v .grown) ∙ tree-kept (table-earlier start-table) (v .more) i (p .low) ∙ p .is;
-        low = omega (arith, ap length (v .grown), length-append (startOf J .entries) (v .more), p .low);
+        is = ap (λ l. tree l i) (v .extended) ∙ tree-kept (table-earlier start-table) (v .more) i (p .low) ∙ p .is;
+        low = omega (arith, ap length (v .extended), length-append (startOf J .entries) (v .more), p .low);
       }
 
   variable-at : (e x : ℕ) → e < length (J .cmds) → List·Memᴰ x (usesVar (nth (J .cmds) e)) → (A : Ty) × (varType (sourceOf J) x ≡ some A) × TreeAt (startOf J .entries) A (varEntry J x)
@@ -358,7 +358,7 @@ module _ {J : Job} (j : JobOk J) (scoped : treeRefusal (sourceOf J) ≡ none) {O
         name = λ r m. (local-above (J .names) r (form .bound-name r m), omega (arith, local-lt (J .names) r (form .bound-name r m), up-length J));
         variable = λ x m. let z = variable-at e x h m in (z .0, z .1, later v (z .2));
       }))
-      (laid-at O (varEntry J) (σ .entries) (λ a. getD (σ .of) a 0) (λ a. getD (σ .effects) a 0) (effectIn J) (nth (J .cmds) e) (λ c m. effect c (form .operand c m)))
+      (layout-at O (varEntry J) (σ .entries) (λ a. getD (σ .of) a 0) (λ a. getD (σ .effects) a 0) (effectIn J) (nth (J .cmds) e) (λ c m. effect c (form .operand c m)))
       (typeOf-is (sourceOf J) e (omega (arith, cmds-length J)) ∙ ap (λ k. typeAt (sourceOf J) (get (typesTo (sourceOf J) e)) k) (cmd-at J e))
       refl
     where
@@ -379,15 +379,15 @@ module _ {J : Job} (j : JobOk J) (scoped : treeRefusal (sourceOf J) ≡ none) {O
 
   -- the expressions from e on
   run : (l pre : List (Cmd ℕ)) (e : ℕ) → J .cmds ≡ pre ++ l → length pre ≡ e → (σ : Sofar) → Inv J e σ → Outcome J l σ (numberAll O (varEntry J) e l σ)
-  unfolding numberAll lay onto
+  unfolding numberAll layoutFrom onto
   run [] pre e q n σ v = let z : e ≡ length (J .cmds) = omega (arith, ap length (q ∙ append-nil pre)) in ended σ (subst (λ i. Inv J i σ) z v) refl
   run (k ∷ l) pre e q n σ v =
       let z = at-cmd pre k l e q n in
       at (numberAt O (varEntry J) σ k) (subst (λ c. Stepped J e σ c (numberAt O (varEntry J) σ c)) (z .0) (step e (z .1) σ v))
       (λ τ w. run l (pre ++ (k ∷ [])) (suc e) (q ∙ sym (append-assoc pre (k ∷ []) l)) (length-snoc pre k ∙ ap suc n) τ w)
     where
-      on : {τ : Sofar} {w : Whole} → point (pointsTo (varEntry J) (effectIn J) (σ .entries) (λ a. getD (σ .of) a 0) k) (layOf σ) ≡ layOf τ → Outcome J l τ w → Outcome J (k ∷ l) σ w
-      on p (ended ρ i r) = ended ρ i (ap (lay (varEntry J) (effectIn J) l) p ∙ r)
+      on : {τ : Sofar} {w : Whole} → point (pointsTo (varEntry J) (effectIn J) (σ .entries) (λ a. getD (σ .of) a 0) k) (layoutIn σ) ≡ layoutIn τ → Outcome J l τ w → Outcome J (k ∷ l) σ w
+      on p (ended ρ i r) = ended ρ i (ap (layoutFrom (varEntry J) (effectIn J) l) p ∙ r)
       on p (broke m c h f g) = broke m c h f g
 
       at : (x : Numbered) → Stepped J e σ k x → ((τ : Sofar) → Inv J (suc e) τ → Outcome J l τ (numberAll O (varEntry J) (suc e) l τ))
@@ -473,7 +473,7 @@ start-few {J} j =
 pub inv-fits : {J : Job} → JobOk J → {e : ℕ} {σ : Sofar} → e ≤ length (J .cmds) → Inv J e σ → Fits σ
 inv-fits {J} j {e} {σ} h v =
     record {
-      few = omega (arith, ap length (v .grown), length-append (startOf J .entries) (v .more), v .few, start-few j, j .few-cmds);
+      few = omega (arith, ap length (v .extended), length-append (startOf J .entries) (v .more), v .few, start-few j, j .few-cmds);
       of = λ c l. v .each c (omega (arith, v .count-of)) .low;
       entry = λ i x g. entry-wider (v .table .each i x g) (j .few-types) (omega (arith, up-length J, j .few-names));
       effect = λ c l. pow-wider {M = most-names} (v .each c (omega (arith, v .count-effects)) .small) (omega (arith, up-length J, j .few-names));
@@ -481,7 +481,7 @@ inv-fits {J} j {e} {σ} h v =
 
 -- there is a place for the entry that the next expression may make
 pub inv-room : {J : Job} → JobOk J → {e : ℕ} {σ : Sofar} → e < length (J .cmds) → Inv J e σ → length (σ .entries) < most-entries
-inv-room {J} j {e} {σ} h v = omega (arith, ap length (v .grown), length-append (startOf J .entries) (v .more), v .few, start-few j, j .few-cmds)
+inv-room {J} j {e} {σ} h v = omega (arith, ap length (v .extended), length-append (startOf J .entries) (v .more), v .few, start-few j, j .few-cmds)
 
 -- Turn by turn: the next expression, and the end
 

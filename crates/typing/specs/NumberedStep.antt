@@ -12,10 +12,10 @@ use Rattle.order.specs.Sets.{setOf}
 use Rattle.order.specs.SetLaws.{or-assoc, lt-pow}
 use Rattle.order.specs.Effects.{Effect, pure, touch, join, drop as dropped, raise, reduce, effBelow}
 use Rattle.order.specs.EffectLaws.{reduce-lt, drop-lt, join-lt, touch-lt, raise-lt}
-use Rattle.syntax.specs.Types.{Ty, cell, fn, keyOf, rekey, TypeEntry, e-num, e-pair, e-cell, e-fn, e-lim, e-grant, grow, tree}
+use Rattle.syntax.specs.Types.{Ty, cell, fn, keyOf, rekey, TypeEntry, e-num, e-pair, e-cell, e-fn, e-lim, e-grant, entryTree, tree}
 use Rattle.syntax.specs.TypeLaws.{tree-entry}
 use Rattle.syntax.specs.Commands.{Cmd, c-num, c-top, c-var, c-pair, c-part, c-fn, c-app, c-new, c-asg, c-read, c-sum, c-test, c-lim, c-grant, c-newkey, c-assoc, mapCmd}
-use Rattle.syntax.specs.Operands.{plain, inner, kids, typesOf, usesVar, bindsName}
+use Rattle.syntax.specs.Operands.{plain, inner, children, typesOf, usesVar, bindsName}
 use Rattle.syntax.specs.Job.{Src, upOf}
 use Rattle.typing.specs.Subtype.{subTy}
 use Rattle.typing.specs.Least.{Typed, typed, untyped, with, wantNum, wantPair, wantCell, wantFn, wantLim, wantGrant, require, pick, varType, ofVar, keysAt, typeAt}
@@ -31,7 +31,7 @@ pub record Same (N : ℕ) (s t : Effect) : Type 0 where
 
 -- what typing by trees and typing by numbers come to for one expression, when the entries so far are E
 pub data Match (D N : ℕ) (E : List TypeEntry) : Typed → Result → Type 0 where
-  m-new : {x : TypeEntry} {A : Ty} {s t : Effect} → EntryOk D N (length E) x → A ≡ grow (some x) (tree E) → Same N s t → Match D N E (typed A s) (makes x t)
+  m-new : {x : TypeEntry} {A : Ty} {s t : Effect} → EntryOk D N (length E) x → A ≡ entryTree (some x) (tree E) → Same N s t → Match D N E (typed A s) (makes x t)
   m-old : {i : ℕ} {A : Ty} {s t : Effect} → TreeAt E A i → Same N s t → Match D N E (typed A s) (points i t)
   m-no : {n : ℕ} → Match D N E (untyped n) (wrong n)
 
@@ -78,8 +78,8 @@ rekey-ok {m = m} (e-fn q y z s) (ok-fn a b c d e) h l = let u : y < m = omega ar
 rekey-ok (e-lim q y) (ok-lim a b) h l = ok-lim l b
 rekey-ok (e-grant q y) (ok-grant a b) h l = ok-grant l b
 
-rekey-tree : (r : ℕ) (x : TypeEntry) (f : ℕ → Ty) → rekey r (grow (some x) f) ≡ grow (some (rekeyed r (some x))) f
-unfolding rekey grow rekeyed
+rekey-tree : (r : ℕ) (x : TypeEntry) (f : ℕ → Ty) → rekey r (entryTree (some x) f) ≡ entryTree (some (rekeyed r (some x))) f
+unfolding rekey entryTree rekeyed
 rekey-tree r (e-num q) f = refl
 rekey-tree r (e-pair q y z) f = refl
 rekey-tree r (e-cell q y) f = refl
@@ -87,8 +87,8 @@ rekey-tree r (e-fn q y z s) f = refl
 rekey-tree r (e-lim q y) f = refl
 rekey-tree r (e-grant q y) f = refl
 
-key-tree : (x : TypeEntry) (f : ℕ → Ty) → keyOf (grow (some x) f) ≡ keyIn (some x)
-unfolding keyOf grow keyIn
+key-tree : (x : TypeEntry) (f : ℕ → Ty) → keyOf (entryTree (some x) f) ≡ keyIn (some x)
+unfolding keyOf entryTree keyIn
 key-tree (e-num q) f = refl
 key-tree (e-pair q y z) f = refl
 key-tree (e-cell q y) f = refl
@@ -128,17 +128,17 @@ module _ (S : Src) {O : Ops} (ag : Agree (upOf S) O) (ts : List TypeEntry) {E : 
   by-need n true c e {o} {r} m = subst⁻¹ (λ d. M o (need n d r)) e m
   by-need n false c e {o} {r} m = subst⁻¹ (λ d. M (untyped n) (need n d r)) e m-no
 
-  by-entry : {i : ℕ} → i < length E → (P : Ty → Option TypeEntry → Type 0) → ((x : TypeEntry) → EntryOk D N i x → P (grow (some x) (tree E)) (some x)) → P (tree E i) (getElem? E i)
+  by-entry : {i : ℕ} → i < length E → (P : Ty → Option TypeEntry → Type 0) → ((x : TypeEntry) → EntryOk D N i x → P (entryTree (some x) (tree E)) (some x)) → P (tree E i) (getElem? E i)
   by-entry {i} h P f = at (getElem?-some E i h)
     where
       at : (x : TypeEntry) × (getElem? E i ≡ some x) → P (tree E i) (getElem? E i)
       at (x, z) = subst⁻¹ (λ o. P (tree E i) o) z (subst⁻¹ (λ A. P A (some x)) (tree-entry (table-earlier ok) i x z) (f x (ok .each i x z)))
 
   by-num : {i : ℕ} → i < length E → (f : ℕ → Typed) (g : ℕ → Result) → ((q : ℕ) → q < N → M (f q) (g q)) → M (wantNum (tree E i) f) (needNum (getElem? E i) g)
-  unfolding wantNum needNum grow
+  unfolding wantNum needNum entryTree
   by-num {i} h f g k = by-entry h (λ A o. M (wantNum A f) (needNum o g)) go
     where
-      go : (x : TypeEntry) → EntryOk D N i x → M (wantNum (grow (some x) (tree E)) f) (needNum (some x) g)
+      go : (x : TypeEntry) → EntryOk D N i x → M (wantNum (entryTree (some x) (tree E)) f) (needNum (some x) g)
       go (e-num q) (ok-num a) = k q a
       go (e-pair q y z) p = m-no
       go (e-cell q y) p = m-no
@@ -148,10 +148,10 @@ module _ (S : Src) {O : Ops} (ag : Agree (upOf S) O) (ts : List TypeEntry) {E : 
 
   by-pair : {i : ℕ} → i < length E → (f : ℕ → Ty → Ty → Typed) (g : ℕ → ℕ → ℕ → Result) → ((q a b : ℕ) → q < N → a < length E → b < length E → M (f q (tree E a) (tree E b)) (g q a b))
       → M (wantPair (tree E i) f) (needPair (getElem? E i) g)
-  unfolding wantPair needPair grow
+  unfolding wantPair needPair entryTree
   by-pair {i} h f g k = by-entry h (λ A o. M (wantPair A f) (needPair o g)) go
     where
-      go : (x : TypeEntry) → EntryOk D N i x → M (wantPair (grow (some x) (tree E)) f) (needPair (some x) g)
+      go : (x : TypeEntry) → EntryOk D N i x → M (wantPair (entryTree (some x) (tree E)) f) (needPair (some x) g)
       go (e-num q) p = m-no
       go (e-pair q y z) (ok-pair a b c) = k q y z a (omega arith) (omega arith)
       go (e-cell q y) p = m-no
@@ -161,10 +161,10 @@ module _ (S : Src) {O : Ops} (ag : Agree (upOf S) O) (ts : List TypeEntry) {E : 
 
   by-cell : {i : ℕ} → i < length E → (f : ℕ → Ty → Typed) (g : ℕ → ℕ → Result) → ((q t : ℕ) → q < N → t < length E → t < D → M (f q (tree E t)) (g q t))
       → M (wantCell (tree E i) f) (needCell (getElem? E i) g)
-  unfolding wantCell needCell grow
+  unfolding wantCell needCell entryTree
   by-cell {i} h f g k = by-entry h (λ A o. M (wantCell A f) (needCell o g)) go
     where
-      go : (x : TypeEntry) → EntryOk D N i x → M (wantCell (grow (some x) (tree E)) f) (needCell (some x) g)
+      go : (x : TypeEntry) → EntryOk D N i x → M (wantCell (entryTree (some x) (tree E)) f) (needCell (some x) g)
       go (e-num q) p = m-no
       go (e-pair q y z) p = m-no
       go (e-cell q y) (ok-cell a b c) = k q y a (omega arith) c
@@ -174,10 +174,10 @@ module _ (S : Src) {O : Ops} (ag : Agree (upOf S) O) (ts : List TypeEntry) {E : 
 
   by-fn : {i : ℕ} → i < length E → (f : ℕ → Ty → Ty → Effect → Typed) (g : ℕ → ℕ → ℕ → Effect → Result)
       → ((q t u : ℕ) (s : Effect) → q < N → t < D → u < length E → s < 2 ^ N → M (f q (tree E t) (tree E u) s) (g q t u s)) → M (wantFn (tree E i) f) (needFn (getElem? E i) g)
-  unfolding wantFn needFn grow
+  unfolding wantFn needFn entryTree
   by-fn {i} h f g k = by-entry h (λ A o. M (wantFn A f) (needFn o g)) go
     where
-      go : (x : TypeEntry) → EntryOk D N i x → M (wantFn (grow (some x) (tree E)) f) (needFn (some x) g)
+      go : (x : TypeEntry) → EntryOk D N i x → M (wantFn (entryTree (some x) (tree E)) f) (needFn (some x) g)
       go (e-num q) p = m-no
       go (e-pair q y z) p = m-no
       go (e-cell q y) p = m-no
@@ -186,10 +186,10 @@ module _ (S : Src) {O : Ops} (ag : Agree (upOf S) O) (ts : List TypeEntry) {E : 
       go (e-grant q r) p = m-no
 
   by-lim : {i : ℕ} → i < length E → (f : ℕ → ℕ → Typed) (g : ℕ → ℕ → Result) → ((q r : ℕ) → q < N → r < N → M (f q r) (g q r)) → M (wantLim (tree E i) f) (needLim (getElem? E i) g)
-  unfolding wantLim needLim grow
+  unfolding wantLim needLim entryTree
   by-lim {i} h f g k = by-entry h (λ A o. M (wantLim A f) (needLim o g)) go
     where
-      go : (x : TypeEntry) → EntryOk D N i x → M (wantLim (grow (some x) (tree E)) f) (needLim (some x) g)
+      go : (x : TypeEntry) → EntryOk D N i x → M (wantLim (entryTree (some x) (tree E)) f) (needLim (some x) g)
       go (e-num q) p = m-no
       go (e-pair q y z) p = m-no
       go (e-cell q y) p = m-no
@@ -198,10 +198,10 @@ module _ (S : Src) {O : Ops} (ag : Agree (upOf S) O) (ts : List TypeEntry) {E : 
       go (e-grant q r) p = m-no
 
   by-grant : {i : ℕ} → i < length E → (f : ℕ → ℕ → Typed) (g : ℕ → ℕ → Result) → ((q r : ℕ) → q < N → r < N → M (f q r) (g q r)) → M (wantGrant (tree E i) f) (needGrant (getElem? E i) g)
-  unfolding wantGrant needGrant grow
+  unfolding wantGrant needGrant entryTree
   by-grant {i} h f g k = by-entry h (λ A o. M (wantGrant A f) (needGrant o g)) go
     where
-      go : (x : TypeEntry) → EntryOk D N i x → M (wantGrant (grow (some x) (tree E)) f) (needGrant (some x) g)
+      go : (x : TypeEntry) → EntryOk D N i x → M (wantGrant (entryTree (some x) (tree E)) f) (needGrant (some x) g)
       go (e-num q) p = m-no
       go (e-pair q y z) p = m-no
       go (e-cell q y) p = m-no
@@ -253,19 +253,19 @@ module _ (S : Src) {O : Ops} (ag : Agree (upOf S) O) (ts : List TypeEntry) {E : 
       (k (r ∷ rs) (touch q (join (eff a) s)) (touch-lt N r (setOf rs) hr hs) (touch-lt N q (join (eff a) s) hq (join-lt N (eff a) s (o .small) ht2))))))
 
   same-key : {n : ℕ} (x : TypeEntry) → EntryOk D N n x → {s t : Effect} → Same N s t
-      → Same N (reduce (upOf S) (touch (keyOf (grow (some x) (tree E))) s)) (O .reduce (O .touch (keyIn (some x)) t))
+      → Same N (reduce (upOf S) (touch (keyOf (entryTree (some x) (tree E))) s)) (O .reduce (O .touch (keyIn (some x)) t))
   same-key x w {s} {t} e =
       subst⁻¹ (λ y. Same N (reduce (upOf S) (touch y s)) (O .reduce (O .touch (keyIn (some x)) t))) (key-tree x (tree E)) (same-reduce ag (same-touch ag (key-low x w) e))
 
   -- what a command's operands are
   pub record Given (k : Cmd ℕ) : Type 0 where
-    pub operand : (c : ℕ) → List·Memᴰ c (kids k) → Op c
+    pub operand : (c : ℕ) → List·Memᴰ c (children k) → Op c
     pub type : (t : ℕ) → List·Memᴰ t (typesOf k) → t < D
     pub name : (r : ℕ) → List·Memᴰ r (bindsName k) → (1 < r) × (r < N)
     pub variable : (x : ℕ) → List·Memᴰ x (usesVar k) → (A : Ty) × (varType S x ≡ some A) × TreeAt E A (var x)
 
   pub matches : (k : Cmd ℕ) → Given k → M (typeAt S tab (mapCmd (tree ts) k)) (resultAt O var (getElem? E) of eff k)
-  unfolding kids plain inner typesOf bindsName usesVar mapCmd typeAt resultAt grow ofVar pick
+  unfolding children plain inner typesOf bindsName usesVar mapCmd typeAt resultAt entryTree ofVar pick
   matches (c-num n) h = m-new (ok-num zero-low) refl (same-self pure-low)
   matches c-top h = m-new (ok-lim zero-low two) refl (same-self pure-low)
   matches (c-var x) h = at (h .variable x (List·Memᴰ·head refl))

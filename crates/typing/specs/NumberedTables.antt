@@ -14,7 +14,7 @@ use Rattle.order.specs.Bools.{and-l, and-r}
 use Rattle.order.specs.OrderLaws.{getElem?-snoc, getElem?-lt, length-snoc}
 use Rattle.order.specs.SetLaws.{lt-bit, bit-mem, all-of→}
 use Rattle.order.specs.Effects.{Effect}
-use Rattle.syntax.specs.Types.{Ty, pair, lim, grant, TypeEntry, e-num, e-pair, e-cell, e-fn, e-lim, e-grant, grow, tree}
+use Rattle.syntax.specs.Types.{Ty, pair, lim, grant, TypeEntry, e-num, e-pair, e-cell, e-fn, e-lim, e-grant, entryTree, tree}
 use Rattle.syntax.specs.TypeLaws.{Part, of-pair-1, of-pair-2, of-cell, of-fn-1, of-fn-2, Earlier, tree-entry, tree-kept}
 use Rattle.syntax.specs.Commands.{Cmd, c-num, c-top, c-var, c-pair, c-part, c-fn, c-app, c-new, c-asg, c-read, c-sum, c-test, c-lim, c-grant, c-newkey, c-assoc, mapCmd}
 use Rattle.syntax.specs.Operands.{nth, typesOf, bindsName}
@@ -182,7 +182,7 @@ module _ (ts : List TypeEntry) {D N : ℕ} {E : List TypeEntry} (ok : TableOk D 
   by-test false h f A e = f A e
 
   key-tree : {n r : ℕ} → getElem? E n ≡ some (e-lim 0 r) → getElem? E (suc n) ≡ some (e-grant 0 r) → getElem? E (2 + n) ≡ some (e-pair 0 n (suc n)) → TreeAt E (pair 0 (lim 0 r) (grant 0 r)) (2 + n)
-  unfolding grow
+  unfolding entryTree
   key-tree {n} {r} a b c = record { is = tree-entry (table-earlier ok) (2 + n) (e-pair 0 n (suc n)) c ∙ rw (tree-entry (table-earlier ok) n (e-lim 0 r) a, tree-entry (table-earlier ok) (suc n) (e-grant 0 r) b); low = getElem?-lt E (2 + n) _ c }
 
   bound-at : (l : List (Cmd ℕ)) (n : ℕ) → ((i t : ℕ) → List·Memᴰ t (typesOf (nth l i)) → t < length ts) → KeysAt E n (newKeys l) → (Γ : List Entry) (L : List Typing)

@@ -16,7 +16,7 @@ use Rattle.order.specs.Sets.{bit, membersFrom, members, all-of}
 use Rattle.order.specs.SetLaws.{bit-mem, all-of→}
 use Rattle.order.specs.Effects.{Effect, pure, names, touch, join, drop, raise, maximal, reduced, reduce, EffBelow}
 use Rattle.order.specs.EffectLaws.{name-mem, mem-name, bit-name, pure-name, touch-cases, join-cases, maximal→, reduce-mem, reduce-reduced, reduced-unique, drop-in, raise-cases}
-use Rattle.syntax.specs.Types.{Ty, num, pair, cell, fn, lim, grant, keyOf, rekey, namesIn, TypeEntry, e-num, e-pair, e-cell, e-fn, e-lim, e-grant, grow, treeIn, tree}
+use Rattle.syntax.specs.Types.{Ty, num, pair, cell, fn, lim, grant, keyOf, rekey, namesIn, TypeEntry, e-num, e-pair, e-cell, e-fn, e-lim, e-grant, entryTree, treeIn, tree}
 use Rattle.syntax.specs.Commands.{Cmd, c-num, c-top, c-var, c-pair, c-part, c-fn, c-app, c-new, c-asg, c-read, c-sum, c-test, c-lim, c-grant, c-newkey, c-assoc, mapCmd}
 use Rattle.syntax.specs.Operands.{nth, plain, inner, typesOf}
 use Rattle.syntax.specs.Job.{Name, Job, Src, upOf, uppers, sourceOf}
@@ -245,11 +245,11 @@ more-ty f (g-grant q r) = g-grant (more-known f q) (more-known f r)
 
 -- their sets are reduced, as they are read
 tree-reduced : (ds : List Name) {ts : List TypeEntry} → TypesOk ds ts → (f i : ℕ) → ReducedTy (uppers ds) (treeIn f (getElem? ts) i)
-unfolding treeIn grow partsOk setOk
+unfolding treeIn entryTree partsOk setOk
 tree-reduced ds b zero i = r-num
 tree-reduced ds {ts} b (suc f) i = at (getElem? ts i) (λ e z. entry-parts ds b i e z) (λ a. tree-reduced ds b f a)
   where
-    at : (o : Option TypeEntry) → ((e : TypeEntry) → o ≡ some e → partsOk ds i e ≡ true) → ((a : ℕ) → ReducedTy (uppers ds) (treeIn f (getElem? ts) a)) → ReducedTy (uppers ds) (grow o (treeIn f (getElem? ts)))
+    at : (o : Option TypeEntry) → ((e : TypeEntry) → o ≡ some e → partsOk ds i e ≡ true) → ((a : ℕ) → ReducedTy (uppers ds) (treeIn f (getElem? ts) a)) → ReducedTy (uppers ds) (entryTree o (treeIn f (getElem? ts)))
     at none p g = r-num
     at (some (e-num q)) p g = r-num
     at (some (e-pair q a b)) p g = r-pair (g a) (g b)

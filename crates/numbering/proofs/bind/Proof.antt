@@ -4,7 +4,7 @@ use native.Mathlib.Omega.{arith}
 use borrow.Author.Needs.{needs}
 use lib.ListN.{length}
 use Rattle.numbering.specs.Binders.{bound, boundFrom}
-use Rattle.numbering.proofs.Laws.{bound-turn, bound-end, bound-grows}
+use Rattle.numbering.proofs.Laws.{bound-turn, bound-end, bound-extends}
 use native.Mathlib.Nat.{sub-zero}
 use Rattle.numbering.proofs.bind.Statement.{statement}
 use Rattle.numbering.proofs.bind.Tie as tie
@@ -31,7 +31,7 @@ loop-less : tie.Need-loop-less Inv-loop μ-loop
 loop-less c = omega arith
 
 loop-again : tie.Need-loop-again Inv-loop μ-loop
-loop-again c = (omega arith, omega (arith, bound-grows (c .before .before .before .before .before .binder-at .result) (bound (c .before .before .before .before .before .before .before .loop .count) (c .before .before .before .before .before .before .before .loop .types) (c .before .before .before .before .before .before .before .loop .vars)) _ (c .before .before .bind-one .ensures)), (c .before .before .bind-one .kept .1 .1 .0) ∙ (c .before .before .before .before .before .before .before .loop .inv .2), bound-turn _ _ _ _ _ (c .before .before .before .before .before .before .loop-test .taken) ((c .before .before .before .before .before .before .before .loop .inv .3)) (c .before .before .before .before .before .binder-at .ensures) (c .before .before .bind-one .ensures))
+loop-again c = (omega arith, omega (arith, bound-extends (c .before .before .before .before .before .binder-at .result) (bound (c .before .before .before .before .before .before .before .loop .count) (c .before .before .before .before .before .before .before .loop .types) (c .before .before .before .before .before .before .before .loop .vars)) _ (c .before .before .bind-one .ensures)), (c .before .before .bind-one .kept .1 .1 .0) ∙ (c .before .before .before .before .before .before .before .loop .inv .2), bound-turn _ _ _ _ _ (c .before .before .before .before .before .before .loop-test .taken) ((c .before .before .before .before .before .before .before .loop .inv .3)) (c .before .before .before .before .before .binder-at .ensures) (c .before .before .bind-one .ensures))
 
 same-length : tie.Need-same-length Inv-loop μ-loop
 same-length c = (c .before .loop .inv .2)

@@ -27,8 +27,8 @@ returns-2 c = simp ((c .before .before .before .b .given .1), (c .put16 .ensures
 enum-known-b-2 : tie.Need-enum-known-b-2
 enum-known-b-2 c = search needs
 
-lay-key-requires : tie.Need-lay-key-requires
-lay-key-requires c κs = search needs
+store-key-requires : tie.Need-lay-key-requires
+store-key-requires c κs = search needs
 
 cast-put16-2 : tie.Need-cast-put16-2
 cast-put16-2 c = search needs
@@ -50,7 +50,7 @@ same-length c = search needs
 
 returns-3 : tie.Need-returns-3
 unfolding boundOne
-returns-3 c = simp ((c .before .before .before .before .before .before .before .before .b2 .given .1), (c .put162 .ensures), (c .before .short .ensures), (c .before .before .before .before .before .lay-key .ensures))
+returns-3 c = simp ((c .before .before .before .before .before .before .before .before .b2 .given .1), (c .put162 .ensures), (c .before .short .ensures), (c .before .before .before .before .before .store-key .ensures))
 
 pub bind-one-spec : {M : Type 1} → statement M
 bind-one-spec =
@@ -63,7 +63,7 @@ bind-one-spec =
     put16-requires
     returns-2
     enum-known-b-2
-    lay-key-requires
+    store-key-requires
     cast-put16-2
     add-short
     short-requires

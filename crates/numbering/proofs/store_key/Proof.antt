@@ -1,8 +1,8 @@
 use native.Mathlib.Omega.{arith}
 use borrow.Author.Needs.{needs}
-use Rattle.numbering.specs.Binders.{layKey}
-use Rattle.numbering.proofs.lay_key.Statement.{statement}
-use Rattle.numbering.proofs.lay_key.Tie as tie
+use Rattle.numbering.specs.Binders.{storeKey}
+use Rattle.numbering.proofs.store_key.Statement.{statement}
+use Rattle.numbering.proofs.store_key.Tie as tie
 
 bits-requires : tie.Need-bits-requires
 bits-requires c κs = search needs
@@ -41,11 +41,11 @@ same-length : tie.Need-same-length
 same-length c = search needs
 
 returns : tie.Need-returns
-unfolding layKey
+unfolding storeKey
 returns c = simp ((c .before .before .put643 .ensures), (c .before .before .before .bits3 .ensures), (c .before .before .before .before .before .short .ensures), (c .before .before .before .before .short2 .ensures), (c .before .before .before .before .before .before .before .before .before .put642 .ensures), (c .before .before .before .before .before .before .before .before .before .before .bits2 .ensures), (c .before .before .before .before .before .before .before .before .before .before .before .before .before .before .put64 .ensures), (c .before .before .before .before .before .before .before .before .before .before .before .before .before .before .before .bits .ensures))
 
-pub lay-key-spec : {M : Type 1} → statement M
-lay-key-spec =
+pub store-key-spec : {M : Type 1} → statement M
+store-key-spec =
     tie.close
     (tie.spec
     bits-requires
