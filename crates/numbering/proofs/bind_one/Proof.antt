@@ -27,7 +27,7 @@ returns-2 c = simp ((c .before .before .before .b .given .1), (c .put16 .ensures
 enum-known-b-2 : tie.Need-enum-known-b-2
 enum-known-b-2 c = search needs
 
-store-key-requires : tie.Need-lay-key-requires
+store-key-requires : tie.Need-store-key-requires
 store-key-requires c κs = search needs
 
 cast-put16-2 : tie.Need-cast-put16-2
