@@ -64,7 +64,7 @@ pub struct Now {
     pub on: Keys,
 }
 
-// What changes at each step, and how many entries of each table are used.
+// What changes at each step, and how many entries of each table are used. A count has a word of its own: narrower ones would be packed and unpacked at each step.
 pub struct Thread {
     pub now: Now,
     pub frames: u64,
@@ -720,8 +720,8 @@ impl Thread {
         let head = store::at64(heads, i);
         let op = head % 256;
         let x = head / 256 % 4294967296;
-        let first = Expr(store::at16(slots, i * 5));
         if 0 < need(op, x) {
+            let first = Expr(store::at16(slots, i * 5));
             return self.push(e, first, frames);
         }
         match op {
@@ -730,7 +730,10 @@ impl Thread {
                 self.give(v)
             }
             0x32 => self.variable((x % 256) as u8, bindings),
-            0x35 => self.function((x % 256) as u8, first, functions),
+            0x35 => {
+                let body = Expr(store::at16(slots, i * 5));
+                self.function((x % 256) as u8, body, functions)
+            }
             0x3C => {
                 let now = self.now;
                 self.go(Expr(store::at16(slots, i * 5 + 4)), now.env, Keys(0, 0))

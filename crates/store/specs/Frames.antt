@@ -4,7 +4,7 @@ use Prim.Native.Nat.{ℕ, _+_, _*_, _/_, _%_, _<_, _≤_}
 use mathlib.Core.Bool.{cond}
 use mathlib.Core.List.{List, [], _∷_, _++_}
 use lib.ListN.{getD}
-use lib.Dec.{eqb, ltb}
+use lib.Dec.{eqb}
 use Rattle.semantics.specs.Machine.{Value, Frame}
 use Rattle.store.specs.declared.Expr.{Expr}
 use Rattle.store.specs.declared.Keys.{Keys}
@@ -13,16 +13,12 @@ use Rattle.store.specs.Meaning.{keysIn}
 use Rattle.store.specs.Words.{wordIn}
 use Rattle.store.specs.Tables.{Wrote}
 
--- how many values are in hand: three at most
-abbrev pub heldOf : ℕ → ℕ
-heldOf n = cond (ltb n 3) n 3
-
--- the head: 8 bits of the count in hand, 16 of the expression, 16 of the bindings
+-- the head: 2 bits of the count in hand, from bit 8 on 16 of the expression, 16 of the bindings
 unfoldable pub headAt : List ℕ → ℕ → Head
 headAt t i =
     record {
       at = record { 0 = getD t (i * 6) 0 / 256 % 65536 };
-      held = heldOf (getD t (i * 6) 0 % 256);
+      held = getD t (i * 6) 0 % 4;
       env = getD t (i * 6) 0 / 16777216 % 65536;
       on = record { 0 = getD t (i * 6 + 1) 0; 1 = getD t (i * 6 + 2) 0 };
     }

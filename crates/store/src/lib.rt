@@ -11,7 +11,7 @@ ghost use Rattle.order.specs.Sets.{bit, some-of};
 ghost use Rattle.semantics.specs.Keys.{enabled, narrow};
 ghost use Rattle.store.specs.Meaning.{keysIn, kindIn, valueIn, twoIn, closureIn, bindingIn, variableIn, nameIn, ownIn};
 ghost use Rattle.store.specs.Words.{kindAt, wordIn, cellIn, pairIn, functionIn, linkIn, upIn};
-ghost use Rattle.store.specs.Frames.{headAt, heldIn, heldOf, freshOf, frameIn, Held};
+ghost use Rattle.store.specs.Frames.{headAt, heldIn, freshOf, frameIn, Held};
 ghost use Rattle.store.specs.Tables.{Stored, Put, capped, listOf, stackOf};
 ghost use Rattle.store.specs.Walk.{walk, bothOf, bitsOf, span};
 
@@ -37,6 +37,7 @@ pub enum Kind {
 }
 
 // A value with its key. The payload is a number; the number of a pair, cell or function; or, by its low 8 bits, the key that a limit or grant key stands for.
+// It stands beside the kind and not in it, so that a value is read and written as one word.
 pub struct Value {
     pub key: Key,
     pub kind: Kind,
@@ -299,18 +300,12 @@ pub fn put_name(t: &mut [u64; 2048], i: u16, x: u8, k: Key, next: u16)
     put64(&mut t[..], j * 2 + 1, k.0 as u64);
 }
 
-fn held(n: u64) -> u8
-    ensures { λ r. ⌜ r ≡ heldOf n ⌝ }
-{
-    if n < 3 { n as u8 } else { 3 }
-}
-
 pub fn head_at(t: &[u64; 1536], i: u16) -> Head
     ensures { λ r. ⌜ r ≡ headAt (now (t .entry)) i ⌝ }
 {
     let j = i as usize;
     let w = at64(t, j * 6);
-    let n = held(w % 256);
+    let n = (w % 4) as u8;
     Head {
         at: Expr((w / 256 % 65536) as u16),
         held: n,
@@ -343,7 +338,7 @@ pub fn put_held(t: &mut [u64; 1536], i: u16, v: Value)
 {
     let j = i as usize;
     let w = at64(t, j * 6);
-    let n = w % 256;
+    let n = w % 4;
     if n < 3 {
         let x = pack(v);
         put64(&mut t[..], j * 6, w + 1);

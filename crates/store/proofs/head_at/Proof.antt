@@ -9,8 +9,8 @@ mul-at64 c = search needs
 at64-requires : tie.Need-at64-requires
 at64-requires c κs = search needs
 
-held-requires : tie.Need-held-requires
-held-requires c κs = search needs
+cast-n : tie.Need-cast-n
+cast-n c = search needs
 
 cast-t11 : tie.Need-cast-t11
 cast-t11 c = search needs
@@ -38,7 +38,7 @@ at64-requires-3 c κs = search needs
 
 returns : tie.Need-returns
 unfolding headAt
-returns c = simp (c .at643 .ensures, c .before .before .at642 .ensures, c .before .before .before .before .held .ensures, c .before .before .before .before .before .at64 .ensures)
+returns c = simp (c .at643 .ensures, c .before .before .at642 .ensures, c .before .before .before .before .at64 .ensures)
 
 pub head-at-spec : {M : Type 1} → statement M
 head-at-spec =
@@ -46,7 +46,7 @@ head-at-spec =
     (tie.spec
     mul-at64
     at64-requires
-    held-requires
+    cast-n
     cast-t11
     cast-t15
     mul-at64-2
