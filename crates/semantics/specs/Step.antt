@@ -47,6 +47,7 @@ unfoldable pub room : Bool → Out → Out
 room true o = o
 room false o = o-room
 
+-- "touch" is document 01's own term: an act uses a value, and so its key must be enabled
 unfoldable pub touch : ℕ → Machine → Out → Out
 touch k m o = cond (enabled (m .store .keys) (m .thread .on) k) o o-denied
 

@@ -14,7 +14,7 @@ use Rattle.order.specs.Sets.{bit}
 use Rattle.order.specs.SetLaws.{bit-or, bit-zero}
 use Rattle.syntax.specs.Reading.{Refusal}
 use Rattle.syntax.specs.Tree.{firstBad, orElse, numbered}
-use Rattle.tree.specs.Passes.{before, oneOf, boundVar, boundName, boundOf, isNew, varFits, operandNames, isScoped, hostName, hostNames, typeNames, masksFrom, putIn, handedDown, scopesBy, countsBy, rightCount, hostVars, masksBy, scopeRefusal, tableRefusal, inLimits}
+use Rattle.tree.specs.Passes.{before, oneOf, boundVar, boundName, boundOf, isNew, varFits, operandNames, isScoped, hostName, hostNames, typeNames, masksFrom, putIn, inheritedDown, scopesBy, countsBy, rightCount, hostVars, masksBy, scopeRefusal, tableRefusal, inLimits}
 use Rattle.tree.specs.Places.{isBinder}
 use Rattle.tree.specs.Heads.{one-past}
 
@@ -129,10 +129,10 @@ scoped-is heads slots masks vars names e {m = m} hw hb h hm hd =
     let y : operandNames masks slots e (getD heads e 0) ≡ m = ap (operandNames masks slots e) (sym hw) ∙ sym hm in
     rw (z, y) (sym hd)
 
-pub scopes-start : (named : Bool) (heads slots : List ℕ) (n host : ℕ) {x : List ℕ} → n - 1 < 512 → x ≡ handedDown named heads slots (n * 5) (set (replicate 512 0) (n - 1) host)
+pub scopes-start : (named : Bool) (heads slots : List ℕ) (n host : ℕ) {x : List ℕ} → n - 1 < 512 → x ≡ inheritedDown named heads slots (n * 5) (set (replicate 512 0) (n - 1) host)
     → x ≡ scopesBy named heads slots n host
 unfolding scopesBy putIn
-scopes-start named heads slots n host h e = e ∙ sym (ap (λ (b : Bool). handedDown named heads slots (n * 5) (cond b (set (replicate 512 0) (n - 1) host) (replicate 512 0))) (lt-ltb (n - 1) 512 h))
+scopes-start named heads slots n host h e = e ∙ sym (ap (λ (b : Bool). inheritedDown named heads slots (n * 5) (cond b (set (replicate 512 0) (n - 1) host) (replicate 512 0))) (lt-ltb (n - 1) 512 h))
 
 -- the three checks together
 

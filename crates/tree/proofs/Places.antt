@@ -8,8 +8,8 @@ use lib.ListN.{getD}
 use lib.Dec.{eqb, ltb}
 use lib.Bits.{bitOr}
 use borrow.Author.Tests.{lt-ltb, le-ltb, ltb-true, ltb-false, ne-eqb}
-use Rattle.tree.specs.Passes.{oneOf, boundOf, isBody, arityOf, isOperand, tallied, countStep, counted, handedTo, putIn, handStep, handedDown}
-use Rattle.tree.specs.Places.{lastIsOperand, firstOperands, atLast, atFirst, tallyAt, handTo, handAt, passTo, passAt, isBinder}
+use Rattle.tree.specs.Passes.{oneOf, boundOf, isBody, arityOf, isOperand, tallied, countStep, counted, inheritedBy, putIn, inheritStep, inheritedDown}
+use Rattle.tree.specs.Places.{lastIsOperand, firstOperands, atLast, atFirst, tallyAt, inheritTo, inheritAt, passTo, passAt, isBinder}
 
 -- which places are operands
 
@@ -115,15 +115,15 @@ count-turn heads slots e i j l h k =
     (ap₂ (λ (a b : ℕ). cond (isOperand (getD heads a 0) b) (tallied l (getD slots j 0)) l) p q
     ∙ ap (λ (n : ℕ). cond (isOperand (getD heads e 0) i) (tallied l (getD slots n 0)) l) k)
 
-hand-turn : (isName : Bool) (heads slots : List ℕ) (e i j : ℕ) (l : List ℕ) → i < 5 → j ≡ e * 5 + i
-    → handedDown isName heads slots (suc j) l ≡ handedDown isName heads slots j (on (handAt isName slots (getD heads e 0) e) (isOperand (getD heads e 0) i) i l)
-unfolding handedDown handStep handAt handTo on
-hand-turn isName heads slots e i j l h k =
+inherit-turn : (isName : Bool) (heads slots : List ℕ) (e i j : ℕ) (l : List ℕ) → i < 5 → j ≡ e * 5 + i
+    → inheritedDown isName heads slots (suc j) l ≡ inheritedDown isName heads slots j (on (inheritAt isName slots (getD heads e 0) e) (isOperand (getD heads e 0) i) i l)
+unfolding inheritedDown inheritStep inheritAt inheritTo on
+inherit-turn isName heads slots e i j l h k =
     let p : j / 5 ≡ e = omega arith in
     let q : j % 5 ≡ i = omega arith in
-    ap (handedDown isName heads slots j)
-    (ap₂ (λ (a b : ℕ). handStep isName l (getD heads a 0) b a (getD slots j 0)) p q
-    ∙ ap (λ (n : ℕ). handStep isName l (getD heads e 0) i e (getD slots n 0)) k)
+    ap (inheritedDown isName heads slots j)
+    (ap₂ (λ (a b : ℕ). inheritStep isName l (getD heads a 0) b a (getD slots j 0)) p q
+    ∙ ap (λ (n : ℕ). inheritStep isName l (getD heads e 0) i e (getD slots n 0)) k)
 
 pub count-on : (heads slots l : List ℕ) (e : ℕ) {m a x : List ℕ} {w k : ℕ} → 0 < e → w ≡ getD heads (e - 1) 0 → a ≡ atLast (tallyAt slots (e - 1)) w l → k ≡ firstOperands w
     → m ≡ atFirst (tallyAt slots (e - 1)) k a → x ≡ counted heads slots (e * 5) l → x ≡ counted heads slots ((e - 1) * 5) m
@@ -132,20 +132,20 @@ count-on heads slots l e h hw ha hk hm hx =
     rw (hm, hk, ha, hw)
     (hx ∙ ap (λ (i : ℕ). counted heads slots (i * 5) l) z ∙ run-five (counted heads slots) (tallyAt slots (e - 1)) (getD heads (e - 1) 0) (e - 1) (count-turn heads slots (e - 1)) l)
 
-pub hand-on : (isName : Bool) (heads slots l : List ℕ) (e : ℕ) {m a x : List ℕ} {w k : ℕ} → 0 < e → w ≡ getD heads (e - 1) 0 → a ≡ atLast (handAt isName slots w (e - 1)) w l → k ≡ firstOperands w
-    → m ≡ atFirst (handAt isName slots w (e - 1)) k a → x ≡ handedDown isName heads slots (e * 5) l → x ≡ handedDown isName heads slots ((e - 1) * 5) m
-hand-on isName heads slots l e h hw ha hk hm hx =
+pub inherit-on : (isName : Bool) (heads slots l : List ℕ) (e : ℕ) {m a x : List ℕ} {w k : ℕ} → 0 < e → w ≡ getD heads (e - 1) 0 → a ≡ atLast (inheritAt isName slots w (e - 1)) w l → k ≡ firstOperands w
+    → m ≡ atFirst (inheritAt isName slots w (e - 1)) k a → x ≡ inheritedDown isName heads slots (e * 5) l → x ≡ inheritedDown isName heads slots ((e - 1) * 5) m
+inherit-on isName heads slots l e h hw ha hk hm hx =
     let z : e ≡ suc (e - 1) = omega arith in
     rw (hm, hk, ha, hw)
-    (hx ∙ ap (λ (i : ℕ). handedDown isName heads slots (i * 5) l) z ∙ run-five (handedDown isName heads slots) (handAt isName slots (getD heads (e - 1) 0) (e - 1)) (getD heads (e - 1) 0) (e - 1) (hand-turn isName heads slots (e - 1)) l)
+    (hx ∙ ap (λ (i : ℕ). inheritedDown isName heads slots (i * 5) l) z ∙ run-five (inheritedDown isName heads slots) (inheritAt isName slots (getD heads (e - 1) 0) (e - 1)) (getD heads (e - 1) 0) (e - 1) (inherit-turn isName heads slots (e - 1)) l)
 
 pub count-end : (heads slots l : List ℕ) (e : ℕ) {x : List ℕ} → e ≤ 0 → x ≡ counted heads slots (e * 5) l → l ≡ x
 unfolding counted
 count-end heads slots l e h k = let z : e * 5 ≡ 0 = omega arith in sym (k ∙ ap (λ (i : ℕ). counted heads slots i l) z)
 
-pub hand-end : (isName : Bool) (heads slots l : List ℕ) (e : ℕ) {x : List ℕ} → e ≤ 0 → x ≡ handedDown isName heads slots (e * 5) l → l ≡ x
-unfolding handedDown
-hand-end isName heads slots l e h k = let z : e * 5 ≡ 0 = omega arith in sym (k ∙ ap (λ (i : ℕ). handedDown isName heads slots i l) z)
+pub inherit-end : (isName : Bool) (heads slots l : List ℕ) (e : ℕ) {x : List ℕ} → e ≤ 0 → x ≡ inheritedDown isName heads slots (e * 5) l → l ≡ x
+unfolding inheritedDown
+inherit-end isName heads slots l e h k = let z : e * 5 ≡ 0 = omega arith in sym (k ∙ ap (λ (i : ℕ). inheritedDown isName heads slots i l) z)
 
 -- the first places, one by one
 
@@ -162,10 +162,10 @@ pub tally-next : (slots : List ℕ) (e i : ℕ) (l : List ℕ) {m x : List ℕ} 
 unfolding tallyAt
 tally-next slots e i l h hs hm hx = first-on (tallyAt slots e) i l h (hm ∙ ap (tallied l) hs) hx
 
-pub hand-next : (isName : Bool) (slots : List ℕ) (w e i : ℕ) (l : List ℕ) {m x : List ℕ} {s : ℕ} → 0 < i → s ≡ getD slots (e * 5 + (i - 1)) 0 → m ≡ handTo isName l w (i - 1) e s
-    → x ≡ atFirst (handAt isName slots w e) i l → x ≡ atFirst (handAt isName slots w e) (i - 1) m
-unfolding handAt
-hand-next isName slots w e i l h hs hm hx = first-on (handAt isName slots w e) i l h (hm ∙ ap (handTo isName l w (i - 1) e) hs) hx
+pub inherit-next : (isName : Bool) (slots : List ℕ) (w e i : ℕ) (l : List ℕ) {m x : List ℕ} {s : ℕ} → 0 < i → s ≡ getD slots (e * 5 + (i - 1)) 0 → m ≡ inheritTo isName l w (i - 1) e s
+    → x ≡ atFirst (inheritAt isName slots w e) i l → x ≡ atFirst (inheritAt isName slots w e) (i - 1) m
+unfolding inheritAt
+inherit-next isName slots w e i l h hs hm hx = first-on (inheritAt isName slots w e) i l h (hm ∙ ap (inheritTo isName l w (i - 1) e) hs) hx
 
 pub operands-few : (w : ℕ) {k : ℕ} → k ≡ firstOperands w → k ≤ 4
 operands-few w e = omega (arith, first-few w)
@@ -175,7 +175,7 @@ pub pass-next : (slots : List ℕ) (e i : ℕ) (l : List ℕ) {m x : List ℕ} {
 unfolding passAt
 pass-next slots e i l h hs hm hx = first-on (passAt slots e) i l h (hm ∙ ap (passTo l e) hs) hx
 
--- what is no binder hands its scope on as it is
+-- what is no binder passes its scope on as it is
 
 no-body : (w i : ℕ) → isBinder w ≡ false → isBody w i ≡ false
 unfolding isBinder isBody
@@ -186,15 +186,15 @@ no-body w i h = at (eqb (w % 256) 0x35) (eqb (w % 256) 0x3E) h
     at false true e = absurd (true≢false e)
     at false false e = refl
 
-passed : (isName : Bool) (slots : List ℕ) (w e n : ℕ) (l : List ℕ) → isBinder w ≡ false → atFirst (passAt slots e) n l ≡ atFirst (handAt isName slots w e) n l
-unfolding atFirst handAt handTo handedTo passAt passTo
+passed : (isName : Bool) (slots : List ℕ) (w e n : ℕ) (l : List ℕ) → isBinder w ≡ false → atFirst (passAt slots e) n l ≡ atFirst (inheritAt isName slots w e) n l
+unfolding atFirst inheritAt inheritTo inheritedBy passAt passTo
 passed isName slots w e zero l h = refl
 passed isName slots w e (suc n) l h =
     passed isName slots w e n (passTo l e (getD slots (e * 5 + n) 0)) h
     ∙ sym
-    (ap (λ (b : Bool). atFirst (handAt isName slots w e) n (putIn l (getD slots (e * 5 + n) 0) (cond b (bitOr (getD l e 0) (oneOf (boundOf isName w))) (getD l e 0))))
+    (ap (λ (b : Bool). atFirst (inheritAt isName slots w e) n (putIn l (getD slots (e * 5 + n) 0) (cond b (bitOr (getD l e 0) (oneOf (boundOf isName w))) (getD l e 0))))
     (no-body w n h))
 
 pub pass-is : (isName : Bool) (slots : List ℕ) (w e n : ℕ) (l : List ℕ) {x : List ℕ} {b : Bool} → b ≡ isBinder w → b ≡ false → x ≡ atFirst (passAt slots e) n l
-    → x ≡ atFirst (handAt isName slots w e) n l
+    → x ≡ atFirst (inheritAt isName slots w e) n l
 pass-is isName slots w e n l hb h hx = hx ∙ passed isName slots w e n l (sym hb ∙ h)

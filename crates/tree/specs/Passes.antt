@@ -106,24 +106,24 @@ masksFrom types sets i (suc f) m = masksFrom types sets (i + 1) f (set m i (type
 unfoldable pub masksBy : List ℕ → List ℕ → ℕ → List ℕ
 masksBy types sets n = masksFrom types sets 0 n (replicate 256 0)
 
--- expression e hands its scope x to the operand c in place i, with what it binds where that is its body
-unfoldable pub handedTo : Bool → ℕ → ℕ → ℕ → ℕ
-handedTo isName w i x = cond (isBody w i) (bitOr x (oneOf (boundOf isName w))) x
+-- expression e passes its scope x to the operand c in place i, with what it binds where that is its body
+unfoldable pub inheritedBy : Bool → ℕ → ℕ → ℕ → ℕ
+inheritedBy isName w i x = cond (isBody w i) (bitOr x (oneOf (boundOf isName w))) x
 
 unfoldable pub putIn : List ℕ → ℕ → ℕ → List ℕ
 putIn sc c x = cond (ltb c 512) (set sc c x) sc
 
-unfoldable pub handStep : Bool → List ℕ → ℕ → ℕ → ℕ → ℕ → List ℕ
-handStep isName sc w i e c = cond (isOperand w i) (putIn sc c (handedTo isName w i (getD sc e 0))) sc
+unfoldable pub inheritStep : Bool → List ℕ → ℕ → ℕ → ℕ → ℕ → List ℕ
+inheritStep isName sc w i e c = cond (isOperand w i) (putIn sc c (inheritedBy isName w i (getD sc e 0))) sc
 
 -- the places from the last down
-unfoldable pub handedDown : Bool → List ℕ → List ℕ → ℕ → List ℕ → List ℕ
-handedDown isName heads slots zero sc = sc
-handedDown isName heads slots (suc j) sc = handedDown isName heads slots j (handStep isName sc (getD heads (j / 5) 0) (j % 5) (j / 5) (getD slots j 0))
+unfoldable pub inheritedDown : Bool → List ℕ → List ℕ → ℕ → List ℕ → List ℕ
+inheritedDown isName heads slots zero sc = sc
+inheritedDown isName heads slots (suc j) sc = inheritedDown isName heads slots j (inheritStep isName sc (getD heads (j / 5) 0) (j % 5) (j / 5) (getD slots j 0))
 
 -- the last expression stands in the host's scope
 unfoldable pub scopesBy : Bool → List ℕ → List ℕ → ℕ → ℕ → List ℕ
-scopesBy isName heads slots n host = handedDown isName heads slots (n * 5) (putIn (replicate 512 0) (n - 1) host)
+scopesBy isName heads slots n host = inheritedDown isName heads slots (n * 5) (putIn (replicate 512 0) (n - 1) host)
 
 -- the place of a command's type operand; 5 for none
 unfoldable pub typePlace : ℕ → ℕ

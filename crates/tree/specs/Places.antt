@@ -5,7 +5,7 @@ use mathlib.Core.Bool.{Bool, true, cond}
 use mathlib.Core.List.{List}
 use lib.ListN.{getD}
 use lib.Dec.{eqb, ltb}
-use Rattle.tree.specs.Passes.{arityOf, tallied, handedTo, putIn}
+use Rattle.tree.specs.Passes.{arityOf, tallied, inheritedBy, putIn}
 
 -- the last place is an operand: the body of 3C
 unfoldable pub lastIsOperand : ℕ → Bool
@@ -28,12 +28,12 @@ atFirst act (suc i) l = atFirst act i (act i l)
 unfoldable pub tallyAt : List ℕ → ℕ → ℕ → List ℕ → List ℕ
 tallyAt slots e i l = tallied l (getD slots (e * 5 + i) 0)
 
--- 10: expression e hands its scope to c, its operand in place i
-unfoldable pub handTo : Bool → List ℕ → ℕ → ℕ → ℕ → ℕ → List ℕ
-handTo isName sc w i e c = putIn sc c (handedTo isName w i (getD sc e 0))
+-- 10: expression e passes its scope to c, its operand in place i
+unfoldable pub inheritTo : Bool → List ℕ → ℕ → ℕ → ℕ → ℕ → List ℕ
+inheritTo isName sc w i e c = putIn sc c (inheritedBy isName w i (getD sc e 0))
 
-unfoldable pub handAt : Bool → List ℕ → ℕ → ℕ → ℕ → List ℕ → List ℕ
-handAt isName slots w e i sc = handTo isName sc w i e (getD slots (e * 5 + i) 0)
+unfoldable pub inheritAt : Bool → List ℕ → ℕ → ℕ → ℕ → List ℕ → List ℕ
+inheritAt isName slots w e i sc = inheritTo isName sc w i e (getD slots (e * 5 + i) 0)
 
 -- where it binds nothing, the scope as it is
 unfoldable pub passTo : List ℕ → ℕ → ℕ → List ℕ

@@ -1,4 +1,4 @@
--- Number 10: the scopes that are handed down from the last expression are those of the contexts, where each expression but the last is used once.
+-- Number 10: the scopes that are passed down from the last expression are those of the contexts, where each expression but the last is used once.
 use mathlib.Core.Path.{_≡_, refl, sym, ap, ap₂, _∙_, subst, subst⁻¹}
 use Prim.Native.Nat.{ℕ, zero, suc, _+_, _-_, _*_, _/_, _%_, _≤_, _<_}
 use native.Mathlib.Omega.{arith}
@@ -20,7 +20,7 @@ use Rattle.syntax.specs.Job.{Src}
 use Rattle.syntax.specs.Tree.{Entry, binds, varsOf, namesOf, memB, count, hostCtx, past, root, uses, usedRight, parent, scopeIn, ctx, nameIn}
 use Rattle.syntax.specs.Scope.{count-mem, uses-mem, mem-uses, parent-is}
 use Rattle.syntax.specs.ReadFormed.{children-map, nth-map}
-use Rattle.tree.specs.Passes.{oneOf, arityOf, isOperand, isBody, boundOf, handedTo, putIn, handStep, handedDown, scopesBy}
+use Rattle.tree.specs.Passes.{oneOf, arityOf, isOperand, isBody, boundOf, inheritedBy, putIn, inheritStep, inheritedDown, scopesBy}
 use Rattle.tree.specs.Heads.{byteOf, byte-is, keysOf, opAt, operand-is, useAt, uses5, children-count, one-bit}
 use Rattle.tree.specs.Binders.{kindOf, kind-app, memB-app, Own, own, own-mem}
 
@@ -250,7 +250,7 @@ module _ (S : Src) (l : List (Cmd ℕ)) (f : ℕ → Ty) (is : S .cmds ≡ map (
   around-up : (e p : ℕ) → Above e p → around e ≡ scopeIn e (nth (S .cmds) p) ++ around p
   around-up e p a = enough (length l) (suc (length l)) e (omega (arith, a .below-root)) (omega (arith, root-is)) (omega (arith, root-is)) ∙ step-up (length l) e p a
 
-  -- The scopes that are handed down
+  -- The scopes that are passed down
 
   module _ (named : Bool) (heads places : List ℕ)
       (head : (e : ℕ) → e < length l → getD heads e 0 ≡ words.headWord (nth l e))
@@ -292,10 +292,10 @@ module _ (S : Src) (l : List (Cmd ℕ)) (f : ℕ → Ty) (is : S .cmds ≡ map (
             let z = child-place (nth l q) (five q (u .1 .in-job)) c (subst (λ (x : List ℕ). List·Memᴰ c x) (children-at q) (u .1 .has)) in
             d-place q (z .0) (omega (arith, u .1 .later)) (z .1) (u .1 .in-job) (ap (λ (w : ℕ). isOperand w (z .0)) (head q (u .1 .in-job)) ∙ z .2) (slot q (z .0) (u .1 .in-job) (z .1) ∙ z .3)
 
-    -- what is handed to the operand in place i of p is its scope
-    handed-good : (p i x : ℕ) → p < length l → i < 5 → isOperand (getD heads p 0) i ≡ true → Good p x → Good (getD places (p * 5 + i) 0) (handedTo named (getD heads p 0) i x)
-    unfolding handedTo scopeIn
-    handed-good p i x h k o g =
+    -- what is passed to the operand in place i of p is its scope
+    inherited-good : (p i x : ℕ) → p < length l → i < 5 → isOperand (getD heads p 0) i ≡ true → Good p x → Good (getD places (p * 5 + i) 0) (inheritedBy named (getD heads p 0) i x)
+    unfolding inheritedBy scopeIn
+    inherited-good p i x h k o g =
         let w = getD heads p 0 in
         let c = getD places (p * 5 + i) 0 in
         let sc : c ≡ getD (words.slots (nth l p)) i 0 = slot p i h k in
@@ -322,8 +322,8 @@ module _ (S : Src) (l : List (Cmd ℕ)) (f : ℕ → Ty) (is : S .cmds ≡ map (
 
     -- one place
     step : (j : ℕ) (sc : List ℕ) → j < length l * 5 → length sc ≡ 512 → ((c : ℕ) → c < length l → Done (suc j) c → Good c (getD sc c 0))
-        → (c : ℕ) → c < length l → Done j c → Good c (getD (handStep named sc (getD heads (j / 5) 0) (j % 5) (j / 5) (getD places j 0)) c 0)
-    unfolding handStep putIn
+        → (c : ℕ) → c < length l → Done j c → Good c (getD (inheritStep named sc (getD heads (j / 5) 0) (j % 5) (j / 5) (getD places j 0)) c 0)
+    unfolding inheritStep putIn
     step j sc h k inv c n d = at (isOperand (getD heads (j / 5) 0) (j % 5)) refl
       where
         p : ℕ
@@ -336,7 +336,7 @@ module _ (S : Src) (l : List (Cmd ℕ)) (f : ℕ → Ty) (is : S .cmds ≡ map (
         s = getD places j 0
 
         x : ℕ
-        x = handedTo named (getD heads p 0) i (getD sc p 0)
+        x = inheritedBy named (getD heads p 0) i (getD sc p 0)
 
         lt : p < length l
         lt = omega arith
@@ -344,7 +344,7 @@ module _ (S : Src) (l : List (Cmd ℕ)) (f : ℕ → Ty) (is : S .cmds ≡ map (
         good : isOperand (getD heads p 0) i ≡ true → Good s x
         good o =
             let z : p * 5 + i ≡ j = omega arith in
-            subst (λ (y : ℕ). Good (getD places y 0) x) z (handed-good p i (getD sc p 0) lt (omega arith) o (inv p lt (has-place p j lt (omega arith))))
+            subst (λ (y : ℕ). Good (getD places y 0) x) z (inherited-good p i (getD sc p 0) lt (omega arith) o (inv p lt (has-place p j lt (omega arith))))
 
         same : isOperand (getD heads p 0) i ≡ true → c ≡ s → Good c (getD (cond (ltb s 512) (set sc s x) sc) c 0)
         same o e =
@@ -364,21 +364,21 @@ module _ (S : Src) (l : List (Cmd ℕ)) (f : ℕ → Ty) (is : S .cmds ≡ map (
         at true o = by o (eqb c s) refl
         at false o = inv c n (down j c (λ t z. true≢false (sym t ∙ o)) d)
 
-    step-length : (sc : List ℕ) (w i e s : ℕ) → length (handStep named sc w i e s) ≡ length sc
-    unfolding handStep putIn
+    step-length : (sc : List ℕ) (w i e s : ℕ) → length (inheritStep named sc w i e s) ≡ length sc
+    unfolding inheritStep putIn
     step-length sc w i e s = at (isOperand w i) (ltb s 512)
       where
-        at : (o b : Bool) → length (cond o (cond b (set sc s (handedTo named w i (getD sc e 0))) sc) sc) ≡ length sc
-        at true true = length-set sc s (handedTo named w i (getD sc e 0))
+        at : (o b : Bool) → length (cond o (cond b (set sc s (inheritedBy named w i (getD sc e 0))) sc) sc) ≡ length sc
+        at true true = length-set sc s (inheritedBy named w i (getD sc e 0))
         at true false = refl
         at false b = refl
 
     all : (j : ℕ) (sc : List ℕ) → j ≤ length l * 5 → length sc ≡ 512 → ((c : ℕ) → c < length l → Done j c → Good c (getD sc c 0))
-        → (c : ℕ) → c < length l → Done 0 c → Good c (getD (handedDown named heads places j sc) c 0)
-    unfolding handedDown
+        → (c : ℕ) → c < length l → Done 0 c → Good c (getD (inheritedDown named heads places j sc) c 0)
+    unfolding inheritedDown
     all zero sc h k inv c n d = inv c n d
     all (suc j) sc h k inv c n d =
-        all j (handStep named sc (getD heads (j / 5) 0) (j % 5) (j / 5) (getD places j 0)) (omega arith)
+        all j (inheritStep named sc (getD heads (j / 5) 0) (j % 5) (j / 5) (getD places j 0)) (omega arith)
         (step-length sc (getD heads (j / 5) 0) (j % 5) (j / 5) (getD places j 0) ∙ k) (λ b q e. step j sc (omega arith) k inv b q e) c n d
 
     pub scopes-are : (host : ℕ) → ((n : ℕ) → n < 64 → bit host n ≡ inKind named (hostCtx S) n) → (c : ℕ) → c < length l → Good c (getD (scopesBy named heads places (length l) host) c 0)

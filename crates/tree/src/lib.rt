@@ -14,8 +14,8 @@ ghost use Rattle.syntax.specs.ReadLaws.{JobOk};
 ghost use Rattle.syntax.specs.Tree.{firstBad, numbered, treeRefusal};
 ghost use Rattle.tree.specs.Answer.{refusalOf};
 ghost use Rattle.tree.specs.Holds.{Holds};
-ghost use Rattle.tree.specs.Passes.{arityOf, boundName, boundVar, counted, handedDown, hostName, hostNames, hostVars, inLimits, isBody, isNew, isScoped, masksBy, oneMore, oneOf, operandNames, rightCount, scopeRefusal, tableRefusal, tallied, treeBy, typeNames, typePlace, varFits};
-ghost use Rattle.tree.specs.Places.{atFirst, atLast, firstOperands, handAt, handTo, isBinder, lastIsOperand, passAt, passTo, tallyAt};
+ghost use Rattle.tree.specs.Passes.{arityOf, boundName, boundVar, counted, inheritedDown, hostName, hostNames, hostVars, inLimits, isBody, isNew, isScoped, masksBy, oneMore, oneOf, operandNames, rightCount, scopeRefusal, tableRefusal, tallied, treeBy, typeNames, typePlace, varFits};
+ghost use Rattle.tree.specs.Places.{atFirst, atLast, firstOperands, inheritAt, inheritTo, isBinder, lastIsOperand, passAt, passTo, tallyAt};
 
 // An expression's number.
 pub struct Expr(pub u16);
@@ -316,10 +316,10 @@ fn type_masks(types: &[u64], sets: &[u64], n: usize) -> [u64; 256]
     masks
 }
 
-// Expression e hands its scopes on to c, the operand in place i of the command with this head.
-fn hand(vars: &mut [u64; 512], locals: &mut [u64; 512], head: u64, i: usize, e: usize, c: usize)
+// Expression e passes its scopes to c, the operand in place i of the command with this head.
+fn inherit(vars: &mut [u64; 512], locals: &mut [u64; 512], head: u64, i: usize, e: usize, c: usize)
     requires { ⌜ e < 512 ⌝ }
-    ensures { λ r. ⌜ (now (vars .exit) ≡ handTo false (now (vars .entry)) head i e c) × (now (locals .exit) ≡ handTo true (now (locals .entry)) head i e c) ⌝ }
+    ensures { λ r. ⌜ (now (vars .exit) ≡ inheritTo false (now (vars .entry)) head i e c) × (now (locals .exit) ≡ inheritTo true (now (locals .entry)) head i e c) ⌝ }
 {
     if c < 512 {
         if is_body(head, i) {
@@ -332,18 +332,18 @@ fn hand(vars: &mut [u64; 512], locals: &mut [u64; 512], head: u64, i: usize, e: 
     }
 }
 
-// Expression e hands its scopes on to its last place, if it is an operand.
-fn hand_last(vars: &mut [u64; 512], locals: &mut [u64; 512], slots: &[u16], head: u64, e: usize)
+// Expression e passes its scopes to its last place, if it is an operand.
+fn inherit_last(vars: &mut [u64; 512], locals: &mut [u64; 512], slots: &[u16], head: u64, e: usize)
     requires { ⌜ e < 512 ⌝ }
-    ensures { λ r. ⌜ (now (vars .exit) ≡ atLast (handAt false (now (slots .entry)) head e) head (now (vars .entry)))
-        × (now (locals .exit) ≡ atLast (handAt true (now (slots .entry)) head e) head (now (locals .entry))) ⌝ }
+    ensures { λ r. ⌜ (now (vars .exit) ≡ atLast (inheritAt false (now (slots .entry)) head e) head (now (vars .entry)))
+        × (now (locals .exit) ≡ atLast (inheritAt true (now (slots .entry)) head e) head (now (locals .entry))) ⌝ }
 {
     if ends_in_operand(head) {
-        hand(vars, locals, head, 4, e, at16(slots, e * 5 + 4) as usize);
+        inherit(vars, locals, head, 4, e, at16(slots, e * 5 + 4) as usize);
     }
 }
 
-// Expression e, a binder, hands its scopes on to its first n places, from the highest down, with what it binds in its body.
+// Expression e, a binder, passes its scopes to its first n places, from the highest down, with what it binds in its body.
 fn bind_first(
     vars: &mut [u64; 512],
     locals: &mut [u64; 512],
@@ -353,17 +353,17 @@ fn bind_first(
     n: usize,
 )
     requires { ⌜ (e < 512) × (n ≤ 4) ⌝ }
-    ensures { λ r. ⌜ (now (vars .exit) ≡ atFirst (handAt false (now (slots .entry)) head e) n (now (vars .entry)))
-        × (now (locals .exit) ≡ atFirst (handAt true (now (slots .entry)) head e) n (now (locals .entry))) ⌝ }
+    ensures { λ r. ⌜ (now (vars .exit) ≡ atFirst (inheritAt false (now (slots .entry)) head e) n (now (vars .entry)))
+        × (now (locals .exit) ≡ atFirst (inheritAt true (now (slots .entry)) head e) n (now (locals .entry))) ⌝ }
 {
     let mut i = n;
     while 0 < i {
         i = i - 1;
-        hand(vars, locals, head, i, e, at16(slots, e * 5 + i) as usize);
+        inherit(vars, locals, head, i, e, at16(slots, e * 5 + i) as usize);
     }
 }
 
-// Expression e hands its scopes on to c as they are.
+// Expression e passes its scopes to c as they are.
 fn pass(vars: &mut [u64; 512], locals: &mut [u64; 512], e: usize, c: usize)
     requires { ⌜ e < 512 ⌝ }
     ensures { λ r. ⌜ (now (vars .exit) ≡ passTo (now (vars .entry)) e c) × (now (locals .exit) ≡ passTo (now (locals .entry)) e c) ⌝ }
@@ -374,7 +374,7 @@ fn pass(vars: &mut [u64; 512], locals: &mut [u64; 512], e: usize, c: usize)
     }
 }
 
-// Expression e hands its scopes on as they are to its first n places, from the highest down.
+// Expression e passes its scopes as they are to its first n places, from the highest down.
 fn pass_first(vars: &mut [u64; 512], locals: &mut [u64; 512], slots: &[u16], e: usize, n: usize)
     requires { ⌜ (e < 512) × (n ≤ 4) ⌝ }
     ensures { λ r. ⌜ (now (vars .exit) ≡ atFirst (passAt (now (slots .entry)) e) n (now (vars .entry)))
@@ -387,8 +387,8 @@ fn pass_first(vars: &mut [u64; 512], locals: &mut [u64; 512], slots: &[u16], e: 
     }
 }
 
-// Expression e hands its scopes on to its first n places, from the highest down.
-fn hand_first(
+// Expression e passes its scopes to its first n places, from the highest down.
+fn inherit_first(
     vars: &mut [u64; 512],
     locals: &mut [u64; 512],
     slots: &[u16],
@@ -397,8 +397,8 @@ fn hand_first(
     n: usize,
 )
     requires { ⌜ (e < 512) × (n ≤ 4) ⌝ }
-    ensures { λ r. ⌜ (now (vars .exit) ≡ atFirst (handAt false (now (slots .entry)) head e) n (now (vars .entry)))
-        × (now (locals .exit) ≡ atFirst (handAt true (now (slots .entry)) head e) n (now (locals .entry))) ⌝ }
+    ensures { λ r. ⌜ (now (vars .exit) ≡ atFirst (inheritAt false (now (slots .entry)) head e) n (now (vars .entry)))
+        × (now (locals .exit) ≡ atFirst (inheritAt true (now (slots .entry)) head e) n (now (locals .entry))) ⌝ }
 {
     if is_binder(head) {
         bind_first(vars, locals, slots, head, e, n);
@@ -410,15 +410,15 @@ fn hand_first(
 // The variables and the names in scope at each expression, from the last one down.
 fn scopes(heads: &[u64], slots: &[u16], cmds: usize, vars: &mut [u64; 512], locals: &mut [u64; 512])
     requires { ⌜ cmds ≤ 512 ⌝ }
-    ensures { λ r. ⌜ (now (vars .exit) ≡ handedDown false (now (heads .entry)) (now (slots .entry)) (cmds * 5) (now (vars .entry)))
-        × (now (locals .exit) ≡ handedDown true (now (heads .entry)) (now (slots .entry)) (cmds * 5) (now (locals .entry))) ⌝ }
+    ensures { λ r. ⌜ (now (vars .exit) ≡ inheritedDown false (now (heads .entry)) (now (slots .entry)) (cmds * 5) (now (vars .entry)))
+        × (now (locals .exit) ≡ inheritedDown true (now (heads .entry)) (now (slots .entry)) (cmds * 5) (now (locals .entry))) ⌝ }
 {
     let mut e = cmds;
     while 0 < e {
         e = e - 1;
         let head = at64(heads, e);
-        hand_last(vars, locals, slots, head, e);
-        hand_first(vars, locals, slots, head, e, first_operands(head));
+        inherit_last(vars, locals, slots, head, e);
+        inherit_first(vars, locals, slots, head, e, first_operands(head));
     }
 }
 

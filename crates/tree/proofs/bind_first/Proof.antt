@@ -3,13 +3,13 @@ use Prim.Native.Nat.{_≤_}
 use mathlib.Core.Path.{_≡_, refl}
 use native.Mathlib.Omega.{arith}
 use mathlib.Core.Bool.{true, false}
-use Rattle.tree.specs.Places.{atFirst, handAt}
-use Rattle.tree.proofs.Places.{hand-next, first-end}
+use Rattle.tree.specs.Places.{atFirst, inheritAt}
+use Rattle.tree.proofs.Places.{inherit-next, first-end}
 use Rattle.tree.proofs.bind_first.Statement.{statement}
 use Rattle.tree.proofs.bind_first.Tie as tie
 
 abbrev Inv-loop : tie.InvT-loop
-Inv-loop vars₀ locals₀ slots head e n i₀ vars locals i = (i ≤ 4) × (atFirst (handAt false slots head e) n vars₀ ≡ atFirst (handAt false slots head e) i vars) × (atFirst (handAt true slots head e) n locals₀ ≡ atFirst (handAt true slots head e) i locals)
+Inv-loop vars₀ locals₀ slots head e n i₀ vars locals i = (i ≤ 4) × (atFirst (inheritAt false slots head e) n vars₀ ≡ atFirst (inheritAt false slots head e) i vars) × (atFirst (inheritAt true slots head e) n locals₀ ≡ atFirst (inheritAt true slots head e) i locals)
 
 abbrev μ-loop : tie.MeasureT-loop
 μ-loop vars₀ locals₀ slots head e n i₀ vars locals i = i
@@ -29,17 +29,17 @@ add-at16 c = omega arith
 at16-requires : tie.Need-at16-requires Inv-loop μ-loop
 at16-requires c κs = search needs
 
-cast-hand : tie.Need-cast-hand Inv-loop μ-loop
-cast-hand c = search needs
+cast-inherit : tie.Need-cast-inherit Inv-loop μ-loop
+cast-inherit c = search needs
 
-hand-requires : tie.Need-hand-requires Inv-loop μ-loop
-hand-requires c κs = search needs
+inherit-requires : tie.Need-inherit-requires Inv-loop μ-loop
+inherit-requires c κs = search needs
 
 loop-less : tie.Need-loop-less Inv-loop μ-loop
 loop-less c = omega arith
 
 loop-again : tie.Need-loop-again Inv-loop μ-loop
-loop-again c = (omega arith, hand-next _ _ _ _ _ _ (c .before .before .before .before .loop-test .taken) (c .before .at16 .ensures) (c .hand .ensures .0) (c .before .before .before .before .before .loop .inv .1), hand-next _ _ _ _ _ _ (c .before .before .before .before .loop-test .taken) (c .before .at16 .ensures) (c .hand .ensures .1) (c .before .before .before .before .before .loop .inv .2))
+loop-again c = (omega arith, inherit-next _ _ _ _ _ _ (c .before .before .before .before .loop-test .taken) (c .before .at16 .ensures) (c .inherit .ensures .0) (c .before .before .before .before .before .loop .inv .1), inherit-next _ _ _ _ _ _ (c .before .before .before .before .loop-test .taken) (c .before .at16 .ensures) (c .inherit .ensures .1) (c .before .before .before .before .before .loop .inv .2))
 
 returns : tie.Need-returns Inv-loop μ-loop
 returns c = (first-end _ _ _ (c .loop-test .left) (c .before .loop .inv .1), first-end _ _ _ (c .loop-test .left) (c .before .loop .inv .2))
@@ -55,8 +55,8 @@ bind-first-spec =
     mul-at16
     add-at16
     at16-requires
-    cast-hand
-    hand-requires
+    cast-inherit
+    inherit-requires
     loop-less
     loop-again
     returns)

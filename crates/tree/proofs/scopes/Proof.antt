@@ -3,13 +3,13 @@ use Prim.Native.Nat.{_*_, _≤_}
 use mathlib.Core.Path.{_≡_, refl}
 use native.Mathlib.Omega.{arith}
 use mathlib.Core.Bool.{true, false}
-use Rattle.tree.specs.Passes.{handedDown}
-use Rattle.tree.proofs.Places.{hand-on, hand-end, operands-few}
+use Rattle.tree.specs.Passes.{inheritedDown}
+use Rattle.tree.proofs.Places.{inherit-on, inherit-end, operands-few}
 use Rattle.tree.proofs.scopes.Statement.{statement}
 use Rattle.tree.proofs.scopes.Tie as tie
 
 abbrev Inv-loop : tie.InvT-loop
-Inv-loop heads slots cmds vars₀ locals₀ e₀ vars locals e = (e ≤ 512) × (handedDown false heads slots (cmds * 5) vars₀ ≡ handedDown false heads slots (e * 5) vars) × (handedDown true heads slots (cmds * 5) locals₀ ≡ handedDown true heads slots (e * 5) locals)
+Inv-loop heads slots cmds vars₀ locals₀ e₀ vars locals e = (e ≤ 512) × (inheritedDown false heads slots (cmds * 5) vars₀ ≡ inheritedDown false heads slots (e * 5) vars) × (inheritedDown true heads slots (cmds * 5) locals₀ ≡ inheritedDown true heads slots (e * 5) locals)
 
 abbrev μ-loop : tie.MeasureT-loop
 μ-loop heads slots cmds vars₀ locals₀ e₀ vars locals e = e
@@ -23,23 +23,23 @@ sub-e c = omega arith
 at64-requires : tie.Need-at64-requires Inv-loop μ-loop
 at64-requires c κs = search needs
 
-hand-last-requires : tie.Need-hand-last-requires Inv-loop μ-loop
-hand-last-requires c κs = omega arith
+inherit-last-requires : tie.Need-inherit-last-requires Inv-loop μ-loop
+inherit-last-requires c κs = omega arith
 
 first-operands-requires : tie.Need-first-operands-requires Inv-loop μ-loop
 first-operands-requires c κs = search needs
 
-hand-first-requires : tie.Need-hand-first-requires Inv-loop μ-loop
-hand-first-requires c κs = (omega arith, operands-few _ (c .first-operands .ensures))
+inherit-first-requires : tie.Need-inherit-first-requires Inv-loop μ-loop
+inherit-first-requires c κs = (omega arith, operands-few _ (c .first-operands .ensures))
 
 loop-less : tie.Need-loop-less Inv-loop μ-loop
 loop-less c = omega arith
 
 loop-again : tie.Need-loop-again Inv-loop μ-loop
-loop-again c = (omega arith, hand-on _ _ _ _ _ (c .before .before .before .before .before .before .before .before .loop-test .taken) (c .before .before .before .before .before .before .before .at64 .ensures) (c .before .before .before .before .hand-last .ensures .0) (c .before .first-operands .ensures) (c .hand-first .ensures .0) (c .before .before .before .before .before .before .before .before .before .loop .inv .1), hand-on _ _ _ _ _ (c .before .before .before .before .before .before .before .before .loop-test .taken) (c .before .before .before .before .before .before .before .at64 .ensures) (c .before .before .before .before .hand-last .ensures .1) (c .before .first-operands .ensures) (c .hand-first .ensures .1) (c .before .before .before .before .before .before .before .before .before .loop .inv .2))
+loop-again c = (omega arith, inherit-on _ _ _ _ _ (c .before .before .before .before .before .before .before .before .loop-test .taken) (c .before .before .before .before .before .before .before .at64 .ensures) (c .before .before .before .before .inherit-last .ensures .0) (c .before .first-operands .ensures) (c .inherit-first .ensures .0) (c .before .before .before .before .before .before .before .before .before .loop .inv .1), inherit-on _ _ _ _ _ (c .before .before .before .before .before .before .before .before .loop-test .taken) (c .before .before .before .before .before .before .before .at64 .ensures) (c .before .before .before .before .inherit-last .ensures .1) (c .before .first-operands .ensures) (c .inherit-first .ensures .1) (c .before .before .before .before .before .before .before .before .before .loop .inv .2))
 
 returns : tie.Need-returns Inv-loop μ-loop
-returns c = (hand-end _ _ _ _ _ (c .loop-test .left) (c .before .loop .inv .1), hand-end _ _ _ _ _ (c .loop-test .left) (c .before .loop .inv .2))
+returns c = (inherit-end _ _ _ _ _ (c .loop-test .left) (c .before .loop .inv .1), inherit-end _ _ _ _ _ (c .loop-test .left) (c .before .loop .inv .2))
 
 pub scopes-spec : {M : Type 1} → statement M
 scopes-spec =
@@ -50,9 +50,9 @@ scopes-spec =
     loop-holds
     sub-e
     at64-requires
-    hand-last-requires
+    inherit-last-requires
     first-operands-requires
-    hand-first-requires
+    inherit-first-requires
     loop-less
     loop-again
     returns)

@@ -1,8 +1,8 @@
 use mathlib.Core.Bool.{true, false}
 use Rattle.tree.proofs.Places.{pass-is}
 use borrow.Author.Needs.{needs}
-use Rattle.tree.proofs.hand_first.Statement.{statement}
-use Rattle.tree.proofs.hand_first.Tie as tie
+use Rattle.tree.proofs.inherit_first.Statement.{statement}
+use Rattle.tree.proofs.inherit_first.Tie as tie
 
 is-binder-requires : tie.Need-is-binder-requires
 is-binder-requires c κs = search needs
@@ -19,8 +19,8 @@ pass-first-requires c κs = search needs
 returns-2 : tie.Need-returns-2
 returns-2 c = (pass-is false _ _ _ _ _ (c .before .before .before .before .is-binder .ensures) (c .before .before .before .if1 .left) (c .pass-first .ensures .0), pass-is true _ _ _ _ _ (c .before .before .before .before .is-binder .ensures) (c .before .before .before .if1 .left) (c .pass-first .ensures .1))
 
-pub hand-first-spec : {M : Type 1} → statement M
-hand-first-spec =
+pub inherit-first-spec : {M : Type 1} → statement M
+inherit-first-spec =
     tie.close
     (tie.spec
     is-binder-requires

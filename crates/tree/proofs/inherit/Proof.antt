@@ -1,9 +1,9 @@
-use Rattle.tree.specs.Places.{handTo}
-use Rattle.tree.specs.Passes.{handedTo, putIn, boundOf}
+use Rattle.tree.specs.Places.{inheritTo}
+use Rattle.tree.specs.Passes.{inheritedBy, putIn, boundOf}
 use borrow.Author.Tests.{lt-ltb, le-ltb}
 use borrow.Author.Needs.{needs}
-use Rattle.tree.proofs.hand.Statement.{statement}
-use Rattle.tree.proofs.hand.Tie as tie
+use Rattle.tree.proofs.inherit.Statement.{statement}
+use Rattle.tree.proofs.inherit.Tie as tie
 
 is-body-requires : tie.Need-is-body-requires
 is-body-requires c κs = search needs
@@ -45,7 +45,7 @@ element-write-locals : tie.Need-element-write-locals
 element-write-locals c = search needs
 
 returns : tie.Need-returns
-unfolding handTo handedTo putIn boundOf
+unfolding inheritTo inheritedBy putIn boundOf
 returns c = (simp (lt-ltb _ _ (c .before .before .before .before .before .before .before .before .if1 .taken), ← c .before .before .before .before .before .before .before .is-body .ensures, c .before .before .before .before .before .before .if2 .taken, c .before .before .before .one .ensures, c .before .before .before .before .bound-var .ensures), simp (lt-ltb _ _ (c .before .before .before .before .before .before .before .before .if1 .taken), ← c .before .before .before .before .before .before .before .is-body .ensures, c .before .before .before .before .before .before .if2 .taken, c .one2 .ensures, c .before .bound-name .ensures))
 
 mul-vars-3 : tie.Need-mul-vars-3
@@ -73,15 +73,15 @@ element-write-locals-2 : tie.Need-element-write-locals-2
 element-write-locals-2 c = search needs
 
 returns-2 : tie.Need-returns-2
-unfolding handTo handedTo putIn
+unfolding inheritTo inheritedBy putIn
 returns-2 c = (simp (lt-ltb _ _ (c .before .before .before .before .if1 .taken), ← c .before .before .before .is-body .ensures, c .before .before .if2 .left), simp (lt-ltb _ _ (c .before .before .before .before .if1 .taken), ← c .before .before .before .is-body .ensures, c .before .before .if2 .left))
 
 returns-3 : tie.Need-returns-3
-unfolding handTo putIn
+unfolding inheritTo putIn
 returns-3 c = (simp (le-ltb _ _ (c .if1 .left)), simp (le-ltb _ _ (c .if1 .left)))
 
-pub hand-spec : {M : Type 1} → statement M
-hand-spec =
+pub inherit-spec : {M : Type 1} → statement M
+inherit-spec =
     tie.close
     (tie.spec
     is-body-requires
