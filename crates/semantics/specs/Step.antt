@@ -7,6 +7,7 @@ use lib.ListN.{length, getElem?, set}
 use lib.Dec.{eqb, ltb}
 use Rattle.order.specs.Bools.{_and_}
 use Rattle.syntax.specs.Commands.{Cmd, c-num, c-top, c-var, c-pair, c-part, c-fn, c-app, c-new, c-asg, c-read, c-sum, c-test, c-lim, c-grant, c-newkey, c-assoc}
+use Rattle.syntax.specs.Operands.{evaluated}
 use Rattle.semantics.specs.Machine.{Kind, k-num, k-pair, k-fn, k-cell, k-lim, k-grant, Value, unkeyed, Two, Bind, b-var, b-name, Link, Closure, Frame, Control, enter, hand, Thread, Store, Machine}
 use Rattle.semantics.specs.Machine.{most-cells, most-keys, most-pairs, most-functions, most-frames, most-bindings}
 use Rattle.semantics.specs.Keys.{enabled, narrow, add}
@@ -207,22 +208,8 @@ actAssoc v w m = onLim (w .kind) (λ j. touch (v .key) m (touch (w .key) m (give
 module _ {T : Type 0} where
   -- the operands that are worked out before the act, in the order written
   unfoldable pub worked : Cmd T → List ℕ
-  worked (c-num n) = []
-  worked c-top = []
-  worked (c-var v) = []
-  worked (c-pair a b) = a ∷ b ∷ []
-  worked (c-part a i) = a ∷ []
-  worked (c-fn v t b) = []
-  worked (c-app a b) = a ∷ b ∷ []
-  worked (c-new t a) = a ∷ []
-  worked (c-asg a b) = a ∷ b ∷ []
-  worked (c-read a) = a ∷ []
-  worked (c-sum i a b) = a ∷ b ∷ []
-  worked (c-test a b c t) = a ∷ []
-  worked (c-lim ks b) = ks
-  worked (c-grant a b) = a ∷ []
-  worked (c-newkey v r a b t) = a ∷ []
-  worked (c-assoc a b) = a ∷ b ∷ []
+  unfolding evaluated
+  worked k = evaluated k
 
   -- all operands are in hand, and the frame is popped
   unfoldable pub act : Cmd T → List Value → Machine → Out

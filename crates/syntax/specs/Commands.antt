@@ -1,9 +1,9 @@
 -- The commands of a job (document 01, "The bytes of a job"): their bytes, operands and sections, and the expressions that they write.
-use Prim.Native.Nat.{ℕ, zero, suc, _+_, _*_}
+use Prim.Native.Nat.{ℕ, zero, suc, _+_, _-_, _*_}
 use mathlib.Core.Bool.{Bool, true, false, cond}
-use mathlib.Core.List.{List, [], _∷_, map}
+use mathlib.Core.List.{List, [], _∷_, map, flatMap}
 use mathlib.Core.Option.{Option, none, some}
-use lib.ListN.{take, drop}
+use lib.ListN.{length, replicate, take, drop}
 use lib.Dec.{eqb}
 
 -- an expression; T is how a type operand is given: by its number, or as a tree
@@ -68,24 +68,88 @@ pub data Op : Type 0 where
   x-number x-top x-variable x-pair x-part x-function x-apply x-cell x-assign x-read x-sum x-test x-limit x-grant x-newkey x-associate : Op
   o-end : Op
 
+-- what an operand is for
+pub data Role : Type 0 where
+  -- e: an expression that is evaluated before the act; one that is entered later, in the same scope; one where what the command binds is in scope
+  r-evaluated r-entered r-inside : Role
+  -- c: how many of the next four places are used; e e e e: limit keys, evaluated before the act; the places that are not used, FFFF
+  r-count r-keys r-unused : Role
+  -- v: a variable that is used; one that is bound, of the type operand; one that is bound, of the limit and grant key of the name that is bound
+  r-variable r-parameter r-keypair : Role
+  -- r: a local name that is bound, with a key; q, r: a name
+  r-local r-name : Role
+  -- t: a type; s: a set of names; n: a number; op, i: a choice of two
+  r-type r-set r-number r-choice : Role
+
+-- the widths of what a role stands for; the places of 3C's keys are four, used or not
+unfoldable pub widths : Role → List ℕ
+widths r-evaluated = 2 ∷ []
+widths r-entered = 2 ∷ []
+widths r-inside = 2 ∷ []
+widths r-count = 1 ∷ []
+widths r-keys = 2 ∷ 2 ∷ 2 ∷ 2 ∷ []
+widths r-unused = []
+widths r-variable = 1 ∷ []
+widths r-parameter = 1 ∷ []
+widths r-keypair = 1 ∷ []
+widths r-local = 1 ∷ []
+widths r-name = 1 ∷ []
+widths r-type = 2 ∷ []
+widths r-set = 8 ∷ []
+widths r-number = 4 ∷ []
+widths r-choice = 1 ∷ []
+
+-- "Sections come in this order": names 0, types 1, host values 2, rights 3, expressions 4, the end 5
+pub record Form : Type 0 where
+  pub byte : ℕ
+  pub section : ℕ
+  pub roles : List Role
+
+abbrev pub form-of : ℕ → ℕ → List Role → Form
+form-of b s rs = record { byte = b; section = s; roles = rs }
+
+-- one row a command: its byte, its section, and its operands in order
+unfoldable pub form : Op → Form
+form o-host = form-of 0x01 0 (r-name ∷ [])
+form o-local = form-of 0x02 0 (r-name ∷ [])
+form o-number = form-of 0x10 1 (r-name ∷ [])
+form o-pair = form-of 0x11 1 (r-name ∷ r-type ∷ r-type ∷ [])
+form o-cell = form-of 0x12 1 (r-name ∷ r-type ∷ [])
+form o-function = form-of 0x13 1 (r-name ∷ r-type ∷ r-type ∷ r-set ∷ [])
+form o-limit = form-of 0x14 1 (r-name ∷ r-name ∷ [])
+form o-grant = form-of 0x15 1 (r-name ∷ r-name ∷ [])
+form o-value = form-of 0x20 2 (r-type ∷ r-number ∷ [])
+form o-rights = form-of 0x21 3 (r-set ∷ [])
+form x-number = form-of 0x30 4 (r-number ∷ [])
+form x-top = form-of 0x31 4 []
+form x-variable = form-of 0x32 4 (r-variable ∷ [])
+form x-pair = form-of 0x33 4 (r-evaluated ∷ r-evaluated ∷ [])
+form x-part = form-of 0x34 4 (r-evaluated ∷ r-choice ∷ [])
+form x-function = form-of 0x35 4 (r-parameter ∷ r-type ∷ r-inside ∷ [])
+form x-apply = form-of 0x36 4 (r-evaluated ∷ r-evaluated ∷ [])
+form x-cell = form-of 0x37 4 (r-type ∷ r-evaluated ∷ [])
+form x-assign = form-of 0x38 4 (r-evaluated ∷ r-evaluated ∷ [])
+form x-read = form-of 0x39 4 (r-evaluated ∷ [])
+form x-sum = form-of 0x3A 4 (r-choice ∷ r-evaluated ∷ r-evaluated ∷ [])
+form x-test = form-of 0x3B 4 (r-evaluated ∷ r-entered ∷ r-entered ∷ r-type ∷ [])
+form x-limit = form-of 0x3C 4 (r-count ∷ r-keys ∷ r-unused ∷ r-entered ∷ [])
+form x-grant = form-of 0x3D 4 (r-evaluated ∷ r-entered ∷ [])
+form x-newkey = form-of 0x3E 4 (r-keypair ∷ r-local ∷ r-evaluated ∷ r-inside ∷ r-type ∷ [])
+form x-associate = form-of 0x3F 4 (r-evaluated ∷ r-evaluated ∷ [])
+form o-end = form-of 0xFF 5 []
+
 pub record Coded : Type 0 where
   pub byte : ℕ
   pub op : Op
 
-abbrev pub coded : ℕ → Op → Coded
-coded b o = record { byte = b; op = o }
-
 -- every command byte
 unfoldable pub commands : List Coded
+unfolding form
 commands =
-    coded 0x01 o-host ∷ coded 0x02 o-local
-    ∷ coded 0x10 o-number ∷ coded 0x11 o-pair ∷ coded 0x12 o-cell ∷ coded 0x13 o-function ∷ coded 0x14 o-limit ∷ coded 0x15 o-grant
-    ∷ coded 0x20 o-value ∷ coded 0x21 o-rights
-    ∷ coded 0x30 x-number ∷ coded 0x31 x-top ∷ coded 0x32 x-variable ∷ coded 0x33 x-pair
-    ∷ coded 0x34 x-part ∷ coded 0x35 x-function ∷ coded 0x36 x-apply ∷ coded 0x37 x-cell
-    ∷ coded 0x38 x-assign ∷ coded 0x39 x-read ∷ coded 0x3A x-sum ∷ coded 0x3B x-test
-    ∷ coded 0x3C x-limit ∷ coded 0x3D x-grant ∷ coded 0x3E x-newkey ∷ coded 0x3F x-associate
-    ∷ coded 0xFF o-end ∷ []
+    map (λ o. record { byte = form o .byte; op = o })
+    (o-host ∷ o-local ∷ o-number ∷ o-pair ∷ o-cell ∷ o-function ∷ o-limit ∷ o-grant ∷ o-value ∷ o-rights
+    ∷ x-number ∷ x-top ∷ x-variable ∷ x-pair ∷ x-part ∷ x-function ∷ x-apply ∷ x-cell ∷ x-assign ∷ x-read
+    ∷ x-sum ∷ x-test ∷ x-limit ∷ x-grant ∷ x-newkey ∷ x-associate ∷ o-end ∷ [])
 
 unfoldable pub findOp : List Coded → ℕ → Option Op
 findOp [] b = none
@@ -95,35 +159,10 @@ findOp (c ∷ l) b = cond (eqb b (c .byte)) (some (c .op)) (findOp l b)
 unfoldable pub opOf : ℕ → Option Op
 opOf b = findOp commands b
 
--- the widths of a command's operands: e and t 2; q, r, v, op, i and c 1; n 4; s 8
+-- the widths of a command's operands
 unfoldable pub operands : Op → List ℕ
-operands o-host = 1 ∷ []
-operands o-local = 1 ∷ []
-operands o-number = 1 ∷ []
-operands o-pair = 1 ∷ 2 ∷ 2 ∷ []
-operands o-cell = 1 ∷ 2 ∷ []
-operands o-function = 1 ∷ 2 ∷ 2 ∷ 8 ∷ []
-operands o-limit = 1 ∷ 1 ∷ []
-operands o-grant = 1 ∷ 1 ∷ []
-operands o-value = 2 ∷ 4 ∷ []
-operands o-rights = 8 ∷ []
-operands x-number = 4 ∷ []
-operands x-top = []
-operands x-variable = 1 ∷ []
-operands x-pair = 2 ∷ 2 ∷ []
-operands x-part = 2 ∷ 1 ∷ []
-operands x-function = 1 ∷ 2 ∷ 2 ∷ []
-operands x-apply = 2 ∷ 2 ∷ []
-operands x-cell = 2 ∷ 2 ∷ []
-operands x-assign = 2 ∷ 2 ∷ []
-operands x-read = 2 ∷ []
-operands x-sum = 1 ∷ 2 ∷ 2 ∷ []
-operands x-test = 2 ∷ 2 ∷ 2 ∷ 2 ∷ []
-operands x-limit = 1 ∷ 2 ∷ 2 ∷ 2 ∷ 2 ∷ 2 ∷ []
-operands x-grant = 2 ∷ 2 ∷ []
-operands x-newkey = 1 ∷ 1 ∷ 2 ∷ 2 ∷ 2 ∷ []
-operands x-associate = 2 ∷ 2 ∷ []
-operands o-end = []
+unfolding form widths flatMap
+operands o = flatMap widths (form o .roles)
 
 unfoldable pub total : List ℕ → ℕ
 total [] = 0
@@ -133,35 +172,9 @@ total (w ∷ l) = w + total l
 unfoldable pub width : Op → ℕ
 width o = total (operands o)
 
--- "Sections come in this order": names, types, host values, rights, expressions, the end
 unfoldable pub sectionOf : Op → ℕ
-sectionOf o-host = 0
-sectionOf o-local = 0
-sectionOf o-number = 1
-sectionOf o-pair = 1
-sectionOf o-cell = 1
-sectionOf o-function = 1
-sectionOf o-limit = 1
-sectionOf o-grant = 1
-sectionOf o-value = 2
-sectionOf o-rights = 3
-sectionOf x-number = 4
-sectionOf x-top = 4
-sectionOf x-variable = 4
-sectionOf x-pair = 4
-sectionOf x-part = 4
-sectionOf x-function = 4
-sectionOf x-apply = 4
-sectionOf x-cell = 4
-sectionOf x-assign = 4
-sectionOf x-read = 4
-sectionOf x-sum = 4
-sectionOf x-test = 4
-sectionOf x-limit = 4
-sectionOf x-grant = 4
-sectionOf x-newkey = 4
-sectionOf x-associate = 4
-sectionOf o-end = 5
+unfolding form
+sectionOf o = form o .section
 
 -- "Operands of several bytes have the low byte first."
 unfoldable pub little : List ℕ → ℕ
@@ -172,3 +185,37 @@ little (b ∷ l) = b + 256 * little l
 unfoldable pub fields : List ℕ → List ℕ → List ℕ
 fields [] s = []
 fields (w ∷ l) s = little (take w s) ∷ fields l (drop w s)
+
+-- what is given for an operand: numbers, one but for 3C's keys; or a type
+pub data Operand (T : Type 0) : Type 0 where
+  numbers : List ℕ → Operand T
+  type : T → Operand T
+
+abbrev pub one : {T : Type 0} → ℕ → Operand T
+one n = numbers (n ∷ [])
+
+pub record Row (T : Type 0) : Type 0 where
+  pub op : Op
+  pub given : List (Operand T)
+
+abbrev pub row-of : {T : Type 0} → Op → List (Operand T) → Row T
+row-of o l = record { op = o; given = l }
+
+-- an expression's command and its operands, in the order of its form
+unfoldable pub row : {T : Type 0} → Cmd T → Row T
+row (c-num n) = row-of x-number (one n ∷ [])
+row c-top = row-of x-top []
+row (c-var v) = row-of x-variable (one v ∷ [])
+row (c-pair a b) = row-of x-pair (one a ∷ one b ∷ [])
+row (c-part a i) = row-of x-part (one a ∷ one (cond i 1 2) ∷ [])
+row (c-fn v t b) = row-of x-function (one v ∷ type t ∷ one b ∷ [])
+row (c-app a b) = row-of x-apply (one a ∷ one b ∷ [])
+row (c-new t a) = row-of x-cell (type t ∷ one a ∷ [])
+row (c-asg a b) = row-of x-assign (one a ∷ one b ∷ [])
+row (c-read a) = row-of x-read (one a ∷ [])
+row (c-sum i a b) = row-of x-sum (one (cond i 0 1) ∷ one a ∷ one b ∷ [])
+row (c-test a b c t) = row-of x-test (one a ∷ one b ∷ one c ∷ type t ∷ [])
+row (c-lim ks b) = row-of x-limit (one (length ks) ∷ numbers ks ∷ numbers (replicate (4 - length ks) 0xFFFF) ∷ one b ∷ [])
+row (c-grant a b) = row-of x-grant (one a ∷ one b ∷ [])
+row (c-newkey v r a b t) = row-of x-newkey (one v ∷ one r ∷ one a ∷ one b ∷ type t ∷ [])
+row (c-assoc a b) = row-of x-associate (one a ∷ one b ∷ [])

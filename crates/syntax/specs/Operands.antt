@@ -1,7 +1,39 @@
--- What the operands of an expression are: expressions, variables, types. Uses, references and scopes go through these.
+-- What the operands of an expression are: expressions, variables, types. Uses, references and scopes go through these; all are read off the command's row.
 use Prim.Native.Nat.{ℕ, zero, suc}
+use mathlib.Core.Bool.{Bool, true, false, cond}
 use mathlib.Core.List.{List, [], _∷_, _++_}
-use Rattle.syntax.specs.Commands.{Cmd, c-num, c-top, c-var, c-pair, c-part, c-fn, c-app, c-new, c-asg, c-read, c-sum, c-test, c-lim, c-grant, c-newkey, c-assoc}
+use lib.Dec.{eqb}
+use Rattle.syntax.specs.Commands.{Cmd, c-num, Role, r-evaluated, r-entered, r-inside, r-count, r-keys, r-unused, r-variable, r-parameter, r-keypair, r-local, r-name, r-type, r-set, r-number, r-choice}
+use Rattle.syntax.specs.Commands.{Form, form, Operand, numbers, type, Row, row}
+
+-- roles by number, so that they can be compared
+unfoldable pub code : Role → ℕ
+code r-evaluated = 0
+code r-entered = 1
+code r-inside = 2
+code r-count = 3
+code r-keys = 4
+code r-unused = 5
+code r-variable = 6
+code r-parameter = 7
+code r-keypair = 8
+code r-local = 9
+code r-name = 10
+code r-type = 11
+code r-set = 12
+code r-number = 13
+code r-choice = 14
+
+-- a role is one of the wanted ones; some role is
+unfoldable pub wanted : List Role → Role → Bool
+unfolding code
+wanted [] r = false
+wanted (w ∷ ws) r = cond (eqb (code r) (code w)) true (wanted ws r)
+
+unfoldable pub someWanted : List Role → List Role → Bool
+unfolding wanted
+someWanted ws [] = false
+someWanted ws (r ∷ rs) = cond (wanted ws r) true (someWanted ws rs)
 
 module _ {T : Type 0} where
   -- the command of an expression; past the end a number
@@ -10,120 +42,59 @@ module _ {T : Type 0} where
   nth (k ∷ l) zero = k
   nth (k ∷ l) (suc i) = nth l i
 
+  -- the numbers given for the wanted roles, in order; those for the last wanted role stand as they are
+  unfoldable pub having : List Role → List Role → List (Operand T) → List ℕ
+  unfolding wanted someWanted
+  having ws [] os = []
+  having ws (r ∷ rs) [] = []
+  having ws (r ∷ rs) (numbers l ∷ os) = cond (wanted ws r) (cond (someWanted ws rs) (l ++ having ws rs os) l) (having ws rs os)
+  having ws (r ∷ rs) (type t ∷ os) = having ws rs os
+
+  unfoldable pub types : List (Operand T) → List T
+  types [] = []
+  types (numbers l ∷ os) = types os
+  types (type t ∷ os) = t ∷ types os
+
+  -- the numbers of a command's operands that have one of the roles
+  unfoldable pub with : List Role → Cmd T → List ℕ
+  unfolding having form row
+  with ws k = having ws (form (row k .op) .roles) (row k .given)
+
   -- the operands in which nothing new is in scope
   unfoldable pub plain : Cmd T → List ℕ
-  plain (c-num n) = []
-  plain c-top = []
-  plain (c-var v) = []
-  plain (c-pair a b) = a ∷ b ∷ []
-  plain (c-part a i) = a ∷ []
-  plain (c-fn v t b) = []
-  plain (c-app a b) = a ∷ b ∷ []
-  plain (c-new t a) = a ∷ []
-  plain (c-asg a b) = a ∷ b ∷ []
-  plain (c-read a) = a ∷ []
-  plain (c-sum i a b) = a ∷ b ∷ []
-  plain (c-test a b c t) = a ∷ b ∷ c ∷ []
-  plain (c-lim ks b) = ks ++ (b ∷ [])
-  plain (c-grant a b) = a ∷ b ∷ []
-  plain (c-newkey v r a b t) = a ∷ []
-  plain (c-assoc a b) = a ∷ b ∷ []
+  unfolding with
+  plain k = with (r-evaluated ∷ r-keys ∷ r-entered ∷ []) k
 
-  -- the body of a binder: of 35 and 3E
+  -- the body of a binder
   unfoldable pub inner : Cmd T → List ℕ
-  inner (c-num n) = []
-  inner c-top = []
-  inner (c-var v) = []
-  inner (c-pair a b) = []
-  inner (c-part a i) = []
-  inner (c-fn v t b) = b ∷ []
-  inner (c-app a b) = []
-  inner (c-new t a) = []
-  inner (c-asg a b) = []
-  inner (c-read a) = []
-  inner (c-sum i a b) = []
-  inner (c-test a b c t) = []
-  inner (c-lim ks b) = []
-  inner (c-grant a b) = []
-  inner (c-newkey v r a b t) = b ∷ []
-  inner (c-assoc a b) = []
+  unfolding with
+  inner k = with (r-inside ∷ []) k
 
   -- every operand that is an expression
   unfoldable pub children : Cmd T → List ℕ
   children k = plain k ++ inner k
 
+  -- the operands that are evaluated before the act
+  unfoldable pub evaluated : Cmd T → List ℕ
+  unfolding with
+  evaluated k = with (r-evaluated ∷ r-keys ∷ []) k
+
   -- the type operand
   unfoldable pub typesOf : Cmd T → List T
-  typesOf (c-num n) = []
-  typesOf c-top = []
-  typesOf (c-var v) = []
-  typesOf (c-pair a b) = []
-  typesOf (c-part a i) = []
-  typesOf (c-fn v t b) = t ∷ []
-  typesOf (c-app a b) = []
-  typesOf (c-new t a) = t ∷ []
-  typesOf (c-asg a b) = []
-  typesOf (c-read a) = []
-  typesOf (c-sum i a b) = []
-  typesOf (c-test a b c t) = t ∷ []
-  typesOf (c-lim ks b) = []
-  typesOf (c-grant a b) = []
-  typesOf (c-newkey v r a b t) = t ∷ []
-  typesOf (c-assoc a b) = []
+  unfolding types row
+  typesOf k = types (row k .given)
 
   -- the variable that is used
   unfoldable pub usesVar : Cmd T → List ℕ
-  usesVar (c-num n) = []
-  usesVar c-top = []
-  usesVar (c-var v) = v ∷ []
-  usesVar (c-pair a b) = []
-  usesVar (c-part a i) = []
-  usesVar (c-fn v t b) = []
-  usesVar (c-app a b) = []
-  usesVar (c-new t a) = []
-  usesVar (c-asg a b) = []
-  usesVar (c-read a) = []
-  usesVar (c-sum i a b) = []
-  usesVar (c-test a b c t) = []
-  usesVar (c-lim ks b) = []
-  usesVar (c-grant a b) = []
-  usesVar (c-newkey v r a b t) = []
-  usesVar (c-assoc a b) = []
+  unfolding with
+  usesVar k = with (r-variable ∷ []) k
 
   -- the variable that is bound
   unfoldable pub bindsVar : Cmd T → List ℕ
-  bindsVar (c-num n) = []
-  bindsVar c-top = []
-  bindsVar (c-var v) = []
-  bindsVar (c-pair a b) = []
-  bindsVar (c-part a i) = []
-  bindsVar (c-fn v t b) = v ∷ []
-  bindsVar (c-app a b) = []
-  bindsVar (c-new t a) = []
-  bindsVar (c-asg a b) = []
-  bindsVar (c-read a) = []
-  bindsVar (c-sum i a b) = []
-  bindsVar (c-test a b c t) = []
-  bindsVar (c-lim ks b) = []
-  bindsVar (c-grant a b) = []
-  bindsVar (c-newkey v r a b t) = v ∷ []
-  bindsVar (c-assoc a b) = []
+  unfolding with
+  bindsVar k = with (r-parameter ∷ r-keypair ∷ []) k
 
   -- the local name that is bound
   unfoldable pub bindsName : Cmd T → List ℕ
-  bindsName (c-num n) = []
-  bindsName c-top = []
-  bindsName (c-var v) = []
-  bindsName (c-pair a b) = []
-  bindsName (c-part a i) = []
-  bindsName (c-fn v t b) = []
-  bindsName (c-app a b) = []
-  bindsName (c-new t a) = []
-  bindsName (c-asg a b) = []
-  bindsName (c-read a) = []
-  bindsName (c-sum i a b) = []
-  bindsName (c-test a b c t) = []
-  bindsName (c-lim ks b) = []
-  bindsName (c-grant a b) = []
-  bindsName (c-newkey v r a b t) = r ∷ []
-  bindsName (c-assoc a b) = []
+  unfolding with
+  bindsName k = with (r-local ∷ []) k

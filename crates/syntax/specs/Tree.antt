@@ -1,15 +1,15 @@
 -- The expressions as a tree (numbers 8, 9 and 10): each is used once, nothing is bound twice, and what is used is in scope.
 use Prim.Native.Nat.{ℕ, zero, suc, _+_}
 use mathlib.Core.Bool.{Bool, true, false, cond, not}
-use mathlib.Core.List.{List, [], _∷_, _++_, map, flatMap}
+use mathlib.Core.List.{List, [], _∷_, _++_, map, flatMap, zipWith}
 use mathlib.Core.Option.{Option, none, some}
 use lib.ListN.{length, take}
 use lib.Dec.{eqb, ltb}
 use Rattle.order.specs.Bools.{_and_}
 use Rattle.order.specs.Sets.{some-of, all-of}
 use Rattle.syntax.specs.Types.{Ty, pair, lim, grant, namesIn}
-use Rattle.syntax.specs.Commands.{Cmd, c-num, c-top, c-var, c-pair, c-part, c-fn, c-app, c-new, c-asg, c-read, c-sum, c-test, c-lim, c-grant, c-newkey, c-assoc}
-use Rattle.syntax.specs.Operands.{nth, children, inner, typesOf, usesVar}
+use Rattle.syntax.specs.Commands.{Cmd, r-parameter, r-keypair}
+use Rattle.syntax.specs.Operands.{nth, with, children, inner, typesOf, usesVar, bindsName}
 use Rattle.syntax.specs.Job.{Name, HostValue, Src}
 use Rattle.syntax.specs.Reading.{Refusal}
 
@@ -18,24 +18,14 @@ pub data Entry : Type 0 where
   e-var : ℕ → Ty → Entry
   e-name : ℕ → Entry
 
--- what a command binds in its body. "v is a pair of unkeyed limit and grant key of r"
+-- "v is a pair of unkeyed limit and grant key of r"
+abbrev pub keyPair : ℕ → Ty
+keyPair r = pair 0 (lim 0 r) (grant 0 r)
+
+-- what a command binds in its body: a variable of the type operand, one of the keys of a name, a name
 unfoldable pub binds : Cmd Ty → List Entry
-binds (c-num n) = []
-binds c-top = []
-binds (c-var v) = []
-binds (c-pair a b) = []
-binds (c-part a i) = []
-binds (c-fn v t b) = e-var v t ∷ []
-binds (c-app a b) = []
-binds (c-new t a) = []
-binds (c-asg a b) = []
-binds (c-read a) = []
-binds (c-sum i a b) = []
-binds (c-test a b c t) = []
-binds (c-lim ks b) = []
-binds (c-grant a b) = []
-binds (c-newkey v r a b t) = e-var v (pair 0 (lim 0 r) (grant 0 r)) ∷ e-name r ∷ []
-binds (c-assoc a b) = []
+unfolding with typesOf bindsName zipWith
+binds k = zipWith e-var (with (r-parameter ∷ []) k) (typesOf k) ++ (zipWith (λ v r. e-var v (keyPair r)) (with (r-keypair ∷ []) k) (bindsName k) ++ map e-name (bindsName k))
 
 unfoldable pub varsOf : List Entry → List ℕ
 varsOf [] = []

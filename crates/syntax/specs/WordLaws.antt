@@ -688,7 +688,8 @@ small-slots (c-asg a b) (asg-fits h k) = small-zeros (more-small (omega arith) (
 small-slots (c-read a) (read-fits h) = small-zeros (more-small (omega arith) none-small)
 small-slots (c-sum i a b) (sum-fits h k) = small-zeros (more-small (omega arith) (more-small (omega arith) none-small))
 small-slots (c-test a b c t) (test-fits h k l m) = small-zeros (more-small (omega arith) (more-small (omega arith) (more-small (omega arith) (more-small (omega arith) none-small))))
-small-slots (c-lim ks b) (lim-fits h k l) = small-append (small-filled 4 0xFFFF (omega arith) (small-mem ks k)) (more-small (omega arith) none-small)
+small-slots (c-lim ks b) (lim-fits h k l) =
+    small-zeros (small-append (small-append (small-mem ks k) (small-append (small-same (4 - length ks) 0xFFFF (omega arith)) (more-small (omega arith) none-small))) none-small)
 small-slots (c-grant a b) (grant-fits h k) = small-zeros (more-small (omega arith) (more-small (omega arith) none-small))
 small-slots (c-newkey v r a b t) (newkey-fits h k l m o) = small-zeros (more-small (omega arith) (more-small (omega arith) (more-small (omega arith) none-small)))
 small-slots (c-assoc a b) (assoc-fits h k) = small-zeros (more-small (omega arith) (more-small (omega arith) none-small))

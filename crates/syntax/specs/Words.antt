@@ -6,7 +6,9 @@ use mathlib.Core.Option.{Option, none, some}
 use lib.ListN.{length, replicate, getD, take}
 use lib.Dec.{eqb}
 use Rattle.syntax.specs.Types.{TypeEntry, e-num, e-pair, e-cell, e-fn, e-lim, e-grant}
-use Rattle.syntax.specs.Commands.{Cmd, c-num, c-top, c-var, c-pair, c-part, c-fn, c-app, c-new, c-asg, c-read, c-sum, c-test, c-lim, c-grant, c-newkey, c-assoc}
+use Rattle.syntax.specs.Commands.{Cmd, c-num, c-top, c-var, c-pair, c-part, c-fn, c-app, c-new, c-asg, c-read, c-sum, c-test, c-lim, c-grant, c-newkey, c-assoc, form, row}
+use Rattle.syntax.specs.Commands.{r-evaluated, r-entered, r-inside, r-count, r-keys, r-unused, r-variable, r-parameter, r-keypair, r-local, r-number, r-choice}
+use Rattle.syntax.specs.Operands.{with, typesOf}
 use Rattle.syntax.specs.Job.{Name, HostValue, Job}
 
 -- the upper name, and 1 for a host name or 2 for a local one
@@ -38,50 +40,27 @@ setWord (e-grant q r) = 0
 unfoldable pub valueWord : HostValue ℕ → ℕ
 valueWord h = 0x20 + 256 * (h .ty) + 16777216 * (h .init)
 
--- an expression's command byte, and its operands of one byte or four
+-- an expression's command byte, and its operands of one byte or four, the first one lowest
 abbrev pub headBits : ℕ → ℕ → ℕ
 headBits byte x = byte + 256 * x
 
+unfoldable pub packed : List ℕ → ℕ
+packed [] = 0
+packed (x ∷ []) = x
+packed (x ∷ y ∷ l) = x + 256 * packed (y ∷ l)
+
 unfoldable pub headWord : Cmd ℕ → ℕ
-headWord (c-num n) = headBits 0x30 n
-headWord c-top = headBits 0x31 0
-headWord (c-var v) = headBits 0x32 v
-headWord (c-pair a b) = headBits 0x33 0
-headWord (c-part a i) = headBits 0x34 (cond i 1 2)
-headWord (c-fn v t b) = headBits 0x35 v
-headWord (c-app a b) = headBits 0x36 0
-headWord (c-new t a) = headBits 0x37 0
-headWord (c-asg a b) = headBits 0x38 0
-headWord (c-read a) = headBits 0x39 0
-headWord (c-sum i a b) = headBits 0x3A (cond i 0 1)
-headWord (c-test a b c t) = headBits 0x3B 0
-headWord (c-lim ks b) = headBits 0x3C (length ks)
-headWord (c-grant a b) = headBits 0x3D 0
-headWord (c-newkey v r a b t) = headBits 0x3E (v + 256 * r)
-headWord (c-assoc a b) = headBits 0x3F 0
+unfolding with form row packed
+headWord k = headBits (form (row k .op) .byte) (packed (with (r-count ∷ r-variable ∷ r-parameter ∷ r-keypair ∷ r-local ∷ r-number ∷ r-choice ∷ []) k))
 
 -- a list filled up to n entries
 unfoldable pub filled : ℕ → ℕ → List ℕ → List ℕ
 filled n x l = l ++ replicate (n - length l) x
 
--- its operands of two bytes, five places: expressions in the order written, then the type; of 3C four keys, then the body
+-- its operands of two bytes, five places: expressions in the order written, then the type
 unfoldable pub slots : Cmd ℕ → List ℕ
-slots (c-num n) = filled 5 0 []
-slots c-top = filled 5 0 []
-slots (c-var v) = filled 5 0 []
-slots (c-pair a b) = filled 5 0 (a ∷ b ∷ [])
-slots (c-part a i) = filled 5 0 (a ∷ [])
-slots (c-fn v t b) = filled 5 0 (b ∷ t ∷ [])
-slots (c-app a b) = filled 5 0 (a ∷ b ∷ [])
-slots (c-new t a) = filled 5 0 (a ∷ t ∷ [])
-slots (c-asg a b) = filled 5 0 (a ∷ b ∷ [])
-slots (c-read a) = filled 5 0 (a ∷ [])
-slots (c-sum i a b) = filled 5 0 (a ∷ b ∷ [])
-slots (c-test a b c t) = filled 5 0 (a ∷ b ∷ c ∷ t ∷ [])
-slots (c-lim ks b) = filled 4 0xFFFF ks ++ (b ∷ [])
-slots (c-grant a b) = filled 5 0 (a ∷ b ∷ [])
-slots (c-newkey v r a b t) = filled 5 0 (a ∷ b ∷ t ∷ [])
-slots (c-assoc a b) = filled 5 0 (a ∷ b ∷ [])
+unfolding with typesOf filled
+slots k = filled 5 0 (with (r-evaluated ∷ r-keys ∷ r-unused ∷ r-entered ∷ r-inside ∷ []) k ++ typesOf k)
 
 -- the tables' used entries; names 0 and 1 are not declared by the job
 abbrev pub nameWords : Job → List ℕ
