@@ -2,34 +2,20 @@
 -- entry where it makes a type (30, 31, 33, 35, 37, 3A, 3F). The rest point at an entry already there."
 use Prim.Native.Nat.{ℕ, zero, suc, _+_}
 use mathlib.Core.Bool.{Bool, true, false, cond}
-use mathlib.Core.List.{List, [], _∷_, _++_}
+use mathlib.Core.List.{List, [], _∷_, _++_, map, flatMap, zipWith}
 use mathlib.Core.Option.{Option, none, some}
 use lib.ListN.{length, getD, getElem?}
 use lib.Dec.{eqb}
 use Rattle.order.specs.Effects.{Effect}
 use Rattle.syntax.specs.Types.{TypeEntry, e-num, e-pair, e-cell, e-fn, e-lim, e-grant}
-use Rattle.syntax.specs.Commands.{Cmd, c-num, c-top, c-var, c-pair, c-part, c-fn, c-app, c-new, c-asg, c-read, c-sum, c-test, c-lim, c-grant, c-newkey, c-assoc}
+use Rattle.syntax.specs.Commands.{Cmd, c-num, c-top, c-var, c-pair, c-part, c-fn, c-app, c-new, c-asg, c-read, c-sum, c-test, c-lim, c-grant, c-newkey, c-assoc, r-parameter, r-keypair, r-local}
+use Rattle.syntax.specs.Operands.{with, typesOf}
 use Rattle.syntax.specs.Job.{HostValue, Job}
 
 -- the local names of the 3E's, in order
 unfoldable pub newKeys : List (Cmd ℕ) → List ℕ
-newKeys [] = []
-newKeys (c-num n ∷ l) = newKeys l
-newKeys (c-top ∷ l) = newKeys l
-newKeys (c-var v ∷ l) = newKeys l
-newKeys (c-pair a b ∷ l) = newKeys l
-newKeys (c-part a i ∷ l) = newKeys l
-newKeys (c-fn v t b ∷ l) = newKeys l
-newKeys (c-app a b ∷ l) = newKeys l
-newKeys (c-new t a ∷ l) = newKeys l
-newKeys (c-asg a b ∷ l) = newKeys l
-newKeys (c-read a ∷ l) = newKeys l
-newKeys (c-sum i a b ∷ l) = newKeys l
-newKeys (c-test a b c t ∷ l) = newKeys l
-newKeys (c-lim ks b ∷ l) = newKeys l
-newKeys (c-grant a b ∷ l) = newKeys l
-newKeys (c-newkey v r a b t ∷ l) = r ∷ newKeys l
-newKeys (c-assoc a b ∷ l) = newKeys l
+unfolding with flatMap
+newKeys l = flatMap (with (r-local ∷ [])) l
 
 -- three entries for each, when n entries stand before
 unfoldable pub keyEntries : ℕ → List ℕ → List TypeEntry
@@ -49,25 +35,17 @@ unfoldable pub hostVars : ℕ → List (HostValue ℕ) → List Typing
 hostVars v [] = []
 hostVars v (h ∷ hs) = typing v (h .ty) ∷ hostVars (suc v) hs
 
+-- where n entries stand before, those of so many names end
+unfoldable pub keysEnd : ℕ → List ℕ → ℕ
+keysEnd n [] = n
+keysEnd n (r ∷ l) = 3 + keysEnd n l
+
 -- bound variables; the next 3E's entries start at n
 unfoldable pub boundVars : ℕ → List (Cmd ℕ) → List Typing
+unfolding with typesOf zipWith keysEnd
 boundVars n [] = []
-boundVars n (c-num x ∷ l) = boundVars n l
-boundVars n (c-top ∷ l) = boundVars n l
-boundVars n (c-var v ∷ l) = boundVars n l
-boundVars n (c-pair a b ∷ l) = boundVars n l
-boundVars n (c-part a i ∷ l) = boundVars n l
-boundVars n (c-fn v t b ∷ l) = typing v t ∷ boundVars n l
-boundVars n (c-app a b ∷ l) = boundVars n l
-boundVars n (c-new t a ∷ l) = boundVars n l
-boundVars n (c-asg a b ∷ l) = boundVars n l
-boundVars n (c-read a ∷ l) = boundVars n l
-boundVars n (c-sum i a b ∷ l) = boundVars n l
-boundVars n (c-test a b c t ∷ l) = boundVars n l
-boundVars n (c-lim ks b ∷ l) = boundVars n l
-boundVars n (c-grant a b ∷ l) = boundVars n l
-boundVars n (c-newkey v r a b t ∷ l) = typing v (2 + n) ∷ boundVars (3 + n) l
-boundVars n (c-assoc a b ∷ l) = boundVars n l
+boundVars n (k ∷ l) =
+    zipWith typing (with (r-parameter ∷ []) k) (typesOf k) ++ (map (λ v. typing v (2 + n)) (with (r-keypair ∷ []) k) ++ boundVars (keysEnd n (with (r-local ∷ []) k)) l)
 
 unfoldable pub entryOf : List Typing → ℕ → ℕ
 entryOf [] v = 0
