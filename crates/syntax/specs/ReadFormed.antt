@@ -16,7 +16,8 @@ use Rattle.order.specs.Effects.{Effect, names}
 use Rattle.order.specs.EffectLaws.{name-mem}
 use Rattle.syntax.specs.Types.{Ty, num, pair, cell, fn, lim, grant, TypeEntry, e-num, e-pair, e-cell, e-fn, e-lim, e-grant, entryTree, treeIn, tree, depth, namesIn}
 use Rattle.syntax.specs.TypeLaws.{Part, of-pair-1, of-pair-2, of-cell, of-fn-1, of-fn-2, Earlier, tree-entry, tree-kept}
-use Rattle.syntax.specs.Commands.{Cmd, c-num, c-top, c-var, c-pair, c-part, c-fn, c-app, c-new, c-asg, c-read, c-sum, c-test, c-lim, c-grant, c-newkey, c-assoc, mapCmd}
+use Rattle.syntax.specs.Commands.{Cmd, c-num, mapCmd}
+pub use Rattle.syntax.specs.RowLaws.{children-map, bindsVar-map, bindsName-map, typesOf-map}
 use Rattle.syntax.specs.Operands.{nth, plain, inner, children, typesOf, usesVar, bindsVar, bindsName}
 use Rattle.syntax.specs.Job.{Name, HostValue, Job, uppers, valueOf, sourceOf}
 use Rattle.syntax.specs.Reading.{most-depth, declared, setOk, isHost, hostName, openName, localName, nameOk, partsOk, typeOk, unkeyedNumber, hostTypeOk, hostValueOk, cmdOk, most-variables, read, reading}
@@ -254,38 +255,6 @@ host-names ds (ht-grant {q} {r} x y) m = two ds q r x (host-open ds r y) m
 -- Expressions
 
 module _ {T U : Type 0} (f : T → U) where
-  -- other type operands change nothing else
-  mapped : (k : Cmd T) → (children (mapCmd f k) ≡ children k) × (bindsVar (mapCmd f k) ≡ bindsVar k) × (bindsName (mapCmd f k) ≡ bindsName k) × (typesOf (mapCmd f k) ≡ map f (typesOf k))
-  unfolding children plain inner bindsVar bindsName typesOf mapCmd
-  mapped (c-num n) = (refl, refl, refl, refl)
-  mapped c-top = (refl, refl, refl, refl)
-  mapped (c-var v) = (refl, refl, refl, refl)
-  mapped (c-pair a b) = (refl, refl, refl, refl)
-  mapped (c-part a i) = (refl, refl, refl, refl)
-  mapped (c-fn v t b) = (refl, refl, refl, refl)
-  mapped (c-app a b) = (refl, refl, refl, refl)
-  mapped (c-new t a) = (refl, refl, refl, refl)
-  mapped (c-asg a b) = (refl, refl, refl, refl)
-  mapped (c-read a) = (refl, refl, refl, refl)
-  mapped (c-sum i a b) = (refl, refl, refl, refl)
-  mapped (c-test a b c t) = (refl, refl, refl, refl)
-  mapped (c-lim ks b) = (refl, refl, refl, refl)
-  mapped (c-grant a b) = (refl, refl, refl, refl)
-  mapped (c-newkey v r a b t) = (refl, refl, refl, refl)
-  mapped (c-assoc a b) = (refl, refl, refl, refl)
-
-  pub children-map : (k : Cmd T) → children (mapCmd f k) ≡ children k
-  children-map k = mapped k .0
-
-  pub bindsVar-map : (k : Cmd T) → bindsVar (mapCmd f k) ≡ bindsVar k
-  bindsVar-map k = mapped k .1
-
-  pub bindsName-map : (k : Cmd T) → bindsName (mapCmd f k) ≡ bindsName k
-  bindsName-map k = mapped k .2
-
-  pub typesOf-map : (k : Cmd T) → typesOf (mapCmd f k) ≡ map f (typesOf k)
-  typesOf-map k = mapped k .3
-
   pub nth-map : (l : List (Cmd T)) (e : ℕ) → nth (map (mapCmd f) l) e ≡ mapCmd f (nth l e)
   unfolding nth mapCmd
   nth-map [] e = refl
