@@ -4,7 +4,7 @@ use mathlib.Core.Bool.{Bool, true, false, cond}
 use mathlib.Core.List.{List, [], _∷_, _++_}
 use lib.Dec.{eqb}
 use Rattle.syntax.specs.Commands.{Cmd, c-num, Role, r-evaluated, r-entered, r-inside, r-count, r-keys, r-unused, r-variable, r-parameter, r-keypair, r-local, r-name, r-type, r-set, r-number, r-choice}
-use Rattle.syntax.specs.Commands.{Form, form, Operand, numbers, type, Row, row}
+use Rattle.syntax.specs.Commands.{form, Operand, numbers, type, row}
 
 -- roles by number, so that they can be compared
 unfoldable pub code : Role → ℕ

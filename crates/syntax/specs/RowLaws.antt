@@ -1,15 +1,17 @@
 -- What holds of every row: which of the wanted roles have which numbers, and that other type operands change nothing else.
 use mathlib.Core.Path.{_≡_, refl, sym, ap, ap₂, _∙_, subst, subst⁻¹}
-use Prim.Native.Nat.{ℕ}
+use Prim.Native.Nat.{ℕ, _≤_}
+use native.Mathlib.Omega.{arith}
 use mathlib.Core.Bool.{Bool, true, false, cond, true≢false, false≢true}
 use mathlib.Core.List.{List, [], _∷_, _++_, map, append-nil, List·Memᴰ, List·Memᴰ·not-nil, List·Memᴰ·append-cases, Memᴰ·append-left, Memᴰ·append-right}
 use mathlib.Core.Logic.{_⊎_, inl, inr}
+use lib.ListN.{length}
 use lib.Dec.{eqb}
 use borrow.Author.Tests.{eq-eqb, eqb-true}
 use Rattle.order.specs.Bools.{_and_, and-l, and-r}
 use Rattle.syntax.specs.Commands.{Cmd, c-num, c-top, c-var, c-pair, c-part, c-fn, c-app, c-new, c-asg, c-read, c-sum, c-test, c-lim, c-grant, c-newkey, c-assoc, mapCmd}
-use Rattle.syntax.specs.Commands.{Role, Form, form, Operand, numbers, type, Row, row-of, row}
-use Rattle.syntax.specs.Operands.{code, wanted, someWanted, having, types, with, plain, inner, children, evaluated, typesOf, usesVar, bindsVar, bindsName}
+use Rattle.syntax.specs.Commands.{Role, r-parameter, r-keypair, form, Operand, numbers, type, Row, row-of, row}
+use Rattle.syntax.specs.Operands.{code, wanted, someWanted, having, types, with, plain, inner, children, evaluated, typesOf, bindsVar, bindsName}
 
 -- Roles that are wanted
 
@@ -35,6 +37,15 @@ wanted-among (w ∷ ws) vs a r h = at (eqb (code r) (code w)) refl h (λ k. want
     at : (b : Bool) → eqb (code r) (code w) ≡ b → cond b true (wanted ws r) ≡ true → (wanted ws r ≡ true → wanted vs r ≡ true) → wanted vs r ≡ true
     at true e k f = wanted-code vs r w (eqb-true (code r) (code w) e) ∙ and-l _ _ a
     at false e k f = f k
+
+wanted-either : (ws vs : List Role) (r : Role) → wanted (ws ++ vs) r ≡ true → (wanted ws r ≡ true) ⊎ (wanted vs r ≡ true)
+unfolding wanted
+wanted-either [] vs r h = inr h
+wanted-either (w ∷ ws) vs r h = at (eqb (code r) (code w)) h (λ k. wanted-either ws vs r k)
+  where
+    at : (b : Bool) → cond b true (wanted (ws ++ vs) r) ≡ true → (wanted (ws ++ vs) r ≡ true → (wanted ws r ≡ true) ⊎ (wanted vs r ≡ true)) → (cond b true (wanted ws r) ≡ true) ⊎ (wanted vs r ≡ true)
+    at true k f = inl refl
+    at false k f = f k
 
 -- Numbers of wanted roles
 
@@ -63,30 +74,103 @@ module _ {T : Type 0} where
       at true e = refl
       at false e = sym (ap (λ m. l ++ m) (none-wanted ws rs os e) ∙ append-nil l)
 
-  -- more roles, more numbers
-  pub having-among : (ws vs : List Role) → among ws vs ≡ true → (rs : List Role) (os : List (Operand T)) {n : ℕ} → List·Memᴰ n (having ws rs os) → List·Memᴰ n (having vs rs os)
-  unfolding having
-  having-among ws vs a [] os m = m
-  having-among ws vs a (r ∷ rs) [] m = m
-  having-among ws vs a (r ∷ rs) (numbers l ∷ os) {n} m =
-      subst⁻¹ (λ z. List·Memᴰ n z) (having-cons vs r rs l os)
-      (at (wanted ws r) refl (wanted vs r) (λ h. wanted-among ws vs a r h) (subst (λ z. List·Memᴰ n z) (having-cons ws r rs l os) m) (λ w. having-among ws vs a rs os w))
+  having-here : (ws : List Role) (r : Role) (rs : List Role) (l : List ℕ) (os : List (Operand T)) {n : ℕ} → wanted ws r ≡ true → List·Memᴰ n l → List·Memᴰ n (having ws (r ∷ rs) (numbers l ∷ os))
+  having-here ws r rs l os {n} e m = rw (having-cons ws r rs l os, e) (Memᴰ·append-left (having ws rs os) m)
+
+  having-there : (ws : List Role) (r : Role) (rs : List Role) (l : List ℕ) (os : List (Operand T)) {n : ℕ} → List·Memᴰ n (having ws rs os) → List·Memᴰ n (having ws (r ∷ rs) (numbers l ∷ os))
+  having-there ws r rs l os {n} m = rw (having-cons ws r rs l os) (at (wanted ws r))
     where
-      both : List·Memᴰ n l ⊎ List·Memᴰ n (having ws rs os) → (List·Memᴰ n (having ws rs os) → List·Memᴰ n (having vs rs os)) → List·Memᴰ n (l ++ having vs rs os)
-      both (inl w) f = Memᴰ·append-left (having vs rs os) w
-      both (inr w) f = Memᴰ·append-right l (f w)
+      at : (b : Bool) → List·Memᴰ n (cond b (l ++ having ws rs os) (having ws rs os))
+      at true = Memᴰ·append-right l m
+      at false = m
 
-      at : (b : Bool) → wanted ws r ≡ b → (c : Bool) → (wanted ws r ≡ true → c ≡ true) → List·Memᴰ n (cond b (l ++ having ws rs os) (having ws rs os)) → (List·Memᴰ n (having ws rs os) → List·Memᴰ n (having vs rs os))
-          → List·Memᴰ n (cond c (l ++ having vs rs os) (having vs rs os))
-      at true e true h w f = both (List·Memᴰ·append-cases l w) f
-      at true e false h w f = absurd (false≢true (h e))
-      at false e true h w f = Memᴰ·append-right l (f w)
-      at false e false h w f = f w
-  having-among ws vs a (r ∷ rs) (type t ∷ os) m = having-among ws vs a rs os m
+  having-cases : (ws : List Role) (r : Role) (rs : List Role) (l : List ℕ) (os : List (Operand T)) {n : ℕ} → List·Memᴰ n (having ws (r ∷ rs) (numbers l ∷ os))
+      → ((wanted ws r ≡ true) × List·Memᴰ n l) ⊎ List·Memᴰ n (having ws rs os)
+  having-cases ws r rs l os {n} m = at (wanted ws r) refl (subst (λ z. List·Memᴰ n z) (having-cons ws r rs l os) m)
+    where
+      both : wanted ws r ≡ true → List·Memᴰ n l ⊎ List·Memᴰ n (having ws rs os) → ((wanted ws r ≡ true) × List·Memᴰ n l) ⊎ List·Memᴰ n (having ws rs os)
+      both e (inl w) = inl (e, w)
+      both e (inr w) = inr w
 
+      at : (b : Bool) → wanted ws r ≡ b → List·Memᴰ n (cond b (l ++ having ws rs os) (having ws rs os)) → ((wanted ws r ≡ true) × List·Memᴰ n l) ⊎ List·Memᴰ n (having ws rs os)
+      at true e w = both e (List·Memᴰ·append-cases l w)
+      at false e w = inr w
+
+  -- a number of one of the roles `us` is of one of the roles `ws` or of one of `vs`
+  having-split : (us ws vs : List Role) → among us (ws ++ vs) ≡ true → (rs : List Role) (os : List (Operand T)) {n : ℕ} → List·Memᴰ n (having us rs os) → List·Memᴰ n (having ws rs os) ⊎ List·Memᴰ n (having vs rs os)
+  unfolding having
+  having-split us ws vs a [] os m = inl m
+  having-split us ws vs a (r ∷ rs) [] m = inl m
+  having-split us ws vs a (r ∷ rs) (type t ∷ os) m = having-split us ws vs a rs os m
+  having-split us ws vs a (r ∷ rs) (numbers l ∷ os) {n} m = at (having-cases us r rs l os m) (λ w. having-split us ws vs a rs os w)
+    where
+      Out : Type 0
+      Out = List·Memᴰ n (having ws (r ∷ rs) (numbers l ∷ os)) ⊎ List·Memᴰ n (having vs (r ∷ rs) (numbers l ∷ os))
+
+      here : List·Memᴰ n l → (wanted ws r ≡ true) ⊎ (wanted vs r ≡ true) → Out
+      here w (inl e) = inl (having-here ws r rs l os e w)
+      here w (inr e) = inr (having-here vs r rs l os e w)
+
+      there : List·Memᴰ n (having ws rs os) ⊎ List·Memᴰ n (having vs rs os) → Out
+      there (inl w) = inl (having-there ws r rs l os w)
+      there (inr w) = inr (having-there vs r rs l os w)
+
+      at : ((wanted us r ≡ true) × List·Memᴰ n l) ⊎ List·Memᴰ n (having us rs os) → (List·Memᴰ n (having us rs os) → List·Memᴰ n (having ws rs os) ⊎ List·Memᴰ n (having vs rs os)) → Out
+      at (inl z) f = here (z .1) (wanted-either ws vs r (wanted-among us (ws ++ vs) a r (z .0)))
+      at (inr w) f = there (f w)
+
+  -- no role, no number
+  having-nothing : (rs : List Role) (os : List (Operand T)) → having [] rs os ≡ []
+  unfolding having
+  having-nothing [] os = refl
+  having-nothing (r ∷ rs) [] = refl
+  having-nothing (r ∷ rs) (numbers l ∷ os) = having-nothing rs os
+  having-nothing (r ∷ rs) (type t ∷ os) = having-nothing rs os
+
+  pub with-split : (us ws vs : List Role) → among us (ws ++ vs) ≡ true → (k : Cmd T) {n : ℕ} → List·Memᴰ n (with us k) → List·Memᴰ n (with ws k) ⊎ List·Memᴰ n (with vs k)
+  unfolding with
+  with-split us ws vs a k m = having-split us ws vs a (form (row k .op) .roles) (row k .given) m
+
+  -- more roles, more numbers
   pub with-among : (ws vs : List Role) → among ws vs ≡ true → (k : Cmd T) {n : ℕ} → List·Memᴰ n (with ws k) → List·Memᴰ n (with vs k)
   unfolding with
-  with-among ws vs a k m = having-among ws vs a (form (row k .op) .roles) (row k .given) m
+  with-among ws vs a k {n} m = at (with-split ws vs [] (subst⁻¹ (λ z. among ws z ≡ true) (append-nil vs) a) k m)
+    where
+      at : List·Memᴰ n (with vs k) ⊎ List·Memᴰ n (with [] k) → List·Memᴰ n (with vs k)
+      at (inl w) = w
+      at (inr w) = absurd (List·Memᴰ·not-nil (subst (λ z. List·Memᴰ n z) (having-nothing (form (row k .op) .roles) (row k .given)) w))
+
+-- What a command binds: nothing; a variable of its type operand; or a variable and a name, which has keys
+
+pub data Bound {T : Type 0} : List ℕ → List T → List ℕ → List ℕ → Type 0 where
+  bound-none : {ts : List T} → Bound [] ts [] []
+  bound-type : {v : ℕ} {t : T} → Bound (v ∷ []) (t ∷ []) [] []
+  bound-keys : {v r : ℕ} {ts : List T} → Bound [] ts (v ∷ []) (r ∷ [])
+
+pub bound : {T : Type 0} (k : Cmd T) → Bound (with (r-parameter ∷ []) k) (typesOf k) (with (r-keypair ∷ []) k) (bindsName k)
+unfolding with typesOf bindsName
+bound (c-num n) = bound-none
+bound c-top = bound-none
+bound (c-var v) = bound-none
+bound (c-pair a b) = bound-none
+bound (c-part a i) = bound-none
+bound (c-fn v t b) = bound-type
+bound (c-app a b) = bound-none
+bound (c-new t a) = bound-none
+bound (c-asg a b) = bound-none
+bound (c-read a) = bound-none
+bound (c-sum i a b) = bound-none
+bound (c-test a b c t) = bound-none
+bound (c-lim ks b) = bound-none
+bound (c-grant a b) = bound-none
+bound (c-newkey v r a b t) = bound-keys
+bound (c-assoc a b) = bound-none
+
+-- one name at most
+pub bound-few : {T : Type 0} {ps qs rs : List ℕ} {ts : List T} → Bound ps ts qs rs → length rs ≤ 1
+bound-few bound-none = omega arith
+bound-few bound-type = omega arith
+bound-few bound-keys = omega arith
 
 -- Other type operands
 

@@ -1,6 +1,6 @@
 -- The expressions as a tree (numbers 8, 9 and 10): each is used once, nothing is bound twice, and what is used is in scope.
 use Prim.Native.Nat.{ℕ, zero, suc, _+_}
-use mathlib.Core.Bool.{Bool, true, false, cond, not}
+use mathlib.Core.Bool.{Bool, true, cond, not}
 use mathlib.Core.List.{List, [], _∷_, _++_, map, flatMap, zipWith}
 use mathlib.Core.Option.{Option, none, some}
 use lib.ListN.{length, take}
@@ -22,10 +22,15 @@ pub data Entry : Type 0 where
 abbrev pub keyPair : ℕ → Ty
 keyPair r = pair 0 (lim 0 r) (grant 0 r)
 
--- what a command binds in its body: a variable of the type operand, one of the keys of a name, a name
+-- variables ps of the types ts, variables qs of the keys of the names rs, and these names
+unfoldable pub entriesOf : List ℕ → List Ty → List ℕ → List ℕ → List Entry
+unfolding zipWith
+entriesOf ps ts qs rs = zipWith e-var ps ts ++ (zipWith (λ v r. e-var v (keyPair r)) qs rs ++ map e-name rs)
+
+-- what a command binds in its body
 unfoldable pub binds : Cmd Ty → List Entry
-unfolding with typesOf bindsName zipWith
-binds k = zipWith e-var (with (r-parameter ∷ []) k) (typesOf k) ++ (zipWith (λ v r. e-var v (keyPair r)) (with (r-keypair ∷ []) k) (bindsName k) ++ map e-name (bindsName k))
+unfolding entriesOf with typesOf bindsName
+binds k = entriesOf (with (r-parameter ∷ []) k) (typesOf k) (with (r-keypair ∷ []) k) (bindsName k)
 
 unfoldable pub varsOf : List Entry → List ℕ
 varsOf [] = []

@@ -4,7 +4,7 @@ use Prim.Native.Nat.{ℕ, zero, suc, _+_, _-_, _*_, _/_, _%_, _^_, _≤_, _<_}
 use native.Mathlib.Nat.{sub-zero, pow-succ', one-le-pow}
 use native.Mathlib.Omega.{arith}
 use mathlib.Core.Bool.{Bool, true, false, cond}
-use mathlib.Core.List.{List, [], _∷_, _++_, map, flatMap, append-assoc, List·Memᴰ, List·Memᴰ·head, List·Memᴰ·tail, Memᴰ·append-left, Memᴰ·append-right}
+use mathlib.Core.List.{List, [], _∷_, _++_, map, flatMap, append-assoc, List·Memᴰ, List·Memᴰ·head, List·Memᴰ·tail, List·Memᴰ·not-nil, List·Memᴰ·eq-of-singleton, Memᴰ·append-left, Memᴰ·append-right}
 use mathlib.Core.Option.{Option, none, some, Option·none-ne-some, Option·some-injective}
 use mathlib.Core.Logic.{_⊎_, inl, inr}
 use lib.ListN.{length, length-append, length-take, length-replicate, getD, getElem?, set, replicate, take, drop, List·getD-append}
@@ -20,35 +20,28 @@ use Rattle.syntax.specs.Types.{TypeEntry, e-num, e-pair, e-cell, e-fn, e
 use Rattle.syntax.specs.Commands.{Cmd, c-num, c-top, c-var, c-pair, c-part, c-fn, c-app, c-new, c-asg, c-read, c-sum, c-test, c-lim, c-grant, c-newkey, c-assoc}
 use Rattle.syntax.specs.Commands.{Op, o-host, o-local, o-number, o-pair, o-cell, o-function, o-limit, o-grant, o-value, o-rights, o-end, opOf, operands, width, sectionOf, little, fields}
 use Rattle.syntax.specs.Commands.{x-number, x-top, x-variable, x-pair, x-part, x-function, x-apply, x-cell, x-assign, x-read, x-sum, x-test, x-limit, x-grant, x-newkey, x-associate}
-use Rattle.syntax.specs.Operands.{nth, plain, inner, children, typesOf, usesVar, bindsVar, bindsName}
+use Rattle.syntax.specs.Commands.{r-evaluated, r-entered, r-inside, r-count, r-keys, r-unused, r-number}
+use Rattle.syntax.specs.Operands.{nth, wanted, with, plain, inner, children, typesOf, usesVar, bindsVar, bindsName}
+use Rattle.syntax.specs.RowLaws.{among, with-among, with-split}
 use Rattle.syntax.specs.Job.{Name, HostValue, Job}
 use Rattle.syntax.specs.Reading.{Refusal, State, declared, localName, setOk, nameOk, partsOk, typeOk, hostValueOk, rightsOk, cmdOk}
 use Rattle.syntax.specs.Reading.{Written, w-name, w-type, w-value, w-rights, w-cmd, w-end, unwritten, partOf, sumOf, limitOf, written, given, enter, misplaced, full}
 use Rattle.syntax.specs.Reading.{Step, refuse, proceed, finish, settle, command, Read, refused, read, ended, onward, onOp, readFrom, noJob, reading}
-use Rattle.syntax.specs.Words.{nameWord, typeWord, setWord, valueWord, headBits, headWord, filled, slots, nameWords, typeWords, setWords, valueWords, headWords, slotWords, decode, codeIn}
+use Rattle.syntax.specs.Words.{nameWord, typeWord, setWord, valueWord, headBits, headWord, filled, placeRoles, slots, nameWords, typeWords, setWords, valueWords, headWords, slotWords, decode, codeIn}
 use Rattle.syntax.specs.ReadLaws.{JobOk, built-at, read-ok}
 use Rattle.syntax.specs.ReadFormed.{declared-lt, nth-at, entry-parts, CmdFormed, cmds-formed}
 
 -- Ranges
 
 -- an expression whose numbers fit its words
-pub data CmdFits : Cmd ℕ → Type 0 where
-  num-fits : {n : ℕ} → n < 4294967296 → CmdFits (c-num n)
-  top-fits : CmdFits c-top
-  var-fits : {v : ℕ} → v < 64 → CmdFits (c-var v)
-  pair-fits : {a b : ℕ} → a < 512 → b < 512 → CmdFits (c-pair a b)
-  part-fits : {a : ℕ} {i : Bool} → a < 512 → CmdFits (c-part a i)
-  fn-fits : {v t b : ℕ} → v < 64 → t < 256 → b < 512 → CmdFits (c-fn v t b)
-  app-fits : {a b : ℕ} → a < 512 → b < 512 → CmdFits (c-app a b)
-  new-fits : {t a : ℕ} → t < 256 → a < 512 → CmdFits (c-new t a)
-  asg-fits : {a b : ℕ} → a < 512 → b < 512 → CmdFits (c-asg a b)
-  read-fits : {a : ℕ} → a < 512 → CmdFits (c-read a)
-  sum-fits : {i : Bool} {a b : ℕ} → a < 512 → b < 512 → CmdFits (c-sum i a b)
-  test-fits : {a b c t : ℕ} → a < 512 → b < 512 → c < 512 → t < 256 → CmdFits (c-test a b c t)
-  lim-fits : {ks : List ℕ} {b : ℕ} → length ks ≤ 4 → ((c : ℕ) → List·Memᴰ c ks → c < 512) → b < 512 → CmdFits (c-lim ks b)
-  grant-fits : {a b : ℕ} → a < 512 → b < 512 → CmdFits (c-grant a b)
-  newkey-fits : {v r a b t : ℕ} → v < 64 → r < 64 → a < 512 → b < 512 → t < 256 → CmdFits (c-newkey v r a b t)
-  assoc-fits : {a b : ℕ} → a < 512 → b < 512 → CmdFits (c-assoc a b)
+pub record CmdFits (k : Cmd ℕ) : Type 0 where
+  pub operand : (c : ℕ) → List·Memᴰ c (children k) → c < 512
+  pub type-operand : (t : ℕ) → List·Memᴰ t (typesOf k) → t < 256
+  pub used-variable : (v : ℕ) → List·Memᴰ v (usesVar k) → v < 64
+  pub bound-variable : (v : ℕ) → List·Memᴰ v (bindsVar k) → v < 64
+  pub bound-name : (r : ℕ) → List·Memᴰ r (bindsName k) → r < 64
+  pub number : (n : ℕ) → List·Memᴰ n (with (r-number ∷ []) k) → n < 4294967296
+  pub few-keys : (c : ℕ) → List·Memᴰ c (with (r-count ∷ []) k) → c ≤ 4
 
 -- an entry of the type table whose numbers fit its words
 pub data TypeFits : TypeEntry → Type 0 where
@@ -166,34 +159,50 @@ two-low v r h = omega arith
 two-high : (v r : ℕ) → v < 256 → r < 256 → (v + 256 * r) / 256 % 256 ≡ r
 two-high v r h k = let z : (v + 256 * r) / 256 ≡ r = omega arith in ap (λ n. n % 256) z ∙ low-byte r k
 
--- an expression is read back from its head and its five places
-pub word-cmd : (k : Cmd ℕ) → CmdFits k
-    → decode (headWord k % 256) (headWord k / 256 % 4294967296) (getD (slots k) 0 0) (getD (slots k) 1 0) (getD (slots k) 2 0) (getD (slots k) 3 0) (getD (slots k) 4 0) ≡ k
-unfolding headWord slots decode filled
-word-cmd (c-num n) (num-fits h) = head-parts 0x30 n 0 0 0 0 0 (omega arith) h
-word-cmd c-top top-fits = head-parts 0x31 0 0 0 0 0 0 (omega arith) (omega arith)
-word-cmd (c-var v) (var-fits h) = head-parts 0x32 v 0 0 0 0 0 (omega arith) (omega arith) ∙ ap c-var (low-byte v (omega arith))
-word-cmd (c-pair a b) (pair-fits h k) = head-parts 0x33 0 a b 0 0 0 (omega arith) (omega arith)
-word-cmd (c-part a true) (part-fits h) = head-parts 0x34 1 a 0 0 0 0 (omega arith) (omega arith)
-word-cmd (c-part a false) (part-fits h) = head-parts 0x34 2 a 0 0 0 0 (omega arith) (omega arith)
-word-cmd (c-fn v t b) (fn-fits h k l) = head-parts 0x35 v b t 0 0 0 (omega arith) (omega arith) ∙ ap (λ n. c-fn n t b) (low-byte v (omega arith))
-word-cmd (c-app a b) (app-fits h k) = head-parts 0x36 0 a b 0 0 0 (omega arith) (omega arith)
-word-cmd (c-new t a) (new-fits h k) = head-parts 0x37 0 a t 0 0 0 (omega arith) (omega arith)
-word-cmd (c-asg a b) (asg-fits h k) = head-parts 0x38 0 a b 0 0 0 (omega arith) (omega arith)
-word-cmd (c-read a) (read-fits h) = head-parts 0x39 0 a 0 0 0 0 (omega arith) (omega arith)
-word-cmd (c-sum true a b) (sum-fits h k) = head-parts 0x3A 0 a b 0 0 0 (omega arith) (omega arith)
-word-cmd (c-sum false a b) (sum-fits h k) = head-parts 0x3A 1 a b 0 0 0 (omega arith) (omega arith)
-word-cmd (c-test a b c t) (test-fits h k l m) = head-parts 0x3B 0 a b c t 0 (omega arith) (omega arith)
-word-cmd (c-lim [] b) (lim-fits h k l) = head-parts 0x3C 0 0xFFFF 0xFFFF 0xFFFF 0xFFFF b (omega arith) (omega arith)
-word-cmd (c-lim (x ∷ []) b) (lim-fits h k l) = head-parts 0x3C 1 x 0xFFFF 0xFFFF 0xFFFF b (omega arith) (omega arith)
-word-cmd (c-lim (x ∷ y ∷ []) b) (lim-fits h k l) = head-parts 0x3C 2 x y 0xFFFF 0xFFFF b (omega arith) (omega arith)
-word-cmd (c-lim (x ∷ y ∷ z ∷ []) b) (lim-fits h k l) = head-parts 0x3C 3 x y z 0xFFFF b (omega arith) (omega arith)
-word-cmd (c-lim (x ∷ y ∷ z ∷ w ∷ []) b) (lim-fits h k l) = head-parts 0x3C 4 x y z w b (omega arith) (omega arith)
-word-cmd (c-lim (x ∷ y ∷ z ∷ w ∷ u ∷ ks) b) (lim-fits h k l) = absurd (omega arith)
-word-cmd (c-grant a b) (grant-fits h k) = head-parts 0x3D 0 a b 0 0 0 (omega arith) (omega arith)
-word-cmd (c-newkey v r a b t) (newkey-fits h k l m o) =
-    head-parts 0x3E (v + 256 * r) a b t 0 0 (omega arith) (omega arith) ∙ (λ i. c-newkey (two-low v r (omega arith) i) (two-high v r (omega arith) (omega arith) i) a b t)
-word-cmd (c-assoc a b) (assoc-fits h k) = head-parts 0x3F 0 a b 0 0 0 (omega arith) (omega arith)
+first : {a : ℕ} {l : List ℕ} → List·Memᴰ a (a ∷ l)
+first = List·Memᴰ·head refl
+
+-- an expression's words: it is read back from its head and its five places, and the head is a word of 64 bits
+pub record InWords (k : Cmd ℕ) : Type 0 where
+  pub back : decode (headWord k % 256) (headWord k / 256 % 4294967296) (getD (slots k) 0 0) (getD (slots k) 1 0) (getD (slots k) 2 0) (getD (slots k) 3 0) (getD (slots k) 4 0) ≡ k
+  pub five : length (slots k) ≡ 5
+  pub low : headWord k < 18446744073709551616
+
+pub in-words : (k : Cmd ℕ) → CmdFits k → InWords k
+unfolding headWord slots decode usesVar bindsVar bindsName with
+in-words (c-num n) f = let h = f .number n first in record { back = head-parts 0x30 n 0 0 0 0 0 (omega arith) h; five = refl; low = omega arith }
+in-words c-top f = record { back = head-parts 0x31 0 0 0 0 0 0 (omega arith) (omega arith); five = refl; low = omega arith }
+in-words (c-var v) f =
+    let h = f .used-variable v first in record { back = head-parts 0x32 v 0 0 0 0 0 (omega arith) (omega arith) ∙ ap c-var (low-byte v (omega arith)); five = refl; low = omega arith }
+in-words (c-pair a b) f = record { back = head-parts 0x33 0 a b 0 0 0 (omega arith) (omega arith); five = refl; low = omega arith }
+in-words (c-part a true) f = record { back = head-parts 0x34 1 a 0 0 0 0 (omega arith) (omega arith); five = refl; low = omega arith }
+in-words (c-part a false) f = record { back = head-parts 0x34 2 a 0 0 0 0 (omega arith) (omega arith); five = refl; low = omega arith }
+in-words (c-fn v t b) f =
+    let h = f .bound-variable v first in
+    record { back = head-parts 0x35 v b t 0 0 0 (omega arith) (omega arith) ∙ ap (λ n. c-fn n t b) (low-byte v (omega arith)); five = refl; low = omega arith }
+in-words (c-app a b) f = record { back = head-parts 0x36 0 a b 0 0 0 (omega arith) (omega arith); five = refl; low = omega arith }
+in-words (c-new t a) f = record { back = head-parts 0x37 0 a t 0 0 0 (omega arith) (omega arith); five = refl; low = omega arith }
+in-words (c-asg a b) f = record { back = head-parts 0x38 0 a b 0 0 0 (omega arith) (omega arith); five = refl; low = omega arith }
+in-words (c-read a) f = record { back = head-parts 0x39 0 a 0 0 0 0 (omega arith) (omega arith); five = refl; low = omega arith }
+in-words (c-sum true a b) f = record { back = head-parts 0x3A 0 a b 0 0 0 (omega arith) (omega arith); five = refl; low = omega arith }
+in-words (c-sum false a b) f = record { back = head-parts 0x3A 1 a b 0 0 0 (omega arith) (omega arith); five = refl; low = omega arith }
+in-words (c-test a b c t) f = record { back = head-parts 0x3B 0 a b c t 0 (omega arith) (omega arith); five = refl; low = omega arith }
+in-words (c-lim [] b) f = record { back = head-parts 0x3C 0 0xFFFF 0xFFFF 0xFFFF 0xFFFF b (omega arith) (omega arith); five = refl; low = omega arith }
+in-words (c-lim (x ∷ []) b) f = record { back = head-parts 0x3C 1 x 0xFFFF 0xFFFF 0xFFFF b (omega arith) (omega arith); five = refl; low = omega arith }
+in-words (c-lim (x ∷ y ∷ []) b) f = record { back = head-parts 0x3C 2 x y 0xFFFF 0xFFFF b (omega arith) (omega arith); five = refl; low = omega arith }
+in-words (c-lim (x ∷ y ∷ z ∷ []) b) f = record { back = head-parts 0x3C 3 x y z 0xFFFF b (omega arith) (omega arith); five = refl; low = omega arith }
+in-words (c-lim (x ∷ y ∷ z ∷ w ∷ []) b) f = record { back = head-parts 0x3C 4 x y z w b (omega arith) (omega arith); five = refl; low = omega arith }
+in-words (c-lim (x ∷ y ∷ z ∷ w ∷ u ∷ ks) b) f = absurd (omega (arith, f .few-keys _ first))
+in-words (c-grant a b) f = record { back = head-parts 0x3D 0 a b 0 0 0 (omega arith) (omega arith); five = refl; low = omega arith }
+in-words (c-newkey v r a b t) f =
+    let h = f .bound-variable v first in
+    let k = f .bound-name r first in
+    record {
+      back = head-parts 0x3E (v + 256 * r) a b t 0 0 (omega arith) (omega arith) ∙ (λ i. c-newkey (two-low v r (omega arith) i) (two-high v r (omega arith) (omega arith) i) a b t);
+      five = refl;
+      low = omega arith;
+    }
+in-words (c-assoc a b) f = record { back = head-parts 0x3F 0 a b 0 0 0 (omega arith) (omega arith); five = refl; low = omega arith }
 
 -- from any tables that hold its words
 pub decode-back : (heads places : List ℕ) (e : ℕ) (k : Cmd ℕ) → CmdFits k → getD heads e 0 ≡ headWord k → ((i : ℕ) → i < 5 → getD places (e * 5 + i) 0 ≡ getD (slots k) i 0)
@@ -202,7 +211,7 @@ unfolding codeIn
 decode-back heads places e k f h p =
     let z : e * 5 ≡ e * 5 + 0 = omega arith in
     let a = ap (λ i. getD places i 0) z ∙ p 0 (omega arith) in
-    (λ i. decode (h i % 256) (h i / 256 % 4294967296) (a i) (p 1 (omega arith) i) (p 2 (omega arith) i) (p 3 (omega arith) i) (p 4 (omega arith) i)) ∙ word-cmd k f
+    (λ i. decode (h i % 256) (h i / 256 % 4294967296) (a i) (p 1 (omega arith) i) (p 2 (omega arith) i) (p 3 (omega arith) i) (p 4 (omega arith) i)) ∙ in-words k f .back
 
 -- a head that is 0 stands for the number 0
 pub decode-past : (heads places : List ℕ) (e : ℕ) → getD heads e 0 ≡ 0 → codeIn heads places e ≡ c-num 0
@@ -212,28 +221,14 @@ decode-past heads places e h =
 
 -- each expression has five places
 pub slots-length : (k : Cmd ℕ) → CmdFits k → length (slots k) ≡ 5
-unfolding slots filled
-slots-length (c-num n) f = refl
-slots-length c-top f = refl
-slots-length (c-var v) f = refl
-slots-length (c-pair a b) f = refl
-slots-length (c-part a i) f = refl
-slots-length (c-fn v t b) f = refl
-slots-length (c-app a b) f = refl
-slots-length (c-new t a) f = refl
-slots-length (c-asg a b) f = refl
-slots-length (c-read a) f = refl
-slots-length (c-sum i a b) f = refl
-slots-length (c-test a b c t) f = refl
-slots-length (c-lim [] b) f = refl
-slots-length (c-lim (x ∷ []) b) f = refl
-slots-length (c-lim (x ∷ y ∷ []) b) f = refl
-slots-length (c-lim (x ∷ y ∷ z ∷ []) b) f = refl
-slots-length (c-lim (x ∷ y ∷ z ∷ w ∷ []) b) f = refl
-slots-length (c-lim (x ∷ y ∷ z ∷ w ∷ u ∷ ks) b) (lim-fits h k l) = absurd (omega arith)
-slots-length (c-grant a b) f = refl
-slots-length (c-newkey v r a b t) f = refl
-slots-length (c-assoc a b) f = refl
+slots-length k f = in-words k f .five
+
+-- so 3C has four keys at most
+pub slots-few : (ks : List ℕ) (b : ℕ) → length (slots (c-lim ks b)) ≡ 5 → length ks ≤ 4
+unfolding slots
+slots-few ks b h =
+    let u : List ℕ = replicate (4 - length ks) 0xFFFF in
+    omega (arith, h, length-append ((ks ++ (u ++ (b ∷ []))) ++ []) (replicate (5 - length ((ks ++ (u ++ (b ∷ []))) ++ [])) 0), length-append (ks ++ (u ++ (b ∷ []))) [], length-append ks (u ++ (b ∷ [])), length-append u (b ∷ []))
 
 -- the places of expression e; past the end zeros, as of the number 0
 pub slots-at : (l : List (Cmd ℕ)) → ((e : ℕ) → CmdFits (nth l e)) → (e i : ℕ) → i < 5 → getD (flatMap slots l) (e * 5 + i) 0 ≡ getD (slots (nth l e)) i 0
@@ -289,47 +284,10 @@ little-lt (suc k) (b ∷ s) h = omega (arith, pow-succ' 256 k, h 0, little-lt k 
 
 -- Reading
 
--- the number that 30 writes, and how many keys 3C has
-unfoldable literal : Cmd ℕ → ℕ
-literal (c-num n) = n
-literal c-top = 0
-literal (c-var v) = 0
-literal (c-pair a b) = 0
-literal (c-part a i) = 0
-literal (c-fn v t b) = 0
-literal (c-app a b) = 0
-literal (c-new t a) = 0
-literal (c-asg a b) = 0
-literal (c-read a) = 0
-literal (c-sum i a b) = 0
-literal (c-test a b c t) = 0
-literal (c-lim ks b) = 0
-literal (c-grant a b) = 0
-literal (c-newkey v r a b t) = 0
-literal (c-assoc a b) = 0
-
-unfoldable keyCount : Cmd ℕ → ℕ
-keyCount (c-num n) = 0
-keyCount c-top = 0
-keyCount (c-var v) = 0
-keyCount (c-pair a b) = 0
-keyCount (c-part a i) = 0
-keyCount (c-fn v t b) = 0
-keyCount (c-app a b) = 0
-keyCount (c-new t a) = 0
-keyCount (c-asg a b) = 0
-keyCount (c-read a) = 0
-keyCount (c-sum i a b) = 0
-keyCount (c-test a b c t) = 0
-keyCount (c-lim ks b) = length ks
-keyCount (c-grant a b) = 0
-keyCount (c-newkey v r a b t) = 0
-keyCount (c-assoc a b) = 0
-
 -- what the widths of operands bound
 record Narrow (k : Cmd ℕ) : Type 0 where
-  pub number : literal k < 4294967296
-  pub few-keys : keyCount k ≤ 4
+  pub number : (n : ℕ) → List·Memᴰ n (with (r-number ∷ []) k) → n < 4294967296
+  pub few-keys : (c : ℕ) → List·Memᴰ c (with (r-count ∷ []) k) → c ≤ 4
 
 record Slim (J : Job) : Type 0 where
   pub values : (i : ℕ) (h : HostValue ℕ) → getElem? (J .values) i ≡ some h → h .init < 4294967296
@@ -348,30 +306,33 @@ if-thin : (b : Bool) (k : Cmd ℕ) {w : Written} → Narrow k → Thin w → Thi
 if-thin true k n w = thin-cmd k n
 if-thin false k n w = w
 
+-- neither a number nor keys
+narrow-plain : (k : Cmd ℕ) → with (r-number ∷ r-count ∷ []) k ≡ [] → Narrow k
+unfolding among wanted _and_
+narrow-plain k e = record { number = λ n m. none (with-among (r-number ∷ []) (r-number ∷ r-count ∷ []) refl k m); few-keys = λ c m. none (with-among (r-count ∷ []) (r-number ∷ r-count ∷ []) refl k m) }
+  where
+    none : {A : Type 0} {n : ℕ} → List·Memᴰ n (with (r-number ∷ r-count ∷ []) k) → A
+    none {n = n} m = absurd (List·Memᴰ·not-nil (subst (λ l. List·Memᴰ n l) e m))
+
+thin-plain : (k : Cmd ℕ) → with (r-number ∷ r-count ∷ []) k ≡ [] → Thin (w-cmd k)
+thin-plain k e = thin-cmd k (narrow-plain k e)
+
 thin-part : (a i : ℕ) → Thin (partOf a i)
-unfolding partOf literal keyCount
-thin-part a i =
-    if-thin (eqb i 1) (c-part a true) (record { number = omega arith; few-keys = omega arith })
-    (if-thin (eqb i 2) (c-part a false) (record { number = omega arith; few-keys = omega arith }) thin-none)
+unfolding partOf with
+thin-part a i = if-thin (eqb i 1) (c-part a true) (narrow-plain _ refl) (if-thin (eqb i 2) (c-part a false) (narrow-plain _ refl) thin-none)
 
 thin-sum : (i a b : ℕ) → Thin (sumOf i a b)
-unfolding sumOf literal keyCount
-thin-sum i a b =
-    if-thin (eqb i 0) (c-sum true a b) (record { number = omega arith; few-keys = omega arith })
-    (if-thin (eqb i 1) (c-sum false a b) (record { number = omega arith; few-keys = omega arith }) thin-none)
+unfolding sumOf with
+thin-sum i a b = if-thin (eqb i 0) (c-sum true a b) (narrow-plain _ refl) (if-thin (eqb i 1) (c-sum false a b) (narrow-plain _ refl) thin-none)
 
 thin-limit : (c : ℕ) (l : List ℕ) (b : ℕ) → Thin (limitOf c (take 4 l) b)
-unfolding limitOf literal keyCount
+unfolding limitOf with
 thin-limit c l b =
     if-thin (leb c 4 and all-of (λ e. eqb e 0xFFFF) (drop c (take 4 l))) (c-lim (take c (take 4 l)) b)
-    (record { number = omega arith; few-keys = omega (arith, length-take c (take 4 l), length-take 4 l) }) thin-none
-
--- neither a number nor keys
-thin-plain : (k : Cmd ℕ) → literal k ≡ 0 → keyCount k ≡ 0 → Thin (w-cmd k)
-thin-plain k a b = thin-cmd k (record { number = omega arith; few-keys = omega arith })
+    (record { number = λ n m. absurd (List·Memᴰ·not-nil m); few-keys = λ n m. omega (arith, List·Memᴰ·eq-of-singleton m, length-take c (take 4 l), length-take 4 l) }) thin-none
 
 thin-op : (op : Op) (s : List ℕ) → Bytes s → Thin (written op (fields (operands op) s))
-unfolding written fields operands literal keyCount
+unfolding written fields operands with
 thin-op o-host s h = thin-name _
 thin-op o-local s h = thin-name _
 thin-op o-number s h = thin-type _
@@ -382,22 +343,22 @@ thin-op o-limit s h = thin-type _
 thin-op o-grant s h = thin-type _
 thin-op o-value s h = thin-value _ (little-lt 4 (drop 2 s) (bytes-drop 2 s h))
 thin-op o-rights s h = thin-rights _
-thin-op x-number s h = thin-cmd (c-num (little (take 4 s))) (record { number = little-lt 4 s h; few-keys = omega arith })
-thin-op x-top s h = thin-plain _ refl refl
-thin-op x-variable s h = thin-plain _ refl refl
-thin-op x-pair s h = thin-plain _ refl refl
+thin-op x-number s h = thin-cmd (c-num (little (take 4 s))) (record { number = λ n m. omega (arith, List·Memᴰ·eq-of-singleton m, little-lt 4 s h); few-keys = λ c m. absurd (List·Memᴰ·not-nil m) })
+thin-op x-top s h = thin-plain _ refl
+thin-op x-variable s h = thin-plain _ refl
+thin-op x-pair s h = thin-plain _ refl
 thin-op x-part s h = thin-part _ _
-thin-op x-function s h = thin-plain _ refl refl
-thin-op x-apply s h = thin-plain _ refl refl
-thin-op x-cell s h = thin-plain _ refl refl
-thin-op x-assign s h = thin-plain _ refl refl
-thin-op x-read s h = thin-plain _ refl refl
+thin-op x-function s h = thin-plain _ refl
+thin-op x-apply s h = thin-plain _ refl
+thin-op x-cell s h = thin-plain _ refl
+thin-op x-assign s h = thin-plain _ refl
+thin-op x-read s h = thin-plain _ refl
 thin-op x-sum s h = thin-sum _ _ _
-thin-op x-test s h = thin-plain _ refl refl
+thin-op x-test s h = thin-plain _ refl
 thin-op x-limit s h = let o = fields (operands x-limit) s in thin-limit (getD o 0 0) (drop 1 o) (getD o 5 0)
-thin-op x-grant s h = thin-plain _ refl refl
-thin-op x-newkey s h = thin-plain _ refl refl
-thin-op x-associate s h = thin-plain _ refl refl
+thin-op x-grant s h = thin-plain _ refl
+thin-op x-newkey s h = thin-plain _ refl
+thin-op x-associate s h = thin-plain _ refl
 thin-op o-end s h = thin-end
 
 -- what one command comes to, what reading comes to
@@ -502,47 +463,31 @@ type-fits ds n (e-fn q a b s) h k e =
 type-fits ds n (e-lim q r) h k e = t-lim (name-lt ds q h (and-l _ _ (and-l _ _ e))) (name-lt ds r h (and-r _ _ (and-l _ _ e)))
 type-fits ds n (e-grant q r) h k e = t-grant (name-lt ds q h (and-l _ _ (and-l _ _ e))) (name-lt ds r h (and-r _ _ (and-l _ _ e)))
 
-first : {a : ℕ} {l : List ℕ} → List·Memᴰ a (a ∷ l)
-first = List·Memᴰ·head refl
+cmd-fits : {ds : List Name} {types values e : ℕ} (k : Cmd ℕ) → CmdFormed ds types values e k → 2 + length ds ≤ 64 → types ≤ 256 → e ≤ 512 → Narrow k → CmdFits k
+unfolding localName
+cmd-fits {ds} k w d t n x =
+    record {
+      operand = λ c m. omega (arith, w .operand c m);
+      type-operand = λ c m. omega (arith, w .type-operand c m);
+      used-variable = w .used-variable;
+      bound-variable = λ v m. w .bound-variable v m .1;
+      bound-name = λ r m. name-lt ds r d (and-r _ _ (and-l _ _ (w .bound-name r m)));
+      number = x .number;
+      few-keys = x .few-keys;
+    }
 
-second : {a b : ℕ} {l : List ℕ} → List·Memᴰ b (a ∷ b ∷ l)
-second = List·Memᴰ·tail first
-
-third : {a b c : ℕ} {l : List ℕ} → List·Memᴰ c (a ∷ b ∷ c ∷ l)
-third = List·Memᴰ·tail second
-
-cmd-fits : {ds : List Name} {types values e : ℕ} (k : Cmd ℕ) → CmdFormed ds types values e k → 2 + length ds ≤ 64 → types ≤ 256 → e ≤ 512 → literal k < 4294967296 → keyCount k ≤ 4 → CmdFits k
-unfolding children plain inner typesOf usesVar bindsVar bindsName literal keyCount localName
-cmd-fits {ds} {types} {values} {e} k w d t n x y = at k (λ c m. operand c (w .operand c m)) (λ c m. ofType c (w .type-operand c m)) (w .used-variable) (λ v m. w .bound-variable v m .1) (λ r m. ofName r (w .bound-name r m)) x y
-  where
-    operand : (c : ℕ) → c < e → c < 512
-    operand c h = omega arith
-
-    ofType : (c : ℕ) → c < types → c < 256
-    ofType c h = omega arith
-
-    ofName : (r : ℕ) → localName ds r ≡ true → r < 64
-    ofName r h = name-lt ds r d (and-r _ _ (and-l _ _ h))
-
-    at : (k : Cmd ℕ) → ((c : ℕ) → List·Memᴰ c (children k) → c < 512) → ((c : ℕ) → List·Memᴰ c (typesOf k) → c < 256) → ((v : ℕ) → List·Memᴰ v (usesVar k) → v < 64)
-        → ((v : ℕ) → List·Memᴰ v (bindsVar k) → v < 64) → ((r : ℕ) → List·Memᴰ r (bindsName k) → r < 64) → literal k < 4294967296 → keyCount k ≤ 4 → CmdFits k
-    at (c-num n) o p u b r x y = num-fits x
-    at c-top o p u b r x y = top-fits
-    at (c-var v) o p u b r x y = var-fits (u v first)
-    at (c-pair a c) o p u b r x y = pair-fits (o a first) (o c second)
-    at (c-part a i) o p u b r x y = part-fits (o a first)
-    at (c-fn v t c) o p u b r x y = fn-fits (b v first) (p t first) (o c first)
-    at (c-app a c) o p u b r x y = app-fits (o a first) (o c second)
-    at (c-new t a) o p u b r x y = new-fits (p t first) (o a first)
-    at (c-asg a c) o p u b r x y = asg-fits (o a first) (o c second)
-    at (c-read a) o p u b r x y = read-fits (o a first)
-    at (c-sum i a c) o p u b r x y = sum-fits (o a first) (o c second)
-    at (c-test a c d t) o p u b r x y = test-fits (o a first) (o c second) (o d third) (p t first)
-    at (c-lim ks c) o p u b r x y =
-        lim-fits y (λ k m. o k (Memᴰ·append-left [] (Memᴰ·append-left (c ∷ []) m))) (o c (Memᴰ·append-left [] (Memᴰ·append-right ks first)))
-    at (c-grant a c) o p u b r x y = grant-fits (o a first) (o c second)
-    at (c-newkey v n a c t) o p u b r x y = newkey-fits (b v first) (r n first) (o a first) (o c second) (p t first)
-    at (c-assoc a c) o p u b r x y = assoc-fits (o a first) (o c second)
+past-fits : CmdFits (c-num 0)
+unfolding children plain inner typesOf usesVar bindsVar bindsName with
+past-fits =
+    record {
+      operand = λ c m. absurd (List·Memᴰ·not-nil m);
+      type-operand = λ c m. absurd (List·Memᴰ·not-nil m);
+      used-variable = λ v m. absurd (List·Memᴰ·not-nil m);
+      bound-variable = λ v m. absurd (List·Memᴰ·not-nil m);
+      bound-name = λ r m. absurd (List·Memᴰ·not-nil m);
+      number = λ n m. omega (arith, List·Memᴰ·eq-of-singleton m);
+      few-keys = λ c m. absurd (List·Memᴰ·not-nil m);
+    }
 
 -- a job that is read from bytes
 pub job-fits : (s : List ℕ) (J : Job) → Bytes s → reading s ≡ read J → JobFits J
@@ -567,9 +512,8 @@ job-fits s J b r =
 
     at : (e : ℕ) → (getElem? (J .cmds) e ≡ some (nth (J .cmds) e)) ⊎ (nth (J .cmds) e ≡ c-num 0) → CmdFits (nth (J .cmds) e)
     at e (inl z) =
-        let n = t .cmds e (nth (J .cmds) e) z in
-        cmd-fits (nth (J .cmds) e) (cmds-formed j e) (j .few-names) (j .few-types) (omega (arith, j .few-cmds, getElem?-lt (J .cmds) e _ z)) (n .number) (n .few-keys)
-    at e (inr z) = subst⁻¹ (λ k. CmdFits k) z (num-fits (omega arith))
+        cmd-fits (nth (J .cmds) e) (cmds-formed j e) (j .few-names) (j .few-types) (omega (arith, j .few-cmds, getElem?-lt (J .cmds) e _ z)) (t .cmds e (nth (J .cmds) e) z)
+    at e (inr z) = subst⁻¹ (λ k. CmdFits k) z past-fits
 
 -- The words themselves
 
@@ -625,25 +569,7 @@ set-word-lt (e-lim q r) f = omega arith
 set-word-lt (e-grant q r) f = omega arith
 
 pub head-lt : (k : Cmd ℕ) → CmdFits k → headWord k < 18446744073709551616
-unfolding headWord
-head-lt (c-num n) (num-fits h) = omega arith
-head-lt c-top f = omega arith
-head-lt (c-var v) (var-fits h) = omega arith
-head-lt (c-pair a b) f = omega arith
-head-lt (c-part a true) f = omega arith
-head-lt (c-part a false) f = omega arith
-head-lt (c-fn v t b) (fn-fits h k l) = omega arith
-head-lt (c-app a b) f = omega arith
-head-lt (c-new t a) f = omega arith
-head-lt (c-asg a b) f = omega arith
-head-lt (c-read a) f = omega arith
-head-lt (c-sum true a b) f = omega arith
-head-lt (c-sum false a b) f = omega arith
-head-lt (c-test a b c t) f = omega arith
-head-lt (c-lim ks b) (lim-fits h k l) = omega arith
-head-lt (c-grant a b) f = omega arith
-head-lt (c-newkey v r a b t) (newkey-fits h k l m o) = omega arith
-head-lt (c-assoc a b) f = omega arith
+head-lt k f = in-words k f .low
 
 -- a list of numbers of two bytes
 data Small : List ℕ → Type 0 where
@@ -663,36 +589,39 @@ small-append : {l m : List ℕ} → Small l → Small m → Small (l ++ m)
 small-append none-small t = t
 small-append (more-small h s) t = more-small h (small-append s t)
 
-small-mem : (l : List ℕ) → ((c : ℕ) → List·Memᴰ c l → c < 512) → Small l
+small-mem : (l : List ℕ) → ((c : ℕ) → List·Memᴰ c l → c < 65536) → Small l
 small-mem [] f = none-small
-small-mem (x ∷ l) f = let h : x < 65536 = omega (arith, f x first) in more-small h (small-mem l (λ c m. f c (List·Memᴰ·tail m)))
+small-mem (x ∷ l) f = more-small (f x first) (small-mem l (λ c m. f c (List·Memᴰ·tail m)))
 
 small-filled : (n x : ℕ) {l : List ℕ} → x < 65536 → Small l → Small (filled n x l)
 unfolding filled
 small-filled n x {l} h s = small-append s (small-same (n - length l) x h)
 
-small-zeros : {l : List ℕ} → Small l → Small (filled 5 0 l)
-small-zeros s = small-filled 5 0 (omega arith) s
+-- 3C's places that are not used
+unused-lt : (k : Cmd ℕ) {n : ℕ} → List·Memᴰ n (with (r-unused ∷ []) k) → n < 65536
+unfolding with
+unused-lt (c-lim ks b) m = same (4 - length ks) m
+  where
+    same : (i : ℕ) {n : ℕ} → List·Memᴰ n (replicate i 0xFFFF) → n < 65536
+    same zero m = absurd (List·Memᴰ·not-nil m)
+    same (suc i) (List·Memᴰ·head e) = omega arith
+    same (suc i) (List·Memᴰ·tail m) = same i m
+
+place-lt : (k : Cmd ℕ) → CmdFits k → (c : ℕ) → List·Memᴰ c (with placeRoles k) → c < 65536
+unfolding children plain inner among wanted _and_
+place-lt k f c m = at (with-split placeRoles (r-evaluated ∷ r-keys ∷ r-entered ∷ []) (r-inside ∷ r-unused ∷ []) refl k m)
+  where
+    body : List·Memᴰ c (with (r-inside ∷ []) k) ⊎ List·Memᴰ c (with (r-unused ∷ []) k) → c < 65536
+    body (inl w) = omega (arith, f .operand c (Memᴰ·append-right (plain k) w))
+    body (inr w) = unused-lt k w
+
+    at : List·Memᴰ c (with (r-evaluated ∷ r-keys ∷ r-entered ∷ []) k) ⊎ List·Memᴰ c (with (r-inside ∷ r-unused ∷ []) k) → c < 65536
+    at (inl w) = omega (arith, f .operand c (Memᴰ·append-left (inner k) w))
+    at (inr w) = body (with-split (r-inside ∷ r-unused ∷ []) (r-inside ∷ []) (r-unused ∷ []) refl k w)
 
 small-slots : (k : Cmd ℕ) → CmdFits k → Small (slots k)
 unfolding slots
-small-slots (c-num n) f = small-zeros none-small
-small-slots c-top f = small-zeros none-small
-small-slots (c-var v) f = small-zeros none-small
-small-slots (c-pair a b) (pair-fits h k) = small-zeros (more-small (omega arith) (more-small (omega arith) none-small))
-small-slots (c-part a i) (part-fits h) = small-zeros (more-small (omega arith) none-small)
-small-slots (c-fn v t b) (fn-fits h k l) = small-zeros (more-small (omega arith) (more-small (omega arith) none-small))
-small-slots (c-app a b) (app-fits h k) = small-zeros (more-small (omega arith) (more-small (omega arith) none-small))
-small-slots (c-new t a) (new-fits h k) = small-zeros (more-small (omega arith) (more-small (omega arith) none-small))
-small-slots (c-asg a b) (asg-fits h k) = small-zeros (more-small (omega arith) (more-small (omega arith) none-small))
-small-slots (c-read a) (read-fits h) = small-zeros (more-small (omega arith) none-small)
-small-slots (c-sum i a b) (sum-fits h k) = small-zeros (more-small (omega arith) (more-small (omega arith) none-small))
-small-slots (c-test a b c t) (test-fits h k l m) = small-zeros (more-small (omega arith) (more-small (omega arith) (more-small (omega arith) (more-small (omega arith) none-small))))
-small-slots (c-lim ks b) (lim-fits h k l) =
-    small-zeros (small-append (small-append (small-mem ks k) (small-append (small-same (4 - length ks) 0xFFFF (omega arith)) (more-small (omega arith) none-small))) none-small)
-small-slots (c-grant a b) (grant-fits h k) = small-zeros (more-small (omega arith) (more-small (omega arith) none-small))
-small-slots (c-newkey v r a b t) (newkey-fits h k l m o) = small-zeros (more-small (omega arith) (more-small (omega arith) (more-small (omega arith) none-small)))
-small-slots (c-assoc a b) (assoc-fits h k) = small-zeros (more-small (omega arith) (more-small (omega arith) none-small))
+small-slots k f = small-filled 5 0 (omega arith) (small-append (small-mem (with placeRoles k) (place-lt k f)) (small-mem (typesOf k) (λ t m. omega (arith, f .type-operand t m))))
 
 pub slot-lt : (k : Cmd ℕ) → CmdFits k → (i : ℕ) → getD (slots k) i 0 < 65536
 slot-lt k f i = small-at (small-slots k f) i

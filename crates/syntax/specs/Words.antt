@@ -1,13 +1,13 @@
 -- A job's tables as numbers: what the lent tables hold of names, types, host values and expressions.
 use Prim.Native.Nat.{ℕ, _+_, _-_, _*_, _/_, _%_}
-use mathlib.Core.Bool.{Bool, true, false, cond}
+use mathlib.Core.Bool.{cond}
 use mathlib.Core.List.{List, [], _∷_, _++_, map, flatMap}
 use mathlib.Core.Option.{Option, none, some}
 use lib.ListN.{length, replicate, getD, take}
 use lib.Dec.{eqb}
 use Rattle.syntax.specs.Types.{TypeEntry, e-num, e-pair, e-cell, e-fn, e-lim, e-grant}
 use Rattle.syntax.specs.Commands.{Cmd, c-num, c-top, c-var, c-pair, c-part, c-fn, c-app, c-new, c-asg, c-read, c-sum, c-test, c-lim, c-grant, c-newkey, c-assoc, form, row}
-use Rattle.syntax.specs.Commands.{r-evaluated, r-entered, r-inside, r-count, r-keys, r-unused, r-variable, r-parameter, r-keypair, r-local, r-number, r-choice}
+use Rattle.syntax.specs.Commands.{Role, r-evaluated, r-entered, r-inside, r-count, r-keys, r-unused, r-variable, r-parameter, r-keypair, r-local, r-number, r-choice}
 use Rattle.syntax.specs.Operands.{with, typesOf}
 use Rattle.syntax.specs.Job.{Name, HostValue, Job}
 
@@ -49,18 +49,24 @@ packed [] = 0
 packed (x ∷ []) = x
 packed (x ∷ y ∷ l) = x + 256 * packed (y ∷ l)
 
+abbrev pub headRoles : List Role
+headRoles = r-count ∷ r-variable ∷ r-parameter ∷ r-keypair ∷ r-local ∷ r-number ∷ r-choice ∷ []
+
 unfoldable pub headWord : Cmd ℕ → ℕ
 unfolding with form row packed
-headWord k = headBits (form (row k .op) .byte) (packed (with (r-count ∷ r-variable ∷ r-parameter ∷ r-keypair ∷ r-local ∷ r-number ∷ r-choice ∷ []) k))
+headWord k = headBits (form (row k .op) .byte) (packed (with headRoles k))
 
 -- a list filled up to n entries
 unfoldable pub filled : ℕ → ℕ → List ℕ → List ℕ
 filled n x l = l ++ replicate (n - length l) x
 
 -- its operands of two bytes, five places: expressions in the order written, then the type
+abbrev pub placeRoles : List Role
+placeRoles = r-evaluated ∷ r-keys ∷ r-unused ∷ r-entered ∷ r-inside ∷ []
+
 unfoldable pub slots : Cmd ℕ → List ℕ
 unfolding with typesOf filled
-slots k = filled 5 0 (with (r-evaluated ∷ r-keys ∷ r-unused ∷ r-entered ∷ r-inside ∷ []) k ++ typesOf k)
+slots k = filled 5 0 (with placeRoles k ++ typesOf k)
 
 -- the tables' used entries; names 0 and 1 are not declared by the job
 abbrev pub nameWords : Job → List ℕ

@@ -4,8 +4,8 @@ use Prim.Native.Nat.{ℕ, _+_, _-_, _*_, _/_, _%_, _^_, _≤_, _<_}
 use native.Mathlib.Omega.{arith}
 use native.Mathlib.Nat.{mod-eq-of-lt}
 use mathlib.Core.Bool.{Bool, true, false, cond}
-use mathlib.Core.List.{List, [], _∷_, _++_}
-use lib.ListN.{length, getD, replicate, length-append}
+use mathlib.Core.List.{List, [], _∷_}
+use lib.ListN.{length, getD}
 use lib.Dec.{eqb, ltb}
 use borrow.Author.Tests.{lt-ltb, le-ltb, ltb-true, ltb-false, ne-eqb, eqb-true}
 use Rattle.order.specs.Sets.{bit}
@@ -13,6 +13,7 @@ use Rattle.order.specs.SetLaws.{bit-pow, bit-zero, lt-bit, lt-pow}
 use Rattle.syntax.specs.Commands.{Cmd, c-num, c-top, c-var, c-pair, c-part, c-fn, c-app, c-new, c-asg, c-read, c-sum, c-test, c-lim, c-grant, c-newkey, c-assoc}
 use Rattle.syntax.specs.Operands.{plain, inner, children}
 use Rattle.syntax.specs.Words.{headWord, slots, filled}
+use Rattle.syntax.specs.WordLaws.{slots-few}
 use Rattle.syntax.specs.Tree.{count}
 use Rattle.tree.specs.Passes.{oneOf, arityOf, isOperand}
 
@@ -160,7 +161,7 @@ children-count (c-lim (w ∷ []) b) h c = omega arith
 children-count (c-lim (w ∷ x ∷ []) b) h c = omega arith
 children-count (c-lim (w ∷ x ∷ y ∷ []) b) h c = omega arith
 children-count (c-lim (w ∷ x ∷ y ∷ z ∷ []) b) h c = omega arith
-children-count (c-lim (w ∷ x ∷ y ∷ z ∷ u ∷ l) b) h c = absurd (omega (arith, h, length-append (l ++ replicate (4 - length (w ∷ x ∷ y ∷ z ∷ u ∷ l)) 0xFFFF) (b ∷ [])))
+children-count (c-lim (w ∷ x ∷ y ∷ z ∷ u ∷ l) b) h c = absurd (omega (arith, slots-few (w ∷ x ∷ y ∷ z ∷ u ∷ l) b h))
 children-count (c-grant a b) h c = omega arith
 children-count (c-newkey v r a b t) h c = omega arith
 children-count (c-assoc a b) h c = omega arith

@@ -1,21 +1,21 @@
 -- The type table of an accepted job: "the declared types, then for each 3E in order its limit key, grant key and pair, then for each expression in order one
 -- entry where it makes a type (30, 31, 33, 35, 37, 3A, 3F). The rest point at an entry already there."
-use Prim.Native.Nat.{ℕ, zero, suc, _+_}
-use mathlib.Core.Bool.{Bool, true, false, cond}
+use Prim.Native.Nat.{ℕ, suc, _+_}
+use mathlib.Core.Bool.{true, false, cond}
 use mathlib.Core.List.{List, [], _∷_, _++_, map, flatMap, zipWith}
 use mathlib.Core.Option.{Option, none, some}
 use lib.ListN.{length, getD, getElem?}
 use lib.Dec.{eqb}
 use Rattle.order.specs.Effects.{Effect}
 use Rattle.syntax.specs.Types.{TypeEntry, e-num, e-pair, e-cell, e-fn, e-lim, e-grant}
-use Rattle.syntax.specs.Commands.{Cmd, c-num, c-top, c-var, c-pair, c-part, c-fn, c-app, c-new, c-asg, c-read, c-sum, c-test, c-lim, c-grant, c-newkey, c-assoc, r-parameter, r-keypair, r-local}
-use Rattle.syntax.specs.Operands.{with, typesOf}
+use Rattle.syntax.specs.Commands.{Cmd, c-num, c-top, c-var, c-pair, c-part, c-fn, c-app, c-new, c-asg, c-read, c-sum, c-test, c-lim, c-grant, c-newkey, c-assoc, r-parameter, r-keypair}
+use Rattle.syntax.specs.Operands.{with, typesOf, bindsName}
 use Rattle.syntax.specs.Job.{HostValue, Job}
 
 -- the local names of the 3E's, in order
 unfoldable pub newKeys : List (Cmd ℕ) → List ℕ
-unfolding with flatMap
-newKeys l = flatMap (with (r-local ∷ [])) l
+unfolding bindsName flatMap
+newKeys l = flatMap bindsName l
 
 -- three entries for each, when n entries stand before
 unfoldable pub keyEntries : ℕ → List ℕ → List TypeEntry
@@ -40,12 +40,16 @@ unfoldable pub keysEnd : ℕ → List ℕ → ℕ
 keysEnd n [] = n
 keysEnd n (r ∷ l) = 3 + keysEnd n l
 
+-- variables ps of the types ts, and variables qs of the keys whose entries start at n
+unfoldable pub typingsOf : ℕ → List ℕ → List ℕ → List ℕ → List Typing
+unfolding zipWith
+typingsOf n ps ts qs = zipWith typing ps ts ++ map (λ v. typing v (2 + n)) qs
+
 -- bound variables; the next 3E's entries start at n
 unfoldable pub boundVars : ℕ → List (Cmd ℕ) → List Typing
-unfolding with typesOf zipWith keysEnd
+unfolding typingsOf keysEnd with typesOf bindsName
 boundVars n [] = []
-boundVars n (k ∷ l) =
-    zipWith typing (with (r-parameter ∷ []) k) (typesOf k) ++ (map (λ v. typing v (2 + n)) (with (r-keypair ∷ []) k) ++ boundVars (keysEnd n (with (r-local ∷ []) k)) l)
+boundVars n (k ∷ l) = typingsOf n (with (r-parameter ∷ []) k) (typesOf k) (with (r-keypair ∷ []) k) ++ boundVars (keysEnd n (bindsName k)) l
 
 unfoldable pub entryOf : List Typing → ℕ → ℕ
 entryOf [] v = 0

@@ -5,7 +5,7 @@ use Prim.Native.Nat.{ℕ, zero, suc, _+_, _*_, _^_, _≤_, _<_}
 use native.Mathlib.Nat.{pow-le-pow-right}
 use native.Mathlib.Omega.{arith}
 use mathlib.Core.Bool.{Bool, true, false}
-use mathlib.Core.List.{List, [], _∷_, _++_, map, append-assoc, append-nil, List·Memᴰ, List·Memᴰ·head, List·Memᴰ·not-nil, List·Memᴰ·eq-of-singleton}
+use mathlib.Core.List.{List, [], _∷_, _++_, map, append-assoc, append-nil, List·Memᴰ, List·Memᴰ·head, List·Memᴰ·eq-of-singleton}
 use mathlib.Core.Option.{Option, none, some, Option·none-ne-some}
 use lib.ListN.{drop, length, length-append, length-map, getD, getElem?, drop-of-length-le, List·getD-append}
 use lib.Seq.{getD-at, ext-getD}
@@ -17,7 +17,8 @@ use Rattle.order.specs.Effects.{Effect, pure, touch, join, effBelow}
 use Rattle.syntax.specs.Types.{Ty, depth, TypeEntry, e-num, e-pair, e-cell, e-fn, e-lim, e-grant, tree}
 use Rattle.syntax.specs.TypeLaws.{tree-kept, tree-new}
 use Rattle.syntax.specs.Commands.{Cmd, c-num, c-top, c-var, c-pair, c-part, c-fn, c-app, c-new, c-asg, c-read, c-sum, c-test, c-lim, c-grant, c-newkey, c-assoc, mapCmd}
-use Rattle.syntax.specs.Operands.{nth, plain, inner, children, usesVar}
+use Rattle.syntax.specs.Operands.{nth, plain, inner, children, usesVar, bindsName}
+use Rattle.syntax.specs.RowLaws.{bound-few, bound}
 use Rattle.syntax.specs.Job.{Name, Job, uppers, upOf, sourceOf}
 use Rattle.syntax.specs.Reading.{Refusal, most-names, most-types, most-expressions, most-depth}
 use Rattle.syntax.specs.ReadLaws.{JobOk}
@@ -223,22 +224,7 @@ unfolding usesVar mapCmd
 var-used J e x m = cmd-at J e ∙ at (nth (J .cmds) e) m
   where
     at : (k : Cmd ℕ) → List·Memᴰ x (usesVar k) → mapCmd (tree (J .types)) k ≡ c-var x
-    at (c-num n) m = absurd (List·Memᴰ·not-nil m)
-    at c-top m = absurd (List·Memᴰ·not-nil m)
     at (c-var v) m = ap (λ y. c-var y) (sym (List·Memᴰ·eq-of-singleton m))
-    at (c-pair a b) m = absurd (List·Memᴰ·not-nil m)
-    at (c-part a i) m = absurd (List·Memᴰ·not-nil m)
-    at (c-fn v t b) m = absurd (List·Memᴰ·not-nil m)
-    at (c-app a b) m = absurd (List·Memᴰ·not-nil m)
-    at (c-new t a) m = absurd (List·Memᴰ·not-nil m)
-    at (c-asg a b) m = absurd (List·Memᴰ·not-nil m)
-    at (c-read a) m = absurd (List·Memᴰ·not-nil m)
-    at (c-sum i a b) m = absurd (List·Memᴰ·not-nil m)
-    at (c-test a b c t) m = absurd (List·Memᴰ·not-nil m)
-    at (c-lim ks b) m = absurd (List·Memᴰ·not-nil m)
-    at (c-grant a b) m = absurd (List·Memᴰ·not-nil m)
-    at (c-newkey v r a b t) m = absurd (List·Memᴰ·not-nil m)
-    at (c-assoc a b) m = absurd (List·Memᴰ·not-nil m)
 
 -- what is settled, by what trees and layout say
 settled : (J : Job) (e : ℕ) (σ : Sofar) (k : Cmd ℕ) → Inv J e σ → {o : Typed} {r : Result} {p : Points} → Match (length (J .types)) (length (upOf (sourceOf J))) (σ .entries) o r → LayoutAgrees r p
@@ -430,22 +416,7 @@ module _ {J : Job} (j : JobOk J) (scoped : treeRefusal (sourceOf J) ≡ none) {O
 new-few : (l : List (Cmd ℕ)) → length (newKeys l) ≤ length l
 unfolding newKeys
 new-few [] = omega arith
-new-few (c-num n ∷ l) = omega (arith, new-few l)
-new-few (c-top ∷ l) = omega (arith, new-few l)
-new-few (c-var v ∷ l) = omega (arith, new-few l)
-new-few (c-pair a b ∷ l) = omega (arith, new-few l)
-new-few (c-part a i ∷ l) = omega (arith, new-few l)
-new-few (c-fn v t b ∷ l) = omega (arith, new-few l)
-new-few (c-app a b ∷ l) = omega (arith, new-few l)
-new-few (c-new t a ∷ l) = omega (arith, new-few l)
-new-few (c-asg a b ∷ l) = omega (arith, new-few l)
-new-few (c-read a ∷ l) = omega (arith, new-few l)
-new-few (c-sum i a b ∷ l) = omega (arith, new-few l)
-new-few (c-test a b c t ∷ l) = omega (arith, new-few l)
-new-few (c-lim ks b ∷ l) = omega (arith, new-few l)
-new-few (c-grant a b ∷ l) = omega (arith, new-few l)
-new-few (c-newkey v r a b t ∷ l) = omega (arith, new-few l)
-new-few (c-assoc a b ∷ l) = omega (arith, new-few l)
+new-few (k ∷ l) = omega (arith, length-append (bindsName k) (newKeys l), bound-few (bound k), new-few l)
 
 pow-wider : {s N M : ℕ} → s < 2 ^ N → N ≤ M → s < 2 ^ M
 pow-wider {s} {N} {M} h l = let z : 2 ^ N ≤ 2 ^ M = pow-le-pow-right (omega arith) l in omega arith

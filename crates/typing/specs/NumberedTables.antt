@@ -4,7 +4,7 @@ use mathlib.Core.Path.{_≡_, refl, sym, ap, _∙_, subst, subst⁻¹}
 use Prim.Native.Nat.{ℕ, zero, suc, _+_, _*_, _^_, _≤_, _<_}
 use native.Mathlib.Omega.{arith}
 use mathlib.Core.Bool.{Bool, true, false, cond}
-use mathlib.Core.List.{List, [], _∷_, _++_, map, flatMap, append-assoc, append-nil, List·Memᴰ, List·Memᴰ·head, List·Memᴰ·tail, List·Memᴰ·not-nil}
+use mathlib.Core.List.{List, [], _∷_, _++_, map, flatMap, append-assoc, append-nil, List·Memᴰ, List·Memᴰ·head, List·Memᴰ·tail, List·Memᴰ·not-nil, List·Memᴰ·append-cases}
 use mathlib.Core.Option.{Option, some, Option·none-ne-some, Option·some-injective}
 use mathlib.Core.Logic.{_≢_, _⊎_, inl, inr}
 use lib.ListN.{length, length-append, getElem?}
@@ -16,16 +16,17 @@ use Rattle.order.specs.SetLaws.{lt-bit, bit-mem, all-of→}
 use Rattle.order.specs.Effects.{Effect}
 use Rattle.syntax.specs.Types.{Ty, pair, lim, grant, TypeEntry, e-num, e-pair, e-cell, e-fn, e-lim, e-grant, entryTree, tree}
 use Rattle.syntax.specs.TypeLaws.{Part, of-pair-1, of-pair-2, of-cell, of-fn-1, of-fn-2, Earlier, tree-entry, tree-kept}
-use Rattle.syntax.specs.Commands.{Cmd, c-num, c-top, c-var, c-pair, c-part, c-fn, c-app, c-new, c-asg, c-read, c-sum, c-test, c-lim, c-grant, c-newkey, c-assoc, mapCmd}
+use Rattle.syntax.specs.Commands.{Cmd, mapCmd}
 use Rattle.syntax.specs.Operands.{nth, typesOf, bindsName}
+use Rattle.syntax.specs.RowLaws.{Bound, bound-none, bound-type, bound-keys, bound}
 use Rattle.syntax.specs.Job.{Name, HostValue, Job, valueOf, sourceOf}
 use Rattle.syntax.specs.Reading.{declared, localName, setOk, partsOk, hostValueOk}
 use Rattle.syntax.specs.ReadLaws.{TypesOk, JobOk, built-at}
 use Rattle.syntax.specs.ReadFormed.{entry-parts, types-earlier, declared-lt, cmds-formed}
-use Rattle.syntax.specs.Tree.{Entry, e-var, e-name, binds, boundBy, hostCtx}
-use Rattle.syntax.specs.Scope.{VarIn, v-here, v-var, v-name, host-var}
+use Rattle.syntax.specs.Tree.{Entry, e-var, e-name, entriesOf, binds, boundBy, hostCtx}
+use Rattle.syntax.specs.Scope.{VarIn, v-here, v-var, v-name, binds-map, host-var}
 use Rattle.typing.specs.Least.{typeIn, varType}
-use Rattle.typing.specs.Layout.{newKeys, keyEntries, Typing, hostVars, boundVars, entryOf, varEntry}
+use Rattle.typing.specs.Layout.{newKeys, keyEntries, Typing, hostVars, keysEnd, typingsOf, boundVars, entryOf, varEntry}
 use Rattle.typing.specs.Numbered.{keyIn, startOf}
 
 -- an entry that may stand at n, where D types are declared and there are N names
@@ -187,24 +188,17 @@ module _ (ts : List TypeEntry) {D N : ℕ} {E : List TypeEntry} (ok : TableOk D 
 
   bound-at : (l : List (Cmd ℕ)) (n : ℕ) → ((i t : ℕ) → List·Memᴰ t (typesOf (nth l i)) → t < length ts) → KeysAt E n (newKeys l) → (Γ : List Entry) (L : List Typing)
       → ((A : Ty) → typeIn Γ x ≡ some A → TreeAt E A (entryOf L x)) → (A : Ty) → typeIn (boundBy (map (mapCmd (tree ts)) l) ++ Γ) x ≡ some A → TreeAt E A (entryOf (boundVars n l ++ L) x)
-  unfolding newKeys boundVars boundBy binds mapCmd typeIn entryOf typesOf nth flatMap
+  unfolding newKeys boundVars boundBy binds typeIn entryOf nth flatMap
   bound-at [] n t k Γ L f A e = f A e
-  bound-at (c-num y ∷ l) n t k Γ L f A e = bound-at l n (λ i. t (suc i)) k Γ L f A e
-  bound-at (c-top ∷ l) n t k Γ L f A e = bound-at l n (λ i. t (suc i)) k Γ L f A e
-  bound-at (c-var v ∷ l) n t k Γ L f A e = bound-at l n (λ i. t (suc i)) k Γ L f A e
-  bound-at (c-pair a b ∷ l) n t k Γ L f A e = bound-at l n (λ i. t (suc i)) k Γ L f A e
-  bound-at (c-part a i ∷ l) n t k Γ L f A e = bound-at l n (λ i. t (suc i)) k Γ L f A e
-  bound-at (c-fn v u b ∷ l) n t k Γ L f A e = by-test (eqb x v) (kept u (t 0 u (List·Memᴰ·head refl))) (λ B h. bound-at l n (λ i. t (suc i)) k Γ L f B h) A e
-  bound-at (c-app a b ∷ l) n t k Γ L f A e = bound-at l n (λ i. t (suc i)) k Γ L f A e
-  bound-at (c-new u a ∷ l) n t k Γ L f A e = bound-at l n (λ i. t (suc i)) k Γ L f A e
-  bound-at (c-asg a b ∷ l) n t k Γ L f A e = bound-at l n (λ i. t (suc i)) k Γ L f A e
-  bound-at (c-read a ∷ l) n t k Γ L f A e = bound-at l n (λ i. t (suc i)) k Γ L f A e
-  bound-at (c-sum i a b ∷ l) n t k Γ L f A e = bound-at l n (λ i. t (suc i)) k Γ L f A e
-  bound-at (c-test a b c u ∷ l) n t k Γ L f A e = bound-at l n (λ i. t (suc i)) k Γ L f A e
-  bound-at (c-lim ks b ∷ l) n t k Γ L f A e = bound-at l n (λ i. t (suc i)) k Γ L f A e
-  bound-at (c-grant a b ∷ l) n t k Γ L f A e = bound-at l n (λ i. t (suc i)) k Γ L f A e
-  bound-at (c-newkey v r a b u ∷ l) n t (at-key p q w k) Γ L f A e = by-test (eqb x v) (key-tree p q w) (λ B h. bound-at l (3 + n) (λ i. t (suc i)) k Γ L f B h) A e
-  bound-at (c-assoc a b ∷ l) n t k Γ L f A e = bound-at l n (λ i. t (suc i)) k Γ L f A e
+  bound-at (c ∷ l) n t k Γ L f A e =
+      one (newKeys l) (boundBy (map (mapCmd (tree ts)) l)) (boundVars (keysEnd n (bindsName c)) l) (bound c) (t 0) k (λ h. bound-at l (keysEnd n (bindsName c)) (λ i. t (suc i)) h Γ L f) A (subst (λ Δ. typeIn ((Δ ++ boundBy (map (mapCmd (tree ts)) l)) ++ Γ) x ≡ some A) (binds-map (tree ts) c) e)
+    where
+      one : (m : List ℕ) (Δ : List Entry) (M : List Typing) {ps us qs rs : List ℕ} → Bound ps us qs rs → ((u : ℕ) → List·Memᴰ u us → u < length ts) → KeysAt E n (rs ++ m)
+          → (KeysAt E (keysEnd n rs) m → (A : Ty) → typeIn (Δ ++ Γ) x ≡ some A → TreeAt E A (entryOf (M ++ L) x))
+          → (A : Ty) → typeIn ((entriesOf ps (map (tree ts) us) qs rs ++ Δ) ++ Γ) x ≡ some A → TreeAt E A (entryOf ((typingsOf n ps us qs ++ M) ++ L) x)
+      one m Δ M bound-none t k f A e = f k A e
+      one m Δ M (bound-type {v = v} {t = u}) t k f A e = by-test (eqb x v) (kept u (t u (List·Memᴰ·head refl))) (f k) A e
+      one m Δ M (bound-keys {v = v}) t (at-key p q w k) f A e = by-test (eqb x v) (key-tree p q w) (f k) A e
 
 -- the host's variables, in order
 host-at : (hs : List (HostValue ℕ)) (v i x : ℕ) (h : HostValue ℕ) → x ≡ v + i → getElem? hs i ≡ some h → entryOf (hostVars v hs) x ≡ h .ty
@@ -223,23 +217,11 @@ map-at f (x ∷ l) (suc i) b e = map-at f l i b e
 new-name : (l : List (Cmd ℕ)) (r : ℕ) → List·Memᴰ r (newKeys l) → (i : ℕ) × List·Memᴰ r (bindsName (nth l i))
 unfolding newKeys bindsName nth
 new-name [] r m = absurd (List·Memᴰ·not-nil m)
-new-name (c-num y ∷ l) r m = let z = new-name l r m in (suc (z .0), z .1)
-new-name (c-top ∷ l) r m = let z = new-name l r m in (suc (z .0), z .1)
-new-name (c-var v ∷ l) r m = let z = new-name l r m in (suc (z .0), z .1)
-new-name (c-pair a b ∷ l) r m = let z = new-name l r m in (suc (z .0), z .1)
-new-name (c-part a i ∷ l) r m = let z = new-name l r m in (suc (z .0), z .1)
-new-name (c-fn v t b ∷ l) r m = let z = new-name l r m in (suc (z .0), z .1)
-new-name (c-app a b ∷ l) r m = let z = new-name l r m in (suc (z .0), z .1)
-new-name (c-new t a ∷ l) r m = let z = new-name l r m in (suc (z .0), z .1)
-new-name (c-asg a b ∷ l) r m = let z = new-name l r m in (suc (z .0), z .1)
-new-name (c-read a ∷ l) r m = let z = new-name l r m in (suc (z .0), z .1)
-new-name (c-sum i a b ∷ l) r m = let z = new-name l r m in (suc (z .0), z .1)
-new-name (c-test a b c t ∷ l) r m = let z = new-name l r m in (suc (z .0), z .1)
-new-name (c-lim ks b ∷ l) r m = let z = new-name l r m in (suc (z .0), z .1)
-new-name (c-grant a b ∷ l) r m = let z = new-name l r m in (suc (z .0), z .1)
-new-name (c-newkey v s a b t ∷ l) r (List·Memᴰ·head e) = (0, List·Memᴰ·head e)
-new-name (c-newkey v s a b t ∷ l) r (List·Memᴰ·tail m) = let z = new-name l r m in (suc (z .0), z .1)
-new-name (c-assoc a b ∷ l) r m = let z = new-name l r m in (suc (z .0), z .1)
+new-name (k ∷ l) r m = at (List·Memᴰ·append-cases (bindsName k) m) (λ w. new-name l r w)
+  where
+    at : List·Memᴰ r (bindsName k) ⊎ List·Memᴰ r (newKeys l) → (List·Memᴰ r (newKeys l) → (i : ℕ) × List·Memᴰ r (bindsName (nth l i))) → (i : ℕ) × List·Memᴰ r (bindsName (nth (k ∷ l) i))
+    at (inl w) f = (0, w)
+    at (inr w) f = let z = f w in (suc (z .0), z .1)
 
 pub local-lt : (ds : List Name) (r : ℕ) → localName ds r ≡ true → r < 2 + length ds
 unfolding localName
