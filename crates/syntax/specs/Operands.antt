@@ -56,19 +56,19 @@ module _ {T : Type 0} where
   types (type t ∷ os) = t ∷ types os
 
   -- the numbers of a command's operands that have one of the roles
-  unfoldable pub with : List Role → Cmd T → List ℕ
+  unfoldable pub ofRoles : List Role → Cmd T → List ℕ
   unfolding having form row
-  with ws k = having ws (form (row k .op) .roles) (row k .given)
+  ofRoles ws k = having ws (form (row k .op) .roles) (row k .given)
 
   -- the operands in which nothing new is in scope
   unfoldable pub plain : Cmd T → List ℕ
-  unfolding with
-  plain k = with (r-evaluated ∷ r-keys ∷ r-entered ∷ []) k
+  unfolding ofRoles
+  plain k = ofRoles (r-evaluated ∷ r-keys ∷ r-entered ∷ []) k
 
   -- the body of a binder
   unfoldable pub inner : Cmd T → List ℕ
-  unfolding with
-  inner k = with (r-inside ∷ []) k
+  unfolding ofRoles
+  inner k = ofRoles (r-inside ∷ []) k
 
   -- every operand that is an expression
   unfoldable pub children : Cmd T → List ℕ
@@ -76,8 +76,8 @@ module _ {T : Type 0} where
 
   -- the operands that are evaluated before the act
   unfoldable pub evaluated : Cmd T → List ℕ
-  unfolding with
-  evaluated k = with (r-evaluated ∷ r-keys ∷ []) k
+  unfolding ofRoles
+  evaluated k = ofRoles (r-evaluated ∷ r-keys ∷ []) k
 
   -- the type operand
   unfoldable pub typesOf : Cmd T → List T
@@ -86,15 +86,15 @@ module _ {T : Type 0} where
 
   -- the variable that is used
   unfoldable pub usesVar : Cmd T → List ℕ
-  unfolding with
-  usesVar k = with (r-variable ∷ []) k
+  unfolding ofRoles
+  usesVar k = ofRoles (r-variable ∷ []) k
 
   -- the variable that is bound
   unfoldable pub bindsVar : Cmd T → List ℕ
-  unfolding with
-  bindsVar k = with (r-parameter ∷ r-keypair ∷ []) k
+  unfolding ofRoles
+  bindsVar k = ofRoles (r-parameter ∷ r-keypair ∷ []) k
 
   -- the local name that is bound
   unfoldable pub bindsName : Cmd T → List ℕ
-  unfolding with
-  bindsName k = with (r-local ∷ []) k
+  unfolding ofRoles
+  bindsName k = ofRoles (r-local ∷ []) k

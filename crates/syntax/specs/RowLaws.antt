@@ -11,7 +11,7 @@ use borrow.Author.Tests.{eq-eqb, eqb-true}
 use Rattle.order.specs.Bools.{_and_, and-l, and-r}
 use Rattle.syntax.specs.Commands.{Cmd, c-num, c-top, c-var, c-pair, c-part, c-fn, c-app, c-new, c-asg, c-read, c-sum, c-test, c-lim, c-grant, c-newkey, c-assoc, mapCmd}
 use Rattle.syntax.specs.Commands.{Role, r-parameter, r-keypair, form, Operand, numbers, type, Row, row-of, row}
-use Rattle.syntax.specs.Operands.{code, wanted, someWanted, having, types, with, plain, inner, children, evaluated, typesOf, bindsVar, bindsName}
+use Rattle.syntax.specs.Operands.{code, wanted, someWanted, having, types, ofRoles, plain, inner, children, evaluated, typesOf, bindsVar, bindsName}
 
 -- Roles that are wanted
 
@@ -127,16 +127,16 @@ module _ {T : Type 0} where
   having-nothing (r ∷ rs) (numbers l ∷ os) = having-nothing rs os
   having-nothing (r ∷ rs) (type t ∷ os) = having-nothing rs os
 
-  pub with-split : (us ws vs : List Role) → among us (ws ++ vs) ≡ true → (k : Cmd T) {n : ℕ} → List·Memᴰ n (with us k) → List·Memᴰ n (with ws k) ⊎ List·Memᴰ n (with vs k)
-  unfolding with
-  with-split us ws vs a k m = having-split us ws vs a (form (row k .op) .roles) (row k .given) m
+  pub roles-split : (us ws vs : List Role) → among us (ws ++ vs) ≡ true → (k : Cmd T) {n : ℕ} → List·Memᴰ n (ofRoles us k) → List·Memᴰ n (ofRoles ws k) ⊎ List·Memᴰ n (ofRoles vs k)
+  unfolding ofRoles
+  roles-split us ws vs a k m = having-split us ws vs a (form (row k .op) .roles) (row k .given) m
 
   -- more roles, more numbers
-  pub with-among : (ws vs : List Role) → among ws vs ≡ true → (k : Cmd T) {n : ℕ} → List·Memᴰ n (with ws k) → List·Memᴰ n (with vs k)
-  unfolding with
-  with-among ws vs a k {n} m = at (with-split ws vs [] (subst⁻¹ (λ z. among ws z ≡ true) (append-nil vs) a) k m)
+  pub roles-among : (ws vs : List Role) → among ws vs ≡ true → (k : Cmd T) {n : ℕ} → List·Memᴰ n (ofRoles ws k) → List·Memᴰ n (ofRoles vs k)
+  unfolding ofRoles
+  roles-among ws vs a k {n} m = at (roles-split ws vs [] (subst⁻¹ (λ z. among ws z ≡ true) (append-nil vs) a) k m)
     where
-      at : List·Memᴰ n (with vs k) ⊎ List·Memᴰ n (with [] k) → List·Memᴰ n (with vs k)
+      at : List·Memᴰ n (ofRoles vs k) ⊎ List·Memᴰ n (ofRoles [] k) → List·Memᴰ n (ofRoles vs k)
       at (inl w) = w
       at (inr w) = absurd (List·Memᴰ·not-nil (subst (λ z. List·Memᴰ n z) (having-nothing (form (row k .op) .roles) (row k .given)) w))
 
@@ -147,8 +147,8 @@ pub data Bound {T : Type 0} : List ℕ → List T → List ℕ → List ℕ → 
   bound-type : {v : ℕ} {t : T} → Bound (v ∷ []) (t ∷ []) [] []
   bound-keys : {v r : ℕ} {ts : List T} → Bound [] ts (v ∷ []) (r ∷ [])
 
-pub bound : {T : Type 0} (k : Cmd T) → Bound (with (r-parameter ∷ []) k) (typesOf k) (with (r-keypair ∷ []) k) (bindsName k)
-unfolding with typesOf bindsName
+pub bound : {T : Type 0} (k : Cmd T) → Bound (ofRoles (r-parameter ∷ []) k) (typesOf k) (ofRoles (r-keypair ∷ []) k) (bindsName k)
+unfolding ofRoles typesOf bindsName
 bound (c-num n) = bound-none
 bound c-top = bound-none
 bound (c-var v) = bound-none
@@ -212,25 +212,25 @@ module _ {T U : Type 0} (f : T → U) where
   types-map (type t ∷ os) = ap (λ m. f t ∷ m) (types-map os)
 
   -- the numbers of each role stay
-  pub with-map : (ws : List Role) (k : Cmd T) → with ws (mapCmd f k) ≡ with ws k
-  unfolding with
-  with-map ws k = ap (λ (r : Row U). having ws (form (r .op) .roles) (r .given)) (row-map k) ∙ having-map ws (form (row k .op) .roles) (row k .given)
+  pub roles-map : (ws : List Role) (k : Cmd T) → ofRoles ws (mapCmd f k) ≡ ofRoles ws k
+  unfolding ofRoles
+  roles-map ws k = ap (λ (r : Row U). having ws (form (r .op) .roles) (r .given)) (row-map k) ∙ having-map ws (form (row k .op) .roles) (row k .given)
 
   pub evaluated-map : (k : Cmd T) → evaluated (mapCmd f k) ≡ evaluated k
   unfolding evaluated
-  evaluated-map k = with-map _ k
+  evaluated-map k = roles-map _ k
 
   pub children-map : (k : Cmd T) → children (mapCmd f k) ≡ children k
   unfolding children plain inner
-  children-map k = ap₂ (λ l m. l ++ m) (with-map _ k) (with-map _ k)
+  children-map k = ap₂ (λ l m. l ++ m) (roles-map _ k) (roles-map _ k)
 
   pub bindsVar-map : (k : Cmd T) → bindsVar (mapCmd f k) ≡ bindsVar k
   unfolding bindsVar
-  bindsVar-map k = with-map _ k
+  bindsVar-map k = roles-map _ k
 
   pub bindsName-map : (k : Cmd T) → bindsName (mapCmd f k) ≡ bindsName k
   unfolding bindsName
-  bindsName-map k = with-map _ k
+  bindsName-map k = roles-map _ k
 
   pub typesOf-map : (k : Cmd T) → typesOf (mapCmd f k) ≡ map f (typesOf k)
   unfolding typesOf

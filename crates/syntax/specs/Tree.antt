@@ -9,7 +9,7 @@ use Rattle.order.specs.Bools.{_and_}
 use Rattle.order.specs.Sets.{some-of, all-of}
 use Rattle.syntax.specs.Types.{Ty, pair, lim, grant, namesIn}
 use Rattle.syntax.specs.Commands.{Cmd, r-parameter, r-keypair}
-use Rattle.syntax.specs.Operands.{nth, with, children, inner, typesOf, usesVar, bindsName}
+use Rattle.syntax.specs.Operands.{nth, ofRoles, children, inner, typesOf, usesVar, bindsName}
 use Rattle.syntax.specs.Job.{Name, HostValue, Src}
 use Rattle.syntax.specs.Reading.{Refusal}
 
@@ -29,8 +29,8 @@ entriesOf ps ts qs rs = zipWith e-var ps ts ++ (zipWith (λ v r. e-var v (keyPai
 
 -- what a command binds in its body
 unfoldable pub binds : Cmd Ty → List Entry
-unfolding entriesOf with typesOf bindsName
-binds k = entriesOf (with (r-parameter ∷ []) k) (typesOf k) (with (r-keypair ∷ []) k) (bindsName k)
+unfolding entriesOf ofRoles typesOf bindsName
+binds k = entriesOf (ofRoles (r-parameter ∷ []) k) (typesOf k) (ofRoles (r-keypair ∷ []) k) (bindsName k)
 
 unfoldable pub varsOf : List Entry → List ℕ
 varsOf [] = []

@@ -20,9 +20,9 @@ use Rattle.syntax.specs.Types.{TypeEntry, e-num, e-pair, e-cell, e-fn, e
 use Rattle.syntax.specs.Commands.{Cmd, c-num, c-top, c-var, c-pair, c-part, c-fn, c-app, c-new, c-asg, c-read, c-sum, c-test, c-lim, c-grant, c-newkey, c-assoc}
 use Rattle.syntax.specs.Commands.{Op, o-host, o-local, o-number, o-pair, o-cell, o-function, o-limit, o-grant, o-value, o-rights, o-end, opOf, operands, width, sectionOf, little, fields}
 use Rattle.syntax.specs.Commands.{x-number, x-top, x-variable, x-pair, x-part, x-function, x-apply, x-cell, x-assign, x-read, x-sum, x-test, x-limit, x-grant, x-newkey, x-associate}
-use Rattle.syntax.specs.Commands.{r-evaluated, r-entered, r-inside, r-count, r-keys, r-unused, r-number}
-use Rattle.syntax.specs.Operands.{nth, wanted, with, plain, inner, children, typesOf, usesVar, bindsVar, bindsName}
-use Rattle.syntax.specs.RowLaws.{among, with-among, with-split}
+use Rattle.syntax.specs.Commands.{Role, r-evaluated, r-entered, r-inside, r-count, r-keys, r-unused, r-number, Operand, numbers, type, row}
+use Rattle.syntax.specs.Operands.{nth, wanted, ofRoles, plain, inner, children, typesOf, usesVar, bindsVar, bindsName}
+use Rattle.syntax.specs.RowLaws.{among, roles-among, roles-split}
 use Rattle.syntax.specs.Job.{Name, HostValue, Job}
 use Rattle.syntax.specs.Reading.{Refusal, State, declared, localName, setOk, nameOk, partsOk, typeOk, hostValueOk, rightsOk, cmdOk}
 use Rattle.syntax.specs.Reading.{Written, w-name, w-type, w-value, w-rights, w-cmd, w-end, unwritten, partOf, sumOf, limitOf, written, given, enter, misplaced, full}
@@ -40,8 +40,8 @@ pub record CmdFits (k : Cmd ℕ) : Type 0 where
   pub used-variable : (v : ℕ) → List·Memᴰ v (usesVar k) → v < 64
   pub bound-variable : (v : ℕ) → List·Memᴰ v (bindsVar k) → v < 64
   pub bound-name : (r : ℕ) → List·Memᴰ r (bindsName k) → r < 64
-  pub number : (n : ℕ) → List·Memᴰ n (with (r-number ∷ []) k) → n < 4294967296
-  pub few-keys : (c : ℕ) → List·Memᴰ c (with (r-count ∷ []) k) → c ≤ 4
+  pub number : (n : ℕ) → List·Memᴰ n (ofRoles (r-number ∷ []) k) → n < 4294967296
+  pub few-keys : (c : ℕ) → List·Memᴰ c (ofRoles (r-count ∷ []) k) → c ≤ 4
 
 -- an entry of the type table whose numbers fit its words
 pub data TypeFits : TypeEntry → Type 0 where
@@ -162,38 +162,49 @@ two-high v r h k = let z : (v + 256 * r) / 256 ≡ r = omega arith in ap (λ n. 
 first : {a : ℕ} {l : List ℕ} → List·Memᴰ a (a ∷ l)
 first = List·Memᴰ·head refl
 
--- an expression's words: it is read back from its head and its five places, and the head is a word of 64 bits
+-- the numbers of an expression's operands, in the order written
+unfoldable pub numbersIn : List (Operand ℕ) → List ℕ
+numbersIn [] = []
+numbersIn (numbers l ∷ os) = l ++ numbersIn os
+numbersIn (type t ∷ os) = t ∷ numbersIn os
+
+abbrev pub numbersOf : Cmd ℕ → List ℕ
+numbersOf k = numbersIn (row k .given)
+
+-- an expression's words: it is read back from its head and its five places, and the head is a word of 64 bits; and its operands: it is what they write, one for each width
 pub record InWords (k : Cmd ℕ) : Type 0 where
   pub back : decode (headWord k % 256) (headWord k / 256 % 4294967296) (getD (slots k) 0 0) (getD (slots k) 1 0) (getD (slots k) 2 0) (getD (slots k) 3 0) (getD (slots k) 4 0) ≡ k
   pub five : length (slots k) ≡ 5
   pub low : headWord k < 18446744073709551616
+  pub writes : written (row k .op) (numbersOf k) ≡ w-cmd k
+  pub wide : length (numbersOf k) ≡ length (operands (row k .op))
 
 pub in-words : (k : Cmd ℕ) → CmdFits k → InWords k
-unfolding headWord slots decode usesVar bindsVar bindsName with
-in-words (c-num n) f = let h = f .number n first in record { back = head-parts 0x30 n 0 0 0 0 0 (omega arith) h; five = refl; low = omega arith }
-in-words c-top f = record { back = head-parts 0x31 0 0 0 0 0 0 (omega arith) (omega arith); five = refl; low = omega arith }
+unfolding headWord slots decode usesVar bindsVar bindsName ofRoles numbersIn row written partOf sumOf limitOf all-of operands _and_
+in-words (c-num n) f = let h = f .number n first in record { back = head-parts 0x30 n 0 0 0 0 0 (omega arith) h; five = refl; low = omega arith; writes = refl; wide = refl }
+in-words c-top f = record { back = head-parts 0x31 0 0 0 0 0 0 (omega arith) (omega arith); five = refl; low = omega arith; writes = refl; wide = refl }
 in-words (c-var v) f =
-    let h = f .used-variable v first in record { back = head-parts 0x32 v 0 0 0 0 0 (omega arith) (omega arith) ∙ ap c-var (low-byte v (omega arith)); five = refl; low = omega arith }
-in-words (c-pair a b) f = record { back = head-parts 0x33 0 a b 0 0 0 (omega arith) (omega arith); five = refl; low = omega arith }
-in-words (c-part a true) f = record { back = head-parts 0x34 1 a 0 0 0 0 (omega arith) (omega arith); five = refl; low = omega arith }
-in-words (c-part a false) f = record { back = head-parts 0x34 2 a 0 0 0 0 (omega arith) (omega arith); five = refl; low = omega arith }
+    let h = f .used-variable v first in record { back = head-parts 0x32 v 0 0 0 0 0 (omega arith) (omega arith) ∙ ap c-var (low-byte v (omega arith)); five = refl; low = omega arith; writes = refl; wide = refl }
+in-words (c-pair a b) f = record { back = head-parts 0x33 0 a b 0 0 0 (omega arith) (omega arith); five = refl; low = omega arith; writes = refl; wide = refl }
+in-words (c-part a true) f = record { back = head-parts 0x34 1 a 0 0 0 0 (omega arith) (omega arith); five = refl; low = omega arith; writes = refl; wide = refl }
+in-words (c-part a false) f = record { back = head-parts 0x34 2 a 0 0 0 0 (omega arith) (omega arith); five = refl; low = omega arith; writes = refl; wide = refl }
 in-words (c-fn v t b) f =
     let h = f .bound-variable v first in
-    record { back = head-parts 0x35 v b t 0 0 0 (omega arith) (omega arith) ∙ ap (λ n. c-fn n t b) (low-byte v (omega arith)); five = refl; low = omega arith }
-in-words (c-app a b) f = record { back = head-parts 0x36 0 a b 0 0 0 (omega arith) (omega arith); five = refl; low = omega arith }
-in-words (c-new t a) f = record { back = head-parts 0x37 0 a t 0 0 0 (omega arith) (omega arith); five = refl; low = omega arith }
-in-words (c-asg a b) f = record { back = head-parts 0x38 0 a b 0 0 0 (omega arith) (omega arith); five = refl; low = omega arith }
-in-words (c-read a) f = record { back = head-parts 0x39 0 a 0 0 0 0 (omega arith) (omega arith); five = refl; low = omega arith }
-in-words (c-sum true a b) f = record { back = head-parts 0x3A 0 a b 0 0 0 (omega arith) (omega arith); five = refl; low = omega arith }
-in-words (c-sum false a b) f = record { back = head-parts 0x3A 1 a b 0 0 0 (omega arith) (omega arith); five = refl; low = omega arith }
-in-words (c-test a b c t) f = record { back = head-parts 0x3B 0 a b c t 0 (omega arith) (omega arith); five = refl; low = omega arith }
-in-words (c-lim [] b) f = record { back = head-parts 0x3C 0 0xFFFF 0xFFFF 0xFFFF 0xFFFF b (omega arith) (omega arith); five = refl; low = omega arith }
-in-words (c-lim (x ∷ []) b) f = record { back = head-parts 0x3C 1 x 0xFFFF 0xFFFF 0xFFFF b (omega arith) (omega arith); five = refl; low = omega arith }
-in-words (c-lim (x ∷ y ∷ []) b) f = record { back = head-parts 0x3C 2 x y 0xFFFF 0xFFFF b (omega arith) (omega arith); five = refl; low = omega arith }
-in-words (c-lim (x ∷ y ∷ z ∷ []) b) f = record { back = head-parts 0x3C 3 x y z 0xFFFF b (omega arith) (omega arith); five = refl; low = omega arith }
-in-words (c-lim (x ∷ y ∷ z ∷ w ∷ []) b) f = record { back = head-parts 0x3C 4 x y z w b (omega arith) (omega arith); five = refl; low = omega arith }
+    record { back = head-parts 0x35 v b t 0 0 0 (omega arith) (omega arith) ∙ ap (λ n. c-fn n t b) (low-byte v (omega arith)); five = refl; low = omega arith; writes = refl; wide = refl }
+in-words (c-app a b) f = record { back = head-parts 0x36 0 a b 0 0 0 (omega arith) (omega arith); five = refl; low = omega arith; writes = refl; wide = refl }
+in-words (c-new t a) f = record { back = head-parts 0x37 0 a t 0 0 0 (omega arith) (omega arith); five = refl; low = omega arith; writes = refl; wide = refl }
+in-words (c-asg a b) f = record { back = head-parts 0x38 0 a b 0 0 0 (omega arith) (omega arith); five = refl; low = omega arith; writes = refl; wide = refl }
+in-words (c-read a) f = record { back = head-parts 0x39 0 a 0 0 0 0 (omega arith) (omega arith); five = refl; low = omega arith; writes = refl; wide = refl }
+in-words (c-sum true a b) f = record { back = head-parts 0x3A 0 a b 0 0 0 (omega arith) (omega arith); five = refl; low = omega arith; writes = refl; wide = refl }
+in-words (c-sum false a b) f = record { back = head-parts 0x3A 1 a b 0 0 0 (omega arith) (omega arith); five = refl; low = omega arith; writes = refl; wide = refl }
+in-words (c-test a b c t) f = record { back = head-parts 0x3B 0 a b c t 0 (omega arith) (omega arith); five = refl; low = omega arith; writes = refl; wide = refl }
+in-words (c-lim [] b) f = record { back = head-parts 0x3C 0 0xFFFF 0xFFFF 0xFFFF 0xFFFF b (omega arith) (omega arith); five = refl; low = omega arith; writes = refl; wide = refl }
+in-words (c-lim (x ∷ []) b) f = record { back = head-parts 0x3C 1 x 0xFFFF 0xFFFF 0xFFFF b (omega arith) (omega arith); five = refl; low = omega arith; writes = refl; wide = refl }
+in-words (c-lim (x ∷ y ∷ []) b) f = record { back = head-parts 0x3C 2 x y 0xFFFF 0xFFFF b (omega arith) (omega arith); five = refl; low = omega arith; writes = refl; wide = refl }
+in-words (c-lim (x ∷ y ∷ z ∷ []) b) f = record { back = head-parts 0x3C 3 x y z 0xFFFF b (omega arith) (omega arith); five = refl; low = omega arith; writes = refl; wide = refl }
+in-words (c-lim (x ∷ y ∷ z ∷ w ∷ []) b) f = record { back = head-parts 0x3C 4 x y z w b (omega arith) (omega arith); five = refl; low = omega arith; writes = refl; wide = refl }
 in-words (c-lim (x ∷ y ∷ z ∷ w ∷ u ∷ ks) b) f = absurd (omega (arith, f .few-keys _ first))
-in-words (c-grant a b) f = record { back = head-parts 0x3D 0 a b 0 0 0 (omega arith) (omega arith); five = refl; low = omega arith }
+in-words (c-grant a b) f = record { back = head-parts 0x3D 0 a b 0 0 0 (omega arith) (omega arith); five = refl; low = omega arith; writes = refl; wide = refl }
 in-words (c-newkey v r a b t) f =
     let h = f .bound-variable v first in
     let k = f .bound-name r first in
@@ -201,8 +212,10 @@ in-words (c-newkey v r a b t) f =
       back = head-parts 0x3E (v + 256 * r) a b t 0 0 (omega arith) (omega arith) ∙ (λ i. c-newkey (two-low v r (omega arith) i) (two-high v r (omega arith) (omega arith) i) a b t);
       five = refl;
       low = omega arith;
+      writes = refl;
+      wide = refl;
     }
-in-words (c-assoc a b) f = record { back = head-parts 0x3F 0 a b 0 0 0 (omega arith) (omega arith); five = refl; low = omega arith }
+in-words (c-assoc a b) f = record { back = head-parts 0x3F 0 a b 0 0 0 (omega arith) (omega arith); five = refl; low = omega arith; writes = refl; wide = refl }
 
 -- from any tables that hold its words
 pub decode-back : (heads places : List ℕ) (e : ℕ) (k : Cmd ℕ) → CmdFits k → getD heads e 0 ≡ headWord k → ((i : ℕ) → i < 5 → getD places (e * 5 + i) 0 ≡ getD (slots k) i 0)
@@ -286,8 +299,8 @@ little-lt (suc k) (b ∷ s) h = omega (arith, pow-succ' 256 k, h 0, little-lt k 
 
 -- what the widths of operands bound
 record Narrow (k : Cmd ℕ) : Type 0 where
-  pub number : (n : ℕ) → List·Memᴰ n (with (r-number ∷ []) k) → n < 4294967296
-  pub few-keys : (c : ℕ) → List·Memᴰ c (with (r-count ∷ []) k) → c ≤ 4
+  pub number : (n : ℕ) → List·Memᴰ n (ofRoles (r-number ∷ []) k) → n < 4294967296
+  pub few-keys : (c : ℕ) → List·Memᴰ c (ofRoles (r-count ∷ []) k) → c ≤ 4
 
 record Slim (J : Job) : Type 0 where
   pub values : (i : ℕ) (h : HostValue ℕ) → getElem? (J .values) i ≡ some h → h .init < 4294967296
@@ -307,32 +320,32 @@ if-thin true k n w = thin-cmd k n
 if-thin false k n w = w
 
 -- neither a number nor keys
-narrow-plain : (k : Cmd ℕ) → with (r-number ∷ r-count ∷ []) k ≡ [] → Narrow k
+narrow-plain : (k : Cmd ℕ) → ofRoles (r-number ∷ r-count ∷ []) k ≡ [] → Narrow k
 unfolding among wanted _and_
-narrow-plain k e = record { number = λ n m. none (with-among (r-number ∷ []) (r-number ∷ r-count ∷ []) refl k m); few-keys = λ c m. none (with-among (r-count ∷ []) (r-number ∷ r-count ∷ []) refl k m) }
+narrow-plain k e = record { number = λ n m. none (roles-among (r-number ∷ []) (r-number ∷ r-count ∷ []) refl k m); few-keys = λ c m. none (roles-among (r-count ∷ []) (r-number ∷ r-count ∷ []) refl k m) }
   where
-    none : {A : Type 0} {n : ℕ} → List·Memᴰ n (with (r-number ∷ r-count ∷ []) k) → A
+    none : {A : Type 0} {n : ℕ} → List·Memᴰ n (ofRoles (r-number ∷ r-count ∷ []) k) → A
     none {n = n} m = absurd (List·Memᴰ·not-nil (subst (λ l. List·Memᴰ n l) e m))
 
-thin-plain : (k : Cmd ℕ) → with (r-number ∷ r-count ∷ []) k ≡ [] → Thin (w-cmd k)
+thin-plain : (k : Cmd ℕ) → ofRoles (r-number ∷ r-count ∷ []) k ≡ [] → Thin (w-cmd k)
 thin-plain k e = thin-cmd k (narrow-plain k e)
 
 thin-part : (a i : ℕ) → Thin (partOf a i)
-unfolding partOf with
+unfolding partOf ofRoles
 thin-part a i = if-thin (eqb i 1) (c-part a true) (narrow-plain _ refl) (if-thin (eqb i 2) (c-part a false) (narrow-plain _ refl) thin-none)
 
 thin-sum : (i a b : ℕ) → Thin (sumOf i a b)
-unfolding sumOf with
+unfolding sumOf ofRoles
 thin-sum i a b = if-thin (eqb i 0) (c-sum true a b) (narrow-plain _ refl) (if-thin (eqb i 1) (c-sum false a b) (narrow-plain _ refl) thin-none)
 
 thin-limit : (c : ℕ) (l : List ℕ) (b : ℕ) → Thin (limitOf c (take 4 l) b)
-unfolding limitOf with
+unfolding limitOf ofRoles
 thin-limit c l b =
     if-thin (leb c 4 and all-of (λ e. eqb e 0xFFFF) (drop c (take 4 l))) (c-lim (take c (take 4 l)) b)
     (record { number = λ n m. absurd (List·Memᴰ·not-nil m); few-keys = λ n m. omega (arith, List·Memᴰ·eq-of-singleton m, length-take c (take 4 l), length-take 4 l) }) thin-none
 
 thin-op : (op : Op) (s : List ℕ) → Bytes s → Thin (written op (fields (operands op) s))
-unfolding written fields operands with
+unfolding written fields operands ofRoles
 thin-op o-host s h = thin-name _
 thin-op o-local s h = thin-name _
 thin-op o-number s h = thin-type _
@@ -477,7 +490,7 @@ cmd-fits {ds} k w d t n x =
     }
 
 past-fits : CmdFits (c-num 0)
-unfolding children plain inner typesOf usesVar bindsVar bindsName with
+unfolding children plain inner typesOf usesVar bindsVar bindsName ofRoles
 past-fits =
     record {
       operand = λ c m. absurd (List·Memᴰ·not-nil m);
@@ -598,8 +611,8 @@ unfolding filled
 small-filled n x {l} h s = small-append s (small-same (n - length l) x h)
 
 -- 3C's places that are not used
-unused-lt : (k : Cmd ℕ) {n : ℕ} → List·Memᴰ n (with (r-unused ∷ []) k) → n < 65536
-unfolding with
+unused-lt : (k : Cmd ℕ) {n : ℕ} → List·Memᴰ n (ofRoles (r-unused ∷ []) k) → n < 65536
+unfolding ofRoles
 unused-lt (c-lim ks b) m = same (4 - length ks) m
   where
     same : (i : ℕ) {n : ℕ} → List·Memᴰ n (replicate i 0xFFFF) → n < 65536
@@ -607,21 +620,21 @@ unused-lt (c-lim ks b) m = same (4 - length ks) m
     same (suc i) (List·Memᴰ·head e) = omega arith
     same (suc i) (List·Memᴰ·tail m) = same i m
 
-place-lt : (k : Cmd ℕ) → CmdFits k → (c : ℕ) → List·Memᴰ c (with placeRoles k) → c < 65536
+place-lt : (k : Cmd ℕ) → CmdFits k → (c : ℕ) → List·Memᴰ c (ofRoles placeRoles k) → c < 65536
 unfolding children plain inner among wanted _and_
-place-lt k f c m = at (with-split placeRoles (r-evaluated ∷ r-keys ∷ r-entered ∷ []) (r-inside ∷ r-unused ∷ []) refl k m)
+place-lt k f c m = at (roles-split placeRoles (r-evaluated ∷ r-keys ∷ r-entered ∷ []) (r-inside ∷ r-unused ∷ []) refl k m)
   where
-    body : List·Memᴰ c (with (r-inside ∷ []) k) ⊎ List·Memᴰ c (with (r-unused ∷ []) k) → c < 65536
+    body : List·Memᴰ c (ofRoles (r-inside ∷ []) k) ⊎ List·Memᴰ c (ofRoles (r-unused ∷ []) k) → c < 65536
     body (inl w) = omega (arith, f .operand c (Memᴰ·append-right (plain k) w))
     body (inr w) = unused-lt k w
 
-    at : List·Memᴰ c (with (r-evaluated ∷ r-keys ∷ r-entered ∷ []) k) ⊎ List·Memᴰ c (with (r-inside ∷ r-unused ∷ []) k) → c < 65536
+    at : List·Memᴰ c (ofRoles (r-evaluated ∷ r-keys ∷ r-entered ∷ []) k) ⊎ List·Memᴰ c (ofRoles (r-inside ∷ r-unused ∷ []) k) → c < 65536
     at (inl w) = omega (arith, f .operand c (Memᴰ·append-left (inner k) w))
-    at (inr w) = body (with-split (r-inside ∷ r-unused ∷ []) (r-inside ∷ []) (r-unused ∷ []) refl k w)
+    at (inr w) = body (roles-split (r-inside ∷ r-unused ∷ []) (r-inside ∷ []) (r-unused ∷ []) refl k w)
 
 small-slots : (k : Cmd ℕ) → CmdFits k → Small (slots k)
 unfolding slots
-small-slots k f = small-filled 5 0 (omega arith) (small-append (small-mem (with placeRoles k) (place-lt k f)) (small-mem (typesOf k) (λ t m. omega (arith, f .type-operand t m))))
+small-slots k f = small-filled 5 0 (omega arith) (small-append (small-mem (ofRoles placeRoles k) (place-lt k f)) (small-mem (typesOf k) (λ t m. omega (arith, f .type-operand t m))))
 
 pub slot-lt : (k : Cmd ℕ) → CmdFits k → (i : ℕ) → getD (slots k) i 0 < 65536
 slot-lt k f i = small-at (small-slots k f) i

@@ -8,7 +8,7 @@ use lib.Dec.{eqb}
 use Rattle.syntax.specs.Types.{TypeEntry, e-num, e-pair, e-cell, e-fn, e-lim, e-grant}
 use Rattle.syntax.specs.Commands.{Cmd, c-num, c-top, c-var, c-pair, c-part, c-fn, c-app, c-new, c-asg, c-read, c-sum, c-test, c-lim, c-grant, c-newkey, c-assoc, form, row}
 use Rattle.syntax.specs.Commands.{Role, r-evaluated, r-entered, r-inside, r-count, r-keys, r-unused, r-variable, r-parameter, r-keypair, r-local, r-number, r-choice}
-use Rattle.syntax.specs.Operands.{with, typesOf}
+use Rattle.syntax.specs.Operands.{ofRoles, typesOf}
 use Rattle.syntax.specs.Job.{Name, HostValue, Job}
 
 -- the upper name, and 1 for a host name or 2 for a local one
@@ -53,8 +53,8 @@ abbrev pub headRoles : List Role
 headRoles = r-count ∷ r-variable ∷ r-parameter ∷ r-keypair ∷ r-local ∷ r-number ∷ r-choice ∷ []
 
 unfoldable pub headWord : Cmd ℕ → ℕ
-unfolding with form row packed
-headWord k = headBits (form (row k .op) .byte) (packed (with headRoles k))
+unfolding ofRoles form row packed
+headWord k = headBits (form (row k .op) .byte) (packed (ofRoles headRoles k))
 
 -- a list filled up to n entries
 unfoldable pub filled : ℕ → ℕ → List ℕ → List ℕ
@@ -65,8 +65,8 @@ abbrev pub placeRoles : List Role
 placeRoles = r-evaluated ∷ r-keys ∷ r-unused ∷ r-entered ∷ r-inside ∷ []
 
 unfoldable pub slots : Cmd ℕ → List ℕ
-unfolding with typesOf filled
-slots k = filled 5 0 (with placeRoles k ++ typesOf k)
+unfolding ofRoles typesOf filled
+slots k = filled 5 0 (ofRoles placeRoles k ++ typesOf k)
 
 -- the tables' used entries; names 0 and 1 are not declared by the job
 abbrev pub nameWords : Job → List ℕ

@@ -9,7 +9,7 @@ use lib.Dec.{eqb}
 use Rattle.order.specs.Effects.{Effect}
 use Rattle.syntax.specs.Types.{TypeEntry, e-num, e-pair, e-cell, e-fn, e-lim, e-grant}
 use Rattle.syntax.specs.Commands.{Cmd, c-num, c-top, c-var, c-pair, c-part, c-fn, c-app, c-new, c-asg, c-read, c-sum, c-test, c-lim, c-grant, c-newkey, c-assoc, r-parameter, r-keypair}
-use Rattle.syntax.specs.Operands.{with, typesOf, bindsName}
+use Rattle.syntax.specs.Operands.{ofRoles, typesOf, bindsName}
 use Rattle.syntax.specs.Job.{HostValue, Job}
 
 -- the local names of the 3E's, in order
@@ -47,9 +47,9 @@ typingsOf n ps ts qs = zipWith typing ps ts ++ map (λ v. typing v (2 + n)) qs
 
 -- bound variables; the next 3E's entries start at n
 unfoldable pub boundVars : ℕ → List (Cmd ℕ) → List Typing
-unfolding typingsOf keysEnd with typesOf bindsName
+unfolding typingsOf keysEnd ofRoles typesOf bindsName
 boundVars n [] = []
-boundVars n (k ∷ l) = typingsOf n (with (r-parameter ∷ []) k) (typesOf k) (with (r-keypair ∷ []) k) ++ boundVars (keysEnd n (bindsName k)) l
+boundVars n (k ∷ l) = typingsOf n (ofRoles (r-parameter ∷ []) k) (typesOf k) (ofRoles (r-keypair ∷ []) k) ++ boundVars (keysEnd n (bindsName k)) l
 
 unfoldable pub entryOf : List Typing → ℕ → ℕ
 entryOf [] v = 0
