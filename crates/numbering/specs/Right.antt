@@ -10,9 +10,11 @@ use Rattle.syntax.specs.Commands.{Cmd, c-num, c-top, c-var, c-pair, c-part, c-f
 use Rattle.syntax.specs.Operands.{nth, bindsVar}
 use Rattle.syntax.specs.Job.{Job, sourceOf}
 use Rattle.syntax.specs.ReadLaws.{JobOk}
-use Rattle.syntax.specs.ReadFormed.{map-snoc, nth-map, bindsVar-map, cmds-formed}
+use Rattle.syntax.specs.ReadFormed.{map-snoc, nth-map, bindsVar-map, cmds-formed, job-formed}
 use Rattle.syntax.specs.Tree.{Entry, e-var, binds, treeRefusal}
-use Rattle.syntax.specs.Scope.{VarIn, v-here, var-twice}
+use Rattle.syntax.specs.Scope.{VarIn, v-here}
+use Rattle.syntax.specs.Context.{var-twice}
+use Rattle.syntax.specs.TreeExactly.{tree-ok}
 use Rattle.syntax.specs.Types.{tree}
 use Rattle.syntax.specs.Words.{filled, nameWords, typeWord, setWord, typeWords, setWords, valueWords, headWords, slotWords, codeIn}
 use Rattle.syntax.specs.WordLaws.{JobFits, zeros-at, filled-at, filled-set, values-back, code-back}
@@ -97,7 +99,7 @@ module _ {J : Job} (j : JobOk J) (scoped : treeRefusal (sourceOf J) ≡ none) wh
   apart =
       record {
         low = λ i x b. cmds-formed j i .bound-variable x (subst (λ (l : List ℕ). List·Memᴰ x l) (vars-are (nth (J .cmds) i)) (binds-mem b)) .1;
-        once = λ i k x h b c. var-twice (sourceOf J) scoped i k h (bound-in i x b .1) (bound-in k x c .1);
+        once = λ i k x h b c. var-twice (sourceOf J) (job-formed J j) (tree-ok (sourceOf J) (job-formed J j) .0 scoped) i k h (bound-in i x b .1) (bound-in k x c .1);
       }
 
 -- The pass

@@ -20,6 +20,7 @@ use Rattle.syntax.specs.Commands.{Cmd, c-lim}
 use Rattle.syntax.specs.Job.{Src, upOf}
 use Rattle.syntax.specs.Tree.{Entry, e-var, e-name}
 use Rattle.typing.specs.Subtype.{Sub}
+use Rattle.typing.specs.Scoped.{scoped-free}
 use Rattle.typing.specs.Rules.{Has, h-num, h-top, h-var, h-pair, h-part1, h-part2, h-fn, h-app, h-new, h-asg, h-read, h-sum, h-test, h-lim, h-grant, h-newkey, h-assoc, h-sub, HasKeys, k-nil, k-cons, Fresh, Free, codeOf, keysType}
 use Rattle.semantics.specs.Machine.{Kind, k-pair, k-lim, k-grant, Value, unkeyed, Bind, b-var, b-name, Link, Frame, Control, hand, Thread, Store, Machine, most-bindings}
 use Rattle.semantics.specs.Keys.{add}
@@ -182,13 +183,13 @@ module _ (S : Src) (σ : Store) (pt : List TwoTy) (ft : List FnTy) (ct : List RT
         rw c (push-ok _ c o x (covers-join-l s t v) kb-refl (fo-pair1 o y (covers-join-r s t v)) (stack-sub (r-pair bot kb-refl kb-refl) k))
     enter-ok o (h-part1 {q = q} {s = s} c x) v k = rw c (push-ok _ c o x (covers-old q s v) kb-refl (fo-part1 (covers-touch (env-zero (o .ok)) q s v)) k)
     enter-ok o (h-part2 {q = q} {s = s} c x) v k = rw c (push-ok _ c o x (covers-old q s v) kb-refl (fo-part2 (covers-touch (env-zero (o .ok)) q s v)) k)
-    enter-ok o (h-fn c x) v k = rw c (newFn-ok o x k)
+    enter-ok o (h-fn c p x) v k = rw c (newFn-ok o x k)
     enter-ok o (h-app {q = q} {l = l} {s = s} {t = t} c x y z) v k =
         let w = covers-old q (join l (join s t)) v in
         let r = covers-join-r l (join s t) w in
         rw c (push-ok _ c o x (covers-join-l s t r) kb-refl
         (fo-app1 o y (covers-join-r s t r) (env-sub (o .ok) z) (covers-touch (env-zero (o .ok)) q (join l (join s t)) v) (covers-map l (covers-join-l l (join s t) w))) k)
-    enter-ok o (h-new c x y) v k = rw c (push-ok _ c o x v (env-sub (o .ok) y) fo-new (stack-sub (r-cell bot) k))
+    enter-ok o (h-new c p x y) v k = rw c (push-ok _ c o x v (env-sub (o .ok) y) fo-new (stack-sub (r-cell bot) k))
     enter-ok o (h-asg {q = q} {s = s} {t = t} c x y z) v k =
         let w = covers-old q (join s t) v in
         rw c (push-ok _ c o x (covers-join-l s t w) kb-refl (fo-asg1 o y (covers-join-r s t w) (env-sub (o .ok) z) (covers-touch (env-zero (o .ok)) q (join s t) v)) k)
@@ -198,7 +199,7 @@ module _ (S : Src) (σ : Store) (pt : List TwoTy) (ft : List FnTy) (ct : List RT
         let w = covers-old q (join s t) u in
         rw c (push-ok _ c o x (covers-join-l s t w) kb-refl
         (fo-sum1 o y (covers-join-r s t w) (covers-touch (env-zero (o .ok)) p _ v) (covers-touch (env-zero (o .ok)) q (join s t) u)) (stack-sub (r-num bot) k))
-    enter-ok o (h-test {q = q} {s = s} {t = t} {u = u} c x y z a b) v k =
+    enter-ok o (h-test {q = q} {s = s} {t = t} {u = u} c p x y z a b) v k =
         let w = covers-old q (join s (join t u)) v in
         let r = covers-join-r s (join t u) w in
         rw c (push-ok _ c o x (covers-join-l s (join t u) w) kb-refl
@@ -213,11 +214,11 @@ module _ (S : Src) (σ : Store) (pt : List TwoTy) (ft : List FnTy) (ct : List RT
         either : CoversHere E (drop (upOf S) r t) → (n : ℕ) → List·Memᴰ n (names (drop (upOf S) r t)) ⊎ Below (upOf S) n r → OnHere (look E n) ⊎ Below (σ .keys) (look E n) (look E r)
         either w n (inl m) = inl (w .each n m)
         either w n (inr b) = inr (env-mono (o .ok) n r b)
-    enter-ok {E = E} o (h-newkey {r = r} {q = q} {u = u} {s = s} {t = t} c x a b y z d) v k =
+    enter-ok {E = E} o (h-newkey {r = r} {q = q} {u = u} {s = s} {t = t} c p x a i b y z) v k =
         let w = covers-old q (join s (raise r u t)) v in
         let g = covers-join-r s (raise r u t) w in
         rw c (push-ok _ c o x (covers-join-l s (raise r u t) w) kb-refl
-        (fo-newkey o a b y z d (covers-touch (env-zero (o .ok)) q (join s (raise r u t)) v) (λ n m h. g .each n (raise-off r u t m h))
+        (fo-newkey o a b y z (scoped-free b p) (covers-touch (env-zero (o .ok)) q (join s (raise r u t)) v) (λ n m h. g .each n (raise-off r u t m h))
         (λ m. on-name (look E) (env-zero (o .ok)) u (λ h. g .each u (raise-on r u t m h)))) k)
     enter-ok {E = E} o (h-assoc {q = q} {r = r} {A = A} {s = s} {t = t} c x y) v k =
         let u = covers-old (keyOf A) _ v in
@@ -225,7 +226,7 @@ module _ (S : Src) (σ : Store) (pt : List TwoTy) (ft : List FnTy) (ct : List RT
         rw c (push-ok _ c o x (covers-join-l s t w) kb-refl
         (fo-assoc1 o y (covers-join-r s t w) (subst⁻¹ (λ i. OnHere i) (inst-key (look E) A) (covers-touch (env-zero (o .ok)) (keyOf A) _ v)) (covers-touch (env-zero (o .ok)) q (join s t) u))
         (subst (λ i. Stack i) (inst-rekey (look E) r A) k))
-    enter-ok o (h-sub d x u) v k = enter-ok o d (covers-below ko (o .ok) v u) (stack-sub (env-sub (o .ok) x) k)
+    enter-ok o (h-sub d x p u i) v k = enter-ok o d (covers-below ko (o .ok) v u) (stack-sub (env-sub (o .ok) x) k)
 
     part1-ok : {k q : ℕ} {x : Kind} {X A B : RTy} → RSub (σ .keys) X (rpair q A B) → Typ W k x X → OnHere q → Stack A → Good S W (actPart true (val k x) m)
     unfolding actPart onPair found partOf

@@ -23,7 +23,7 @@ use Rattle.syntax.specs.Job.{Name, HostValue, Job, uppers, valueOf, sour
 use Rattle.syntax.specs.Reading.{most-depth, declared, setOk, isHost, hostName, openName, localName, nameOk, partsOk, typeOk, unkeyedNumber, hostTypeOk, hostValueOk, cmdOk, most-variables, read, reading}
 use Rattle.syntax.specs.ReadLaws.{nothing, more, built-at, NamesOk, TypesOk, JobOk, withCmds, read-ok}
 use Rattle.syntax.specs.WellRead.{HostTyped, ht-cell, ht-lim, ht-grant, WellRead}
-use Rattle.syntax.specs.Formed.{Formed}
+use Rattle.syntax.specs.Formed.{ReducedTy, r-num, r-pair, r-cell, r-fn, r-lim, r-grant, Formed}
 
 -- Lists
 
@@ -323,6 +323,36 @@ value-typed {J} j h m = at (Memᴰ·of-map (valueOf (J .types)) (J .values) m)
         let y = mem-at (z .1) in
         subst (λ v. HostTyped (J .names) (v .ty)) (z .2) (host-typed (j .types) (z .0 .ty) (z .0 .init) (and-r _ _ (built-at _ (j .values) (y .0) (z .0) (y .1))))
 
+-- the sets of declared types are reduced
+tree-reduced : (ds : List Name) {ts : List TypeEntry} → TypesOk ds ts → (f i : ℕ) → ReducedTy (uppers ds) (treeIn f (getElem? ts) i)
+unfolding treeIn entryTree partsOk setOk
+tree-reduced ds b zero i = r-num
+tree-reduced ds {ts} b (suc f) i = at (getElem? ts i) (λ e z. entry-parts ds b i e z) (λ a. tree-reduced ds b f a)
+  where
+    at : (o : Option TypeEntry) → ((e : TypeEntry) → o ≡ some e → partsOk ds i e ≡ true) → ((a : ℕ) → ReducedTy (uppers ds) (treeIn f (getElem? ts) a)) → ReducedTy (uppers ds) (entryTree o (treeIn f (getElem? ts)))
+    at none p g = r-num
+    at (some (e-num q)) p g = r-num
+    at (some (e-pair q a b)) p g = r-pair (g a) (g b)
+    at (some (e-cell q a)) p g = r-cell (g a)
+    at (some (e-fn q a b s)) p g = r-fn (g a) (g b) (and-r _ _ (and-r _ _ (p (e-fn q a b s) refl)))
+    at (some (e-lim q r)) p g = r-lim
+    at (some (e-grant q r)) p g = r-grant
+
+operand-is-reduced : (J : Job) → JobOk J → (e : ℕ) (T : Ty) → List·Memᴰ T (typesOf (nth (map (mapCmd (tree (J .types))) (J .cmds)) e)) → ReducedTy (uppers (J .names)) T
+unfolding tree
+operand-is-reduced J j e T m = at (Memᴰ·of-map (tree (J .types)) (typesOf (nth (J .cmds) e)) (subst (λ l. List·Memᴰ T l) same-types m))
+  where
+    same-types : typesOf (nth (map (mapCmd (tree (J .types))) (J .cmds)) e) ≡ map (tree (J .types)) (typesOf (nth (J .cmds) e))
+    same-types = ap typesOf (nth-map (tree (J .types)) (J .cmds) e) ∙ typesOf-map (tree (J .types)) (nth (J .cmds) e)
+
+    at : (t : ℕ) × List·Memᴰ t (typesOf (nth (J .cmds) e)) × (tree (J .types) t ≡ T) → ReducedTy (uppers (J .names)) T
+    at z = subst (λ A. ReducedTy (uppers (J .names)) A) (z .2) (tree-reduced (J .names) (j .types) (suc (z .0)) (z .0))
+
+host-is-reduced : (ds : List Name) {up : List ℕ} {T : Ty} → HostTyped ds T → ReducedTy up T
+host-is-reduced ds (ht-cell o) = r-cell r-num
+host-is-reduced ds (ht-lim o h) = r-lim
+host-is-reduced ds (ht-grant o h) = r-grant
+
 -- The job as the rules see it
 
 pub job-formed : (J : Job) → JobOk J → Formed (sourceOf J)
@@ -334,6 +364,8 @@ job-formed J j =
       bound-variable = λ e v m. omega (arith, cmds-formed j e .bound-variable v (rw (bindsVar-at e) at m), length-map (J .values) (valueOf (J .types)));
       bound-name = λ e r m. cmds-formed j e .bound-name r (rw (bindsName-at e) at m);
       host-type = λ h m n w. host-names (J .names) (value-typed j h m) w;
+      operand-reduced = operand-is-reduced J j;
+      host-reduced = λ h m. host-is-reduced (J .names) (value-typed j h m);
       proper = names-proper (j .names);
     }
   where

@@ -5,7 +5,7 @@ use Prim.Native.Nat.{ℕ, zero, suc, _<_}
 use native.Mathlib.Omega.{arith}
 use mathlib.Core.Bool.{Bool, true, false}
 use mathlib.Core.List.{List, [], _∷_, List·Memᴰ, List·Memᴰ·head, List·Memᴰ·tail, Memᴰ·append-left, Memᴰ·append-right}
-use mathlib.Core.Option.{none, some}
+use mathlib.Core.Option.{some}
 use lib.ListN.{length, getElem?}
 use borrow.Author.Tests.{eq-eqb}
 use Rattle.order.specs.Order.{Below, here}
@@ -17,8 +17,9 @@ use Rattle.syntax.specs.Commands.{Cmd, c-num, c-top, c-var, c-pair, c-part, c-f
 use Rattle.syntax.specs.Operands.{nth, plain, inner, children}
 use Rattle.syntax.specs.Job.{Src, upOf}
 use Rattle.syntax.specs.Formed.{Formed}
-use Rattle.syntax.specs.Tree.{Entry, e-var, e-name, treeRefusal}
-use Rattle.syntax.specs.Context.{Ctx, ctx-le, root-lt}
+use Rattle.syntax.specs.Tree.{Entry, e-var, e-name}
+use Rattle.syntax.specs.TreeFacts.{Ctx, TreeOk}
+use Rattle.syntax.specs.Context.{ctx-le, root-lt}
 use Rattle.typing.specs.Subtype.{Sub, s-num, s-pair, s-cell, s-fn, s-lim, s-grant}
 use Rattle.typing.specs.Rules.{Lookup, l-here, l-var, l-name, Has, h-num, h-top, h-var, h-pair, h-part1, h-part2, h-fn, h-app, h-new, h-asg, h-read, h-sum, h-test, h-lim, h-grant, h-newkey, h-assoc, h-sub, HasKeys, k-nil, k-cons}
 use Rattle.typing.specs.SubtypeLaws.{sub-refl, sub-trans, sub-key, sub-rekey, →subTy}
@@ -34,7 +35,7 @@ pub record Least (S : Src) (e : ℕ) (T : Ty) (t : Effect) : Type 0 where
   pub sub : Sub (upOf S) ty T
   pub under : EffBelow (upOf S) eff t
 
-module _ (S : Src) (ok : Formed S) (tree : treeRefusal S ≡ none) where
+module _ (S : Src) (ok : Formed S) (tree : TreeOk S) where
   abbrev up : List ℕ
   up = upOf S
 
@@ -203,13 +204,13 @@ module _ (S : Src) (ok : Formed S) (tree : treeRefusal S ≡ none) where
       pair-least l c (saw _ l c hd (z .got)) (z .sub) (z .under) (saw _ l c (List·Memᴰ·tail hd) (w .got)) (w .sub) (w .under)
   at l ih (h-part1 c x) g = let z = ih _ (below _ c hd) _ _ _ x g in part-least l true c (saw _ l c hd (z .got)) (z .sub) (z .under)
   at l ih (h-part2 c x) g = let z = ih _ (below _ c hd) _ _ _ x g in part-least l false c (saw _ l c hd (z .got)) (z .sub) (z .under)
-  at {e = e} l ih (h-fn c x) g =
+  at {e = e} l ih (h-fn c o x) g =
       let z = ih _ (below _ c hd) _ _ _ x (agree-var (fn-type S ok tree e c) g) in
       fn-least l c (saw _ l c hd (z .got)) (z .sub) (z .under)
   at l ih (h-app c x y s) g =
       let z = ih _ (below _ c hd) _ _ _ x g in let w = ih _ (below _ c (List·Memᴰ·tail hd)) _ _ _ y g in
       app-least l c (saw _ l c hd (z .got)) (z .sub) (z .under) (saw _ l c (List·Memᴰ·tail hd) (w .got)) (w .sub) (w .under) s
-  at l ih (h-new c x s) g = let z = ih _ (below _ c hd) _ _ _ x g in new-least l c (saw _ l c hd (z .got)) (z .sub) (z .under) s
+  at l ih (h-new c o x s) g = let z = ih _ (below _ c hd) _ _ _ x g in new-least l c (saw _ l c hd (z .got)) (z .sub) (z .under) s
   at l ih (h-asg c x y s) g =
       let z = ih _ (below _ c hd) _ _ _ x g in let w = ih _ (below _ c (List·Memᴰ·tail hd)) _ _ _ y g in
       asg-least l c (saw _ l c hd (z .got)) (z .sub) (z .under) (saw _ l c (List·Memᴰ·tail hd) (w .got)) (w .sub) (w .under) s
@@ -217,7 +218,7 @@ module _ (S : Src) (ok : Formed S) (tree : treeRefusal S ≡ none) where
   at l ih (h-sum c x y) g =
       let z = ih _ (below _ c hd) _ _ _ x g in let w = ih _ (below _ c (List·Memᴰ·tail hd)) _ _ _ y g in
       sum-least l c (saw _ l c hd (z .got)) (z .sub) (z .under) (saw _ l c (List·Memᴰ·tail hd) (w .got)) (w .sub) (w .under)
-  at l ih (h-test c x y y′ s s′) g =
+  at l ih (h-test c o x y y′ s s′) g =
       let z = ih _ (below _ c hd) _ _ _ x g in let w = ih _ (below _ c (List·Memᴰ·tail hd)) _ _ _ y g in let w′ = ih _ (below _ c (List·Memᴰ·tail (List·Memᴰ·tail hd))) _ _ _ y′ g in
       test-least l c (saw _ l c hd (z .got)) (z .sub) (z .under) (saw _ l c (List·Memᴰ·tail hd) (w .got)) (w .sub) (w .under) (saw _ l c (List·Memᴰ·tail (List·Memᴰ·tail hd)) (w′ .got)) (w′ .sub) (w′ .under) s s′
   at l ih (h-lim {b = b} {ks = ks} c x y w) g =
@@ -226,13 +227,13 @@ module _ (S : Src) (ok : Formed S) (tree : treeRefusal S ≡ none) where
   at l ih (h-grant c x y) g =
       let z = ih _ (below _ c hd) _ _ _ x g in let w = ih _ (below _ c (List·Memᴰ·tail hd)) _ _ _ y g in
       grant-least l c (saw _ l c hd (z .got)) (z .sub) (z .under) (saw _ l c (List·Memᴰ·tail hd) (w .got)) (w .sub) (w .under)
-  at {e = e} l ih (h-newkey c x p fr y s ft) g =
+  at {e = e} l ih (h-newkey c o x p v fr y s) g =
       let z = ih _ (below _ c hd) _ _ _ x g in let w = ih _ (below _ c (List·Memᴰ·tail hd)) _ _ _ y (agree-var (key-type S ok tree e c) (agree-name g)) in
       newkey-least l c (saw _ l c hd (z .got)) (z .sub) (z .under) p (saw _ l c (List·Memᴰ·tail hd) (w .got)) (w .sub) (w .under) s
   at l ih (h-assoc c x y) g =
       let z = ih _ (below _ c hd) _ _ _ x g in let w = ih _ (below _ c (List·Memᴰ·tail hd)) _ _ _ y g in
       assoc-least l c (saw _ l c hd (z .got)) (z .sub) (z .under) (saw _ l c (List·Memᴰ·tail hd) (w .got)) (w .sub) (w .under)
-  at l ih (h-sub {A = A} d s u) g = let z = at l ih d g in record { ty = z .ty; eff = z .eff; got = z .got; sub = sub-trans A (z .sub) s; under = tr (z .under) u }
+  at l ih (h-sub {A = A} d s o u v) g = let z = at l ih d g in record { ty = z .ty; eff = z .eff; got = z .got; sub = sub-trans A (z .sub) s; under = tr (z .under) u }
 
   upto : (f e : ℕ) → e < f → e < length (S .cmds) → (Γ : List Entry) (T : Ty) (t : Effect) → Has S Γ e T t → Agree Γ → Least S e T t
   upto zero e h l Γ T t d g = absurd (omega arith)
@@ -240,4 +241,4 @@ module _ (S : Src) (ok : Formed S) (tree : treeRefusal S ≡ none) where
 
   -- every expression, in its context
   pub minimal : {e : ℕ} {Γ : List Entry} → Ctx S e Γ → {U : Ty} {t : Effect} → Has S Γ e U t → Least S e U t
-  minimal {e} x d = upto (suc e) e (omega arith) (omega (arith, ctx-le S ok tree x, root-lt S ok tree)) _ _ _ d (λ y T l. ctx-type S ok tree x l)
+  minimal {e} x d = upto (suc e) e (omega arith) (omega (arith, ctx-le S ok x, root-lt S ok)) _ _ _ d (λ y T l. ctx-type S ok tree x l)

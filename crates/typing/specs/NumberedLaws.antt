@@ -25,7 +25,9 @@ use Rattle.syntax.specs.ReadLaws.{JobOk}
 use Rattle.syntax.specs.ReadFormed.{nth-map, CmdFormed, cmds-formed, job-formed, tree-depth}
 use Rattle.syntax.specs.Tree.{Entry, treeRefusal}
 use Rattle.syntax.specs.Scope.{local-above}
-use Rattle.syntax.specs.Context.{Ctx, stands}
+use Rattle.syntax.specs.TreeFacts.{Ctx, TreeOk}
+use Rattle.syntax.specs.Context.{stands}
+use Rattle.syntax.specs.TreeExactly.{tree-ok}
 use Rattle.typing.specs.Subtype.{subTy}
 use Rattle.typing.specs.Least.{Typed, typed, untyped, varType, typeAt, get, typesTo, types, typeOf, firstUntyped}
 use Rattle.typing.specs.Layout.{newKeys, keyEntries, varEntry, firstPart, secondPart, rekeyed, Points, new, old, pointsTo, Layout, point, layoutFrom, layoutOf}
@@ -318,12 +320,15 @@ module _ {J : Job} (j : JobOk J) (scoped : treeRefusal (sourceOf J) ≡ none) {O
       }
 
   variable-at : (e x : ℕ) → e < length (J .cmds) → List·Memᴰ x (usesVar (nth (J .cmds) e)) → (A : Ty) × (varType (sourceOf J) x ≡ some A) × TreeAt (startOf J .entries) A (varEntry J x)
-  variable-at e x h m = at (stands (sourceOf J) (job-formed J j) scoped e (omega (arith, cmds-length J)))
+  variable-at e x h m = at (stands (sourceOf J) (job-formed J j) (free .used) e (omega (arith, cmds-length J)))
     where
+      free : TreeOk (sourceOf J)
+      free = tree-ok (sourceOf J) (job-formed J j) .0 scoped
+
       at : (Γ : List Entry) × Ctx (sourceOf J) e Γ → (A : Ty) × (varType (sourceOf J) x ≡ some A) × TreeAt (startOf J .entries) A (varEntry J x)
       at (Γ, d) =
-          let z = ctx-var (sourceOf J) (job-formed J j) scoped d (var-used J e x m) in
-          let y : varType (sourceOf J) x ≡ some (z .0) = ctx-type (sourceOf J) (job-formed J j) scoped d (z .1) in
+          let z = ctx-var (sourceOf J) (job-formed J j) free d (var-used J e x m) in
+          let y : varType (sourceOf J) x ≡ some (z .0) = ctx-type (sourceOf J) (job-formed J j) free d (z .1) in
           (z .0, y, var-tree j x (z .0) y)
 
   subtypes : {e : ℕ} {σ : Sofar} → Inv J e σ → (a t : ℕ) → a < length (σ .entries) → t < length (J .types)

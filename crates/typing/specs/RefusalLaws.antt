@@ -5,6 +5,7 @@ use native.Mathlib.Omega.{arith}
 use mathlib.Core.Bool.{Bool, true, false, cond}
 use mathlib.Core.List.{List, [], _∷_}
 use mathlib.Core.Option.{Option, none, some}
+use mathlib.Core.Logic.{_↔_}
 use lib.ListN.{length, getD, getElem?, length-map}
 use Rattle.order.specs.Effects.{Effect}
 use Rattle.syntax.specs.Types.{Ty, tree, TypeEntry, e-num, e-pair, e-cell, e-fn, e-lim, e-grant}
@@ -14,9 +15,9 @@ use Rattle.syntax.specs.Reading.{Refusal, Read, refused, read, reading}
 use Rattle.syntax.specs.ReadLaws.{JobOk, read-ok}
 use Rattle.syntax.specs.ReadPlaces.{refused-number, refused-place}
 use Rattle.syntax.specs.Tree.{past, firstBad, orElse, numbered, lowest, treeRefusal}
-use Rattle.typing.specs.Verdict.{Verdict, accept, refuse, unless, within, verdictOf}
+use Rattle.typing.specs.Verdict.{Verdict, accept, refuse, unless, within, judgeRead, verdictOf}
 use Rattle.typing.specs.Tables.{Tables, short, verdictWith}
-use Rattle.typing.specs.Numbered.{Ops, Result, makes, points, wrong, needNum, needPair, needCell, needFn, needLim, needGrant, need, keysFrom, resultAt, Sofar, Numbered, next, stop, settle, numberAt, Whole, whole, halted, onto, numberAll, startOf, numbering}
+use Rattle.typing.specs.Numbered.{Ops, Result, makes, points, wrong, needNum, needPair, needCell, needFn, needLim, needGrant, need, keysFrom, resultAt, Sofar, settle, numberAt, Whole, whole, halted, onto, numberAll, startOf, numbering}
 use Rattle.typing.specs.Layout.{varEntry}
 use Rattle.typing.specs.NumberedVerdict.{lastOf, lastEntry, lastEffect, reported, judgeBy, judgeReadBy, verdictBy, orderOps, verdict-by-order}
 
@@ -179,30 +180,34 @@ pub data Stands (s : List ℕ) : Refusal → Type 0 where
   by-reading : (q : Refusal) → 2 ≤ q .number → q .number ≤ 7 → q .place ≤ length s → Stands s q
   by-expression : (q : Refusal) (J : Job) → reading s ≡ read J → 8 ≤ q .number → q .number ≤ 14 → q .place < length (J .cmds) → Stands s q
 
-data Ends (k : ℕ) : Verdict → Type 0 where
-  e-accept : (T : Ty) (e : Effect) → Ends k (accept T e)
-  e-refuse : (q : Refusal) → 8 ≤ q .number → q .number ≤ 14 → q .place < k → Ends k (refuse q)
+data Ends (a k : ℕ) : Verdict → Type 0 where
+  e-accept : (T : Ty) (e : Effect) → Ends a k (accept T e)
+  e-refuse : (q : Refusal) → a ≤ q .number → q .number ≤ 14 → q .place < k → Ends a k (refuse q)
 
 last-lt : (n : ℕ) → 0 < n → past n < n
 unfolding past
 last-lt zero h = absurd (omega arith)
 last-lt (suc n) h = omega arith
 
-reported-ends : (O : Ops) (J : Job) → 0 < length (J .cmds) → {w : Whole} → Halts (length (J .cmds)) w → Ends (length (J .cmds)) (reported O J w)
+reported-ends : (O : Ops) (J : Job) → 0 < length (J .cmds) → {w : Whole} → Halts (length (J .cmds)) w → Ends 11 (length (J .cmds)) (reported O J w)
 unfolding reported within lastOf
 reported-ends O J h (h-halted q a b c) = e-refuse q (omega arith) (omega arith) c
 reported-ends O J h (h-whole σ) = at (O .effBelow (lastEffect J σ) (J .rights))
   where
-    at : (b : Bool) → Ends (length (J .cmds)) (within b (past (length (J .cmds))) (tree (σ .entries) (lastEntry J σ)) (lastEffect J σ))
+    at : (b : Bool) → Ends 11 (length (J .cmds)) (within b (past (length (J .cmds))) (tree (σ .entries) (lastEntry J σ)) (lastEffect J σ))
     at true = e-accept _ _
     at false = e-refuse (record { number = 14; place = past (length (J .cmds)) }) (omega arith) (omega arith) (last-lt (length (J .cmds)) h)
 
-unless-ends : {k : ℕ} {o : Option Refusal} {v : Verdict} → Among 8 10 k o → Ends k v → Ends k (unless o v)
+lower : {k : ℕ} {v : Verdict} → Ends 11 k v → Ends 8 k v
+lower (e-accept T e) = e-accept T e
+lower (e-refuse q a b c) = e-refuse q (omega arith) b c
+
+unless-ends : {k : ℕ} {o : Option Refusal} {v : Verdict} → Among 8 10 k o → Ends 11 k v → Ends 8 k (unless o v)
 unfolding unless
-unless-ends no-refusal w = w
+unless-ends no-refusal w = lower w
 unless-ends (among q a b h) w = e-refuse q a (omega arith) h
 
-ends : {k : ℕ} {v : Verdict} {q : Refusal} → Ends k v → v ≡ refuse q → (8 ≤ q .number) × (q .number ≤ 14) × (q .place < k)
+ends : {a k : ℕ} {v : Verdict} {q : Refusal} → Ends a k v → v ≡ refuse q → (a ≤ q .number) × (q .number ≤ 14) × (q .place < k)
 ends (e-accept T e) f = absurd (let z : _≡_ {A = ℕ} 0 1 = cc in omega arith)
 ends {q = q} (e-refuse p a b c) f =
     let z : p ≡ q = cc in
@@ -210,8 +215,33 @@ ends {q = q} (e-refuse p a b c) f =
     let o : p .place ≡ q .place = ap (λ (x : Refusal). x .place) z in
     (omega arith, omega arith, omega arith)
 
+typing-ends : (J : Job) → JobOk J → Ends 11 (length (J .cmds)) (reported (orderOps J) J (numbering (orderOps J) J))
+unfolding numbering
+typing-ends J j = reported-ends (orderOps J) J (j .some-cmds) (halts (orderOps J) (varEntry J) 0 (J .cmds) (startOf J) (length (J .cmds)) (omega arith))
+
+-- 8, 9 and 10 are given by the tree alone
+pub tree-decides : (s : List ℕ) (J : Job) → reading s ≡ read J → (q : Refusal) → q .number ≤ 10 → (verdictOf s ≡ refuse q) ↔ (treeRefusal (sourceOf J) ≡ some q)
+unfolding verdictBy judgeReadBy judgeBy unless
+tree-decides s J r q l = (λ e. to (treeRefusal (sourceOf J)) (sym by-numbers ∙ e), λ t. by-numbers ∙ rw t)
+  where
+    by-numbers : verdictOf s ≡ unless (treeRefusal (sourceOf J)) (reported (orderOps J) J (numbering (orderOps J) J))
+    by-numbers = sym (verdict-by-order s) ∙ ap (judgeReadBy orderOps) r
+
+    to : (o : Option Refusal) → unless o (reported (orderOps J) J (numbering (orderOps J) J)) ≡ refuse q → o ≡ some q
+    to none e = absurd (omega (arith, ends (typing-ends J (read-ok s J r)) e .0))
+    to (some p) e = let z : p ≡ q = cc in ap some z
+
+-- a number above 7 is given to a job that is read
+pub refused-read : (s : List ℕ) (q : Refusal) → verdictOf s ≡ refuse q → 8 ≤ q .number → (J : Job) × (reading s ≡ read J)
+unfolding verdictOf judgeRead
+refused-read s q e l = at (reading s) refl e
+  where
+    at : (R : Read) → reading s ≡ R → judgeRead R ≡ refuse q → (J : Job) × (reading s ≡ read J)
+    at (refused r) f g = let z : r ≡ q = cc in let n : r .number ≡ q .number = ap (λ (x : Refusal). x .number) z in absurd (omega (arith, refused-number s r f .1))
+    at (read J) f g = (J, f)
+
 pub refusal-stands : (s : List ℕ) (q : Refusal) → verdictOf s ≡ refuse q → Stands s q
-unfolding verdictBy judgeReadBy judgeBy numbering
+unfolding verdictBy judgeReadBy judgeBy
 refusal-stands s q e = at (reading s) refl (verdict-by-order s ∙ e)
   where
     at : (R : Read) → reading s ≡ R → judgeReadBy orderOps R ≡ refuse q → Stands s q
@@ -222,7 +252,7 @@ refusal-stands s q e = at (reading s) refl (verdict-by-order s ∙ e)
         let a = refused-number s r f in
         by-reading q (omega (arith, a .0)) (omega (arith, a .1)) (omega (arith, refused-place s r f))
     at (read J) f g =
-        let w = unless-ends (tree-among J) (reported-ends (orderOps J) J (read-ok s J f .some-cmds) (halts (orderOps J) (varEntry J) 0 (J .cmds) (startOf J) (length (J .cmds)) (omega arith))) in
+        let w = unless-ends (tree-among J) (typing-ends J (read-ok s J f)) in
         let z = ends w g in
         by-expression q J f (z .0) (z .1) (z .2)
 

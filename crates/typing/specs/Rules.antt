@@ -1,5 +1,6 @@
 -- The rules of document 01 ("Types of expressions"), to be held against Figure 2 of document 000: `Has S Γ e T s` says that in the context Γ expression e of
--- the job S has type T and effect s. A rule for each command (two for 34, by its part), and subsumption.
+-- the job S has type T and effect s. A rule for each command (two for 34, by its part), and subsumption. What a rule takes from the job or chooses freely is in scope: a type operand, and the type and the
+-- effect that subsumption reaches.
 use mathlib.Core.Path.{_≡_}
 use Prim.Native.Nat.{ℕ, _<_}
 use mathlib.Core.Bool.{Bool, true, false}
@@ -7,13 +8,13 @@ use mathlib.Core.List.{List, [], _∷_, List·Memᴰ}
 use mathlib.Core.Option.{some}
 use mathlib.Core.Logic.{_≢_}
 use lib.ListN.{getElem?}
-use Rattle.order.specs.Order.{Below}
 use Rattle.order.specs.Effects.{Effect, pure, ofNames, touch, join, drop, raise, EffBelow}
 use Rattle.syntax.specs.Types.{Ty, num, pair, cell, fn, lim, grant, keyOf, rekey, namesIn}
 use Rattle.syntax.specs.Commands.{Cmd, c-num, c-top, c-var, c-pair, c-part, c-fn, c-app, c-new, c-asg, c-read, c-sum, c-test, c-lim, c-grant, c-newkey, c-assoc}
 use Rattle.syntax.specs.Operands.{nth}
 use Rattle.syntax.specs.Job.{Src, upOf}
 use Rattle.syntax.specs.Tree.{Entry, e-var, e-name}
+use Rattle.syntax.specs.WellScoped.{ScopedName, ScopedType, ScopedEffect}
 use Rattle.typing.specs.Subtype.{Sub}
 
 -- the type of a variable is that of its newest entry
@@ -64,13 +65,13 @@ mutual
     h-part2 : {Γ : List Entry} {e a q : ℕ} {A B : Ty} {s : Effect} → codeOf S e ≡ c-part a false
         → Has S Γ a (pair q A B) s → Has S Γ e B (touch q s)
     -- 35: "A function has no effect until applied"
-    h-fn : {Γ : List Entry} {e x b : ℕ} {T U : Ty} {s : Effect} → codeOf S e ≡ c-fn x T b
+    h-fn : {Γ : List Entry} {e x b : ℕ} {T U : Ty} {s : Effect} → codeOf S e ≡ c-fn x T b → ScopedType Γ T
         → Has S (e-var x T ∷ Γ) b U s → Has S Γ e (fn 0 T U s) pure
     -- 36: the function is touched; "applying adds its .. effect"
     h-app : {Γ : List Entry} {e f a q : ℕ} {A T U : Ty} {l s t : Effect} → codeOf S e ≡ c-app f a
         → Has S Γ f (fn q T U l) s → Has S Γ a A t → Sub (upOf S) A T → Has S Γ e U (touch q (join l (join s t)))
     -- 37
-    h-new : {Γ : List Entry} {e a : ℕ} {A T : Ty} {s : Effect} → codeOf S e ≡ c-new T a
+    h-new : {Γ : List Entry} {e a : ℕ} {A T : Ty} {s : Effect} → codeOf S e ≡ c-new T a → ScopedType Γ T
         → Has S Γ a A s → Sub (upOf S) A T → Has S Γ e (cell 0 T) s
     -- 38: the cell is touched; "gives the cell's content type"
     h-asg : {Γ : List Entry} {e a b q : ℕ} {A T : Ty} {s t : Effect} → codeOf S e ≡ c-asg a b
@@ -82,7 +83,7 @@ mutual
     h-sum : {Γ : List Entry} {e a b p q : ℕ} {i : Bool} {s t : Effect} → codeOf S e ≡ c-sum i a b
         → Has S Γ a (num p) s → Has S Γ b (num q) t → Has S Γ e (num 0) (touch p (touch q (join s t)))
     -- 3B: the number tested is touched
-    h-test : {Γ : List Entry} {e a b c q : ℕ} {B C T : Ty} {s t u : Effect} → codeOf S e ≡ c-test a b c T
+    h-test : {Γ : List Entry} {e a b c q : ℕ} {B C T : Ty} {s t u : Effect} → codeOf S e ≡ c-test a b c T → ScopedType Γ T
         → Has S Γ a (num q) s → Has S Γ b B t → Has S Γ c C u → Sub (upOf S) B T → Sub (upOf S) C T → Has S Γ e T (touch q (join s (join t u)))
     -- 3C: every key is touched; "needs the body's effect below the set of its keys' names, and keeps that effect"
     h-lim : {Γ : List Entry} {e b : ℕ} {ks rs : List ℕ} {T : Ty} {s t : Effect} → codeOf S e ≡ c-lim ks b
@@ -90,15 +91,15 @@ mutual
     -- 3D: the key is touched; "drops from the body's effect all names below the granted name"
     h-grant : {Γ : List Entry} {e a b q r : ℕ} {T : Ty} {s t : Effect} → codeOf S e ≡ c-grant a b
         → Has S Γ a (grant q r) s → Has S Γ b T t → Has S Γ e T (touch q (join s (drop (upOf S) r t)))
-    -- 3E: the key, "a limit key of r's upper name", is touched; "In the body alone r is in scope"; "Outside, r in the effect becomes its upper name"
-    h-newkey : {Γ : List Entry} {e x r a b q u : ℕ} {B T : Ty} {s t : Effect} → codeOf S e ≡ c-newkey x r a b T
-        → Has S Γ a (lim q u) s → getElem? (upOf S) r ≡ some u → Fresh (upOf S) Γ r
-        → Has S (e-var x (keysType r) ∷ e-name r ∷ Γ) b B t → Sub (upOf S) B T → Free r T → Has S Γ e T (touch q (join s (raise r u t)))
+    -- 3E: the key, "a limit key of r's upper name", is touched; "In the body alone r is in scope", so not in the result type; "Outside, r in the effect becomes its upper name"
+    h-newkey : {Γ : List Entry} {e x r a b q u : ℕ} {B T : Ty} {s t : Effect} → codeOf S e ≡ c-newkey x r a b T → ScopedType Γ T
+        → Has S Γ a (lim q u) s → getElem? (upOf S) r ≡ some u → ScopedName Γ u → Fresh (upOf S) Γ r
+        → Has S (e-var x (keysType r) ∷ e-name r ∷ Γ) b B t → Sub (upOf S) B T → Has S Γ e T (touch q (join s (raise r u t)))
     -- 3F: both operands are touched; "the value's type with the limit key's name as its key"
     h-assoc : {Γ : List Entry} {e a b q r : ℕ} {A : Ty} {s t : Effect} → codeOf S e ≡ c-assoc a b
         → Has S Γ a A s → Has S Γ b (lim q r) t → Has S Γ e (rekey r A) (touch (keyOf A) (touch q (join s t)))
     -- subsumption
-    h-sub : {Γ : List Entry} {e : ℕ} {A B : Ty} {s t : Effect} → Has S Γ e A s → Sub (upOf S) A B → EffBelow (upOf S) s t → Has S Γ e B t
+    h-sub : {Γ : List Entry} {e : ℕ} {A B : Ty} {s t : Effect} → Has S Γ e A s → Sub (upOf S) A B → ScopedType Γ B → EffBelow (upOf S) s t → ScopedEffect Γ t → Has S Γ e B t
 
   -- the limit keys of 3C: their names, and the effect of working them out and touching them
   pub data HasKeys (S : Src) : List Entry → List ℕ → List ℕ → Effect → Type 0 where
