@@ -11,9 +11,9 @@ use lib.ListN.{take, getD, getElem?}
 use Rattle.syntax.specs.Commands.{Cmd, c-num, c-top, c-var, c-pair, c-part, c-fn, c-app, c-new, c-asg, c-read, c-sum, c-test, c-lim, c-grant, c-newkey, c-assoc}
 use Rattle.syntax.specs.Words.{decode, codeIn}
 use Rattle.semantics.specs.Machine.{Value, Machine}
-use Rattle.semantics.specs.Step.{o-stuck, worked, enterCmd, enterLim, push, act, one, two, actLim, actTest, go}
+use Rattle.semantics.specs.Step.{o-stuck, d-push, does, free, room, touchAll, p-wrong, settle, worked, enterCmd, enterLim, act, one, two, actLim, actTest}
 use Rattle.store.specs.Frames.{handOf}
-use Rattle.machine.specs.Inner.{Works}
+use Rattle.machine.specs.Inner.{deed, go, Works}
 use Rattle.machine.proofs.Limit.{padded}
 
 by : {A : Type 0} (P : A → Type 0) (b : Bool) (x y : A) → (b ≡ true → P x) → P y → P (cond b x y)
@@ -56,25 +56,25 @@ head-same : {x y : ℕ} {s t : List ℕ} → x ∷ s ≡ y ∷ t → x ≡ y
 head-same p = cc
 
 -- an operand is worked out: entering pushes a frame
-pub enter-push : (e : ℕ) (k : Cmd ℕ) (a : ℕ) (l : List ℕ) (m : Machine) → worked k ≡ a ∷ l → enterCmd e k m ≡ push e a m
+pub enter-push : (e : ℕ) (k : Cmd ℕ) (a : ℕ) (l : List ℕ) (m : Machine) → worked k ≡ a ∷ l → enterCmd e k m ≡ deed (d-push e a) m
 unfolding worked enterCmd enterLim
 enter-push e (c-num n) a l m h = absurd (nil-cons h)
 enter-push e c-top a l m h = absurd (nil-cons h)
 enter-push e (c-var v) a l m h = absurd (nil-cons h)
-enter-push e (c-pair x y) a l m h = ap (λ (i : ℕ). push e i m) (head-same h)
-enter-push e (c-part x i) a l m h = ap (λ (i : ℕ). push e i m) (head-same h)
+enter-push e (c-pair x y) a l m h = ap (λ (i : ℕ). deed (d-push e i) m) (head-same h)
+enter-push e (c-part x i) a l m h = ap (λ (i : ℕ). deed (d-push e i) m) (head-same h)
 enter-push e (c-fn v t b) a l m h = absurd (nil-cons h)
-enter-push e (c-app x y) a l m h = ap (λ (i : ℕ). push e i m) (head-same h)
-enter-push e (c-new t x) a l m h = ap (λ (i : ℕ). push e i m) (head-same h)
-enter-push e (c-asg x y) a l m h = ap (λ (i : ℕ). push e i m) (head-same h)
-enter-push e (c-read x) a l m h = ap (λ (i : ℕ). push e i m) (head-same h)
-enter-push e (c-sum i x y) a l m h = ap (λ (i : ℕ). push e i m) (head-same h)
-enter-push e (c-test x y z t) a l m h = ap (λ (i : ℕ). push e i m) (head-same h)
+enter-push e (c-app x y) a l m h = ap (λ (i : ℕ). deed (d-push e i) m) (head-same h)
+enter-push e (c-new t x) a l m h = ap (λ (i : ℕ). deed (d-push e i) m) (head-same h)
+enter-push e (c-asg x y) a l m h = ap (λ (i : ℕ). deed (d-push e i) m) (head-same h)
+enter-push e (c-read x) a l m h = ap (λ (i : ℕ). deed (d-push e i) m) (head-same h)
+enter-push e (c-sum i x y) a l m h = ap (λ (i : ℕ). deed (d-push e i) m) (head-same h)
+enter-push e (c-test x y z t) a l m h = ap (λ (i : ℕ). deed (d-push e i) m) (head-same h)
 enter-push e (c-lim [] b) a l m h = absurd (nil-cons h)
-enter-push e (c-lim (x ∷ ks) b) a l m h = ap (λ (i : ℕ). push e i m) (head-same h)
-enter-push e (c-grant x y) a l m h = ap (λ (i : ℕ). push e i m) (head-same h)
-enter-push e (c-newkey v r x y t) a l m h = ap (λ (i : ℕ). push e i m) (head-same h)
-enter-push e (c-assoc x y) a l m h = ap (λ (i : ℕ). push e i m) (head-same h)
+enter-push e (c-lim (x ∷ ks) b) a l m h = ap (λ (i : ℕ). deed (d-push e i) m) (head-same h)
+enter-push e (c-grant x y) a l m h = ap (λ (i : ℕ). deed (d-push e i) m) (head-same h)
+enter-push e (c-newkey v r x y t) a l m h = ap (λ (i : ℕ). deed (d-push e i) m) (head-same h)
+enter-push e (c-assoc x y) a l m h = ap (λ (i : ℕ). deed (d-push e i) m) (head-same h)
 
 -- no operand is worked out, and the byte is none of those that have an arm of their own
 pub enter-number :
@@ -91,24 +91,24 @@ enter-number op x a b c d e w h1 h2 h5 hc = at (w .all a b c d e)
 -- the arms of an act on one value, and on two
 pub one-stuck :
     (op x a b c d e : ℕ) (v : Value) (m : Machine) → (op ≡ 0x34 → ⊥) → (op ≡ 0x37 → ⊥) → (op ≡ 0x39 → ⊥) → (op ≡ 0x3B → ⊥) → (op ≡ 0x3C → ⊥) → (op ≡ 0x3D → ⊥) → (op ≡ 0x3E → ⊥) →
-    act (decode op x a b c d e) (v ∷ []) m ≡ o-stuck
+    act (decode op x a b c d e) (v ∷ []) m ≡ p-wrong
 unfolding act two
-one-stuck op x a b c d e v m h4 h7 h9 hb hc hd he = decode-cases (λ k. act k (v ∷ []) m ≡ o-stuck) op x a b c d e
+one-stuck op x a b c d e v m h4 h7 h9 hb hc hd he = decode-cases (λ k. act k (v ∷ []) m ≡ p-wrong) op x a b c d e
     (λ h. refl) (λ h. refl) (λ h. refl) (λ h. absurd (h4 h)) (λ h. refl) (λ h. refl) (λ h. absurd (h7 h)) (λ h. refl) (λ h. absurd (h9 h)) (λ h. refl)
     (λ h. absurd (hb h)) (λ h. absurd (hc h)) (λ h. absurd (hd h)) (λ h. absurd (he h)) (λ h. refl) refl
 
 pub two-stuck :
     (op x a b c d e : ℕ) (u v : Value) (m : Machine) → (op ≡ 0x33 → ⊥) → (op ≡ 0x36 → ⊥) → (op ≡ 0x38 → ⊥) → (op ≡ 0x3A → ⊥) → (op ≡ 0x3C → ⊥) → (op ≡ 0x3F → ⊥) →
-    act (decode op x a b c d e) (u ∷ v ∷ []) m ≡ o-stuck
+    act (decode op x a b c d e) (u ∷ v ∷ []) m ≡ p-wrong
 unfolding act one
-two-stuck op x a b c d e u v m h3 h6 h8 ha hc hf = decode-cases (λ k. act k (u ∷ v ∷ []) m ≡ o-stuck) op x a b c d e
+two-stuck op x a b c d e u v m h3 h6 h8 ha hc hf = decode-cases (λ k. act k (u ∷ v ∷ []) m ≡ p-wrong) op x a b c d e
     (λ h. refl) (λ h. refl) (λ h. absurd (h3 h)) (λ h. refl) (λ h. refl) (λ h. absurd (h6 h)) (λ h. refl) (λ h. absurd (h8 h)) (λ h. refl) (λ h. absurd (ha h))
     (λ h. refl) (λ h. absurd (hc h)) (λ h. refl) (λ h. refl) (λ h. absurd (hf h)) refl
 
 -- no command but a limit acts on three values or more
-pub more-stuck : (op x a b c d e : ℕ) (u v w : Value) (l : List Value) (m : Machine) → (op ≡ 0x3C → ⊥) → act (decode op x a b c d e) (u ∷ v ∷ w ∷ l) m ≡ o-stuck
+pub more-stuck : (op x a b c d e : ℕ) (u v w : Value) (l : List Value) (m : Machine) → (op ≡ 0x3C → ⊥) → act (decode op x a b c d e) (u ∷ v ∷ w ∷ l) m ≡ p-wrong
 unfolding act one two
-more-stuck op x a b c d e u v w l m hc = decode-cases (λ k. act k (u ∷ v ∷ w ∷ l) m ≡ o-stuck) op x a b c d e
+more-stuck op x a b c d e u v w l m hc = decode-cases (λ k. act k (u ∷ v ∷ w ∷ l) m ≡ p-wrong) op x a b c d e
     (λ h. refl) (λ h. refl) (λ h. refl) (λ h. refl) (λ h. refl) (λ h. refl) (λ h. refl) (λ h. refl) (λ h. refl) (λ h. refl)
     (λ h. refl) (λ h. absurd (hc h)) (λ h. refl) (λ h. refl) (λ h. refl) refl
 
@@ -170,21 +170,21 @@ taken-out (suc (suc (suc (suc (suc n))))) (suc (suc (suc (suc j)))) a b c d h = 
 module _ (heads slots : List ℕ) (i head : ℕ) (e : head ≡ getD heads i 0) where
   pub code-one :
       (v : Value) (m : Machine) → (getD heads i 0 % 256 ≡ 0x3C → ⊥) → (head % 256 ≡ 0x34 → ⊥) → (head % 256 ≡ 0x37 → ⊥) → (head % 256 ≡ 0x39 → ⊥) → (head % 256 ≡ 0x3B → ⊥) →
-      (head % 256 ≡ 0x3D → ⊥) → (head % 256 ≡ 0x3E → ⊥) → act (codeIn heads slots i) (v ∷ []) m ≡ o-stuck
-  unfolding codeIn
-  code-one v m hc h4 h7 h9 hb hd he = simp (← e) (one-stuck (head % 256) (head / 256 % 4294967296) _ _ _ _ _ v m h4 h7 h9 hb (λ z. hc (ap (λ (x : ℕ). x % 256) (sym e) ∙ z)) hd he)
+      (head % 256 ≡ 0x3D → ⊥) → (head % 256 ≡ 0x3E → ⊥) → settle (act (codeIn heads slots i) (v ∷ []) m) ≡ o-stuck
+  unfolding codeIn settle
+  code-one v m hc h4 h7 h9 hb hd he = simp (← e) (ap settle (one-stuck (head % 256) (head / 256 % 4294967296) _ _ _ _ _ v m h4 h7 h9 hb (λ z. hc (ap (λ (x : ℕ). x % 256) (sym e) ∙ z)) hd he))
 
   pub code-two :
       (u v : Value) (m : Machine) → (getD heads i 0 % 256 ≡ 0x3C → ⊥) → (head % 256 ≡ 0x33 → ⊥) → (head % 256 ≡ 0x36 → ⊥) → (head % 256 ≡ 0x38 → ⊥) → (head % 256 ≡ 0x3A → ⊥) →
-      (head % 256 ≡ 0x3F → ⊥) → act (codeIn heads slots i) (u ∷ v ∷ []) m ≡ o-stuck
-  unfolding codeIn
-  code-two u v m hc h3 h6 h8 ha hf = simp (← e) (two-stuck (head % 256) (head / 256 % 4294967296) _ _ _ _ _ u v m h3 h6 h8 ha (λ z. hc (ap (λ (x : ℕ). x % 256) (sym e) ∙ z)) hf)
+      (head % 256 ≡ 0x3F → ⊥) → settle (act (codeIn heads slots i) (u ∷ v ∷ []) m) ≡ o-stuck
+  unfolding codeIn settle
+  code-two u v m hc h3 h6 h8 ha hf = simp (← e) (ap settle (two-stuck (head % 256) (head / 256 % 4294967296) _ _ _ _ _ u v m h3 h6 h8 ha (λ z. hc (ap (λ (x : ℕ). x % 256) (sym e) ∙ z)) hf))
 
-  code-three : (u v w : Value) (l : List Value) (m : Machine) → (head % 256 ≡ 0x3C → ⊥) → act (codeIn heads slots i) (u ∷ v ∷ w ∷ l) m ≡ o-stuck
-  unfolding codeIn
-  code-three u v w l m hc = simp (← e) (more-stuck (head % 256) (head / 256 % 4294967296) _ _ _ _ _ u v w l m hc)
+  code-three : (u v w : Value) (l : List Value) (m : Machine) → (head % 256 ≡ 0x3C → ⊥) → settle (act (codeIn heads slots i) (u ∷ v ∷ w ∷ l) m) ≡ o-stuck
+  unfolding codeIn settle
+  code-three u v w l m hc = simp (← e) (ap settle (more-stuck (head % 256) (head / 256 % 4294967296) _ _ _ _ _ u v w l m hc))
 
-  pub code-more : (n : ℕ) (p q r v : Value) (m : Machine) → (head % 256 ≡ 0x3C → ⊥) → (n ≡ 0 → ⊥) → (n ≡ 1 → ⊥) → act (codeIn heads slots i) (handOf n p q r ++ (v ∷ [])) m ≡ o-stuck
+  pub code-more : (n : ℕ) (p q r v : Value) (m : Machine) → (head % 256 ≡ 0x3C → ⊥) → (n ≡ 0 → ⊥) → (n ≡ 1 → ⊥) → settle (act (codeIn heads slots i) (handOf n p q r ++ (v ∷ [])) m) ≡ o-stuck
   code-more zero p q r v m hc h0 h1 = absurd (h0 refl)
   code-more (suc zero) p q r v m hc h0 h1 = absurd (h1 refl)
   code-more (suc (suc zero)) p q r v m hc h0 h1 = code-three p q v [] m hc
@@ -194,7 +194,7 @@ module _ (heads slots : List ℕ) (i head : ℕ) (e : head ≡ getD heads i 0) w
 
   pub code-limit :
       (n : ℕ) (p q r v : Value) (m : Machine) {body : ℕ} {a b c : Value} → head % 256 ≡ 0x3C → body ≡ getD slots (i * 5 + 4) 0 →
-      a ≡ cond (ltb 0 n) p v → b ≡ cond (ltb 1 n) q v → c ≡ cond (ltb 2 n) r v → act (codeIn heads slots i) (handOf n p q r ++ (v ∷ [])) m ≡ actLim body (a ∷ b ∷ c ∷ v ∷ []) m
+      a ≡ cond (ltb 0 n) p v → b ≡ cond (ltb 1 n) q v → c ≡ cond (ltb 2 n) r v → settle (act (codeIn heads slots i) (handOf n p q r ++ (v ∷ [])) m) ≡ settle (actLim body (a ∷ b ∷ c ∷ v ∷ []) m)
   unfolding codeIn decode act
   code-limit n p q r v m h hb ha hq hc = simp (← e, h, ← hb) (padded n _ p q r v m ∙ simp (← ha, ← hq, ← hc))
 
@@ -208,17 +208,17 @@ module _ (heads slots : List ℕ) (i head : ℕ) (e : head ≡ getD heads i 0) w
   unfolding codeIn
   code-works need w = simp (← e) (w .all _ _ _ _ _)
 
-  pub code-push : (j need : ℕ) (m : Machine) {a : ℕ} → Works (head % 256) (head / 256 % 4294967296) need → 0 < need → a ≡ getD slots (i * 5) 0 → enterCmd j (codeIn heads slots i) m ≡ push j a m
+  pub code-push : (j need : ℕ) (m : Machine) {a : ℕ} → Works (head % 256) (head / 256 % 4294967296) need → 0 < need → a ≡ getD slots (i * 5) 0 → enterCmd j (codeIn heads slots i) m ≡ deed (d-push j a) m
   code-push j zero m w h ha = absurd (omega arith)
-  code-push j (suc need) m w h ha = enter-push j (codeIn heads slots i) _ _ m (code-works (suc need) w) ∙ ap (λ (x : ℕ). push j x m) (sym ha)
+  code-push j (suc need) m w h ha = enter-push j (codeIn heads slots i) _ _ m (code-works (suc need) w) ∙ ap (λ (x : ℕ). deed (d-push j x) m) (sym ha)
 
   no-works : (x a b c d y : ℕ) → Works 0x3C x 0 → take x (a ∷ b ∷ c ∷ d ∷ []) ≡ []
   unfolding decode worked
   no-works x a b c d y w = w .all a b c d y
 
   pub code-bare : (j need : ℕ) (m : Machine) {body : ℕ} → head % 256 ≡ 0x3C → Works (head % 256) (head / 256 % 4294967296) need → need ≤ 0 → body ≡ getD slots (i * 5 + 4) 0 →
-      enterCmd j (codeIn heads slots i) m ≡ go body (m .thread .env) 0 m
-  unfolding codeIn decode enterCmd enterLim
+      settle (enterCmd j (codeIn heads slots i) m) ≡ go body (m .thread .env) 0 m
+  unfolding codeIn decode enterCmd enterLim settle touchAll free does room
   code-bare j (suc need) m h w l hb = absurd (omega arith)
   code-bare j zero m h w l hb =
       let t = no-works (head / 256 % 4294967296) (getD slots (i * 5) 0) (getD slots (i * 5 + 1) 0) (getD slots (i * 5 + 2) 0) (getD slots (i * 5 + 3) 0) 0 (rw h at w) in

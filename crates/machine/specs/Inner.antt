@@ -7,8 +7,8 @@ use mathlib.Core.Option.{Option, none, some}
 use lib.ListN.{take}
 use Rattle.syntax.specs.Commands.{Cmd}
 use Rattle.syntax.specs.Words.{decode}
-use Rattle.semantics.specs.Machine.{Machine as Clean}
-use Rattle.semantics.specs.Step.{Out, o-step, o-done, o-room, o-stuck, o-denied, step, worked}
+use Rattle.semantics.specs.Machine.{Value as SValue, Machine as Clean}
+use Rattle.semantics.specs.Step.{Out, o-step, o-done, o-room, o-stuck, o-denied, handing, entering, Deed, Plan, p-wrong, p-try, settle, step, worked}
 use Rattle.semantics.specs.Calls.{Answer as SAnswer, taken, finished, spent, noroom, stuck, denied, Ran, ran, turn}
 use Rattle.store.specs.declared.Expr.{Expr}
 use Rattle.store.specs.declared.Keys.{Keys}
@@ -43,9 +43,24 @@ settled m o-denied = record { machine = m; answer = denied }
 abbrev pub acted : Acted → Tables → Stepped
 acted r w = record { machine = view (r .thread) w; answer = answerIn (r .answer) }
 
+-- a step of the thread
+abbrev pub stepped : Thread → Tables → (Clean → Out) → Stepped
+stepped self w f = settled (view self w) (f (view self w))
+
 -- `back` is the thread with its newest frame popped, which acts; where it does not come to a step the thread is `self`
-abbrev pub tried : Thread → Thread → Tables → (Clean → Out) → Stepped
-tried self back w f = settled (view self w) (f (view back w))
+abbrev pub tried : Thread → Thread → Tables → (Clean → Plan) → Stepped
+tried self back w f = settled (view self w) (settle (f (view back w)))
+
+-- a plan that touches nothing
+abbrev pub deed : Deed → Clean → Plan
+deed d m = p-try [] m d
+
+-- a step that hands on a value, or enters an expression
+abbrev pub give : SValue → Clean → Out
+give v m = o-step (handing v m)
+
+abbrev pub go : ℕ → ℕ → ℕ → Clean → Out
+go e env on m = o-step (entering e env on m)
 
 abbrev pub putFrames : Tables → List ℕ → Tables
 putFrames w x = record { frames = x; cells = w .cells; keys = w .keys; pairs = w .pairs; functions = w .functions; bindings = w .bindings }
@@ -93,9 +108,9 @@ abbrev pub unkeyedOf : Kind → ℕ → Value
 unkeyedOf k n = record { key = record { 0 = 0 }; kind = k; payload = n }
 
 -- the keys of a limit, or a value that is no limit key
-abbrev pub limitsIn : Limits → (List ℕ → Out) → Out
+abbrev pub limitsIn : Limits → (List ℕ → Plan) → Plan
 limitsIn (All o) f = f (ownIn o)
-limitsIn Other f = o-stuck
+limitsIn Other f = p-wrong
 
 -- the first value found
 abbrev pub orElse : {A : Type 0} → Option A → Option A → Option A

@@ -19,7 +19,7 @@ ghost use Rattle.order.specs.Sets.{all-of};
 ghost use Rattle.syntax.specs.Words.{codeIn};
 ghost use Rattle.semantics.specs.Machine.{most-bindings, Value as SValue};
 ghost use Rattle.semantics.specs.Keys.{enabled};
-ghost use Rattle.semantics.specs.Step.{Out, actPair, actPart, actApp, actNew, actAsg, actRead, actSum, actTest, limitKeys, actLim, actGrant, actNewkey, actAssoc, act, seekIn, seek, variable, newFn, push, enterCmd, handTo, step, newKey, sumN};
+ghost use Rattle.semantics.specs.Step.{Plan, settle, d-push, d-fn, d-key, actPair, actPart, actApp, actNew, actAsg, actRead, actSum, actTest, limitKeys, actLim, actGrant, actNewkey, actAssoc, act, seekIn, seek, variable, enterCmd, handTo, step, sumN};
 ghost use Rattle.semantics.specs.Room.{isDone};
 ghost use Rattle.semantics.specs.Calls.{one-step, call, run};
 ghost use Rattle.store.specs.Meaning.{keysIn, valueIn, boundIn};
@@ -28,7 +28,7 @@ ghost use Rattle.store.specs.Frames.{heldIn, handOf};
 ghost use Rattle.store.specs.Tables.{capped, listOf};
 ghost use Rattle.machine.specs.Meaning.{answerIn, foundIn};
 ghost use Rattle.machine.specs.View.{Tables, tables, view, seen, ranIn};
-ghost use Rattle.machine.specs.Inner.{settled, acted, tried, putFrames, putCells, putKeys, putPairs, putFunctions, putBindings, stopOf, giveOf, goOf, resumeOf, unkeyedOf, limitsIn, orElse, Works, isTaken, loopOf, ended, closing, Went};
+ghost use Rattle.machine.specs.Inner.{acted, stepped, tried, deed, putFrames, putCells, putKeys, putPairs, putFunctions, putBindings, stopOf, giveOf, goOf, resumeOf, unkeyedOf, limitsIn, orElse, Works, isTaken, loopOf, ended, closing, Went};
 
 // An expression to enter or a value to hand on.
 pub enum Control {
@@ -204,7 +204,7 @@ fn lookup(bindings: &[u64; 2048], n: u16, x: u8, from: u16) -> Found
 
 // The keys that four values stand for, where all are limit keys.
 fn limit_keys(a: Value, b: Value, c: Value, d: Value) -> Limits
-    ensures { λ r. ⌜ ((f : List ℕ → Out) → limitKeys (valueIn a ∷ valueIn b ∷ valueIn c ∷ valueIn d ∷ []) f ≡ limitsIn r f) ⌝ }
+    ensures { λ r. ⌜ ((f : List ℕ → Plan) → limitKeys (valueIn a ∷ valueIn b ∷ valueIn c ∷ valueIn d ∷ []) f ≡ limitsIn r f) ⌝ }
 {
     let i = a.kind;
     let j = b.kind;
@@ -361,20 +361,19 @@ impl Thread {
         let Kind::Pair = k else {
             return self.stop(Answer::Stuck);
         };
+        if (x.payload as u64) < store::cap(back.pairs, 512) {} else {
+            return self.stop(Answer::Stuck);
+        }
         if back.touch(x, keys) {} else {
             return self.stop(Answer::Denied);
         }
-        if (x.payload as u64) < store::cap(back.pairs, 512) {
-            let t = store::pair_at(pairs, x.payload);
-            let one = t.first;
-            let two = t.second;
-            if first {
-                back.give(one)
-            } else {
-                back.give(two)
-            }
+        let t = store::pair_at(pairs, x.payload);
+        let one = t.first;
+        let two = t.second;
+        if first {
+            back.give(one)
         } else {
-            self.stop(Answer::Stuck)
+            back.give(two)
         }
     }
 
@@ -393,11 +392,11 @@ impl Thread {
         let Kind::Function = k else {
             return self.stop(Answer::Stuck);
         };
-        if back.touch(x, keys) {} else {
-            return self.stop(Answer::Denied);
-        }
         if (x.payload as u64) < store::cap(back.functions, 512) {} else {
             return self.stop(Answer::Stuck);
+        }
+        if back.touch(x, keys) {} else {
+            return self.stop(Answer::Denied);
         }
         let n = back.bindings;
         if n < 1024 {
@@ -432,26 +431,25 @@ impl Thread {
     fn act_assign(
         self,
         back: Thread,
-        x: Value,
-        y: Value,
+        cell: Value,
+        value: Value,
         keys: &[u8; 128],
         cells: &mut [u64; 256],
     ) -> Acted
-        ensures { λ r. ⌜ ((w : Tables) → acted r (putCells (putKeys w (now (keys .entry))) (now (cells .exit))) ≡ tried self back (putCells (putKeys w (now (keys .entry))) (now (cells .entry))) (actAsg (valueIn x) (valueIn y))) ⌝ }
+        ensures { λ r. ⌜ ((w : Tables) → acted r (putCells (putKeys w (now (keys .entry))) (now (cells .exit))) ≡ tried self back (putCells (putKeys w (now (keys .entry))) (now (cells .entry))) (actAsg (valueIn cell) (valueIn value))) ⌝ }
     {
-        let k = x.kind;
+        let k = cell.kind;
         let Kind::Cell = k else {
             return self.stop(Answer::Stuck);
         };
-        if back.touch(x, keys) {} else {
+        if (cell.payload as u64) < store::cap(back.cells, 256) {} else {
+            return self.stop(Answer::Stuck);
+        }
+        if back.touch(cell, keys) {} else {
             return self.stop(Answer::Denied);
         }
-        if (x.payload as u64) < store::cap(back.cells, 256) {
-            store::put_cell(cells, x.payload, y);
-            back.give(y)
-        } else {
-            self.stop(Answer::Stuck)
-        }
+        store::put_cell(cells, cell.payload, value);
+        back.give(value)
     }
 
     fn act_read(self, back: Thread, x: Value, keys: &[u8; 128], cells: &[u64; 256]) -> Acted
@@ -461,15 +459,14 @@ impl Thread {
         let Kind::Cell = k else {
             return self.stop(Answer::Stuck);
         };
+        if (x.payload as u64) < store::cap(back.cells, 256) {} else {
+            return self.stop(Answer::Stuck);
+        }
         if back.touch(x, keys) {} else {
             return self.stop(Answer::Denied);
         }
-        if (x.payload as u64) < store::cap(back.cells, 256) {
-            let v = store::cell_at(cells, x.payload);
-            back.give(v)
-        } else {
-            self.stop(Answer::Stuck)
-        }
+        let v = store::cell_at(cells, x.payload);
+        back.give(v)
     }
 
     fn act_sum(self, back: Thread, sum: bool, x: Value, y: Value, keys: &[u8; 128]) -> Acted
@@ -602,7 +599,7 @@ impl Thread {
         bindings: &mut [u64; 2048],
     ) -> Acted
         requires { ⌜ (self .keys < 128) × (self .pairs < 512) × (self .bindings < 1023) ⌝ }
-        ensures { λ t. ⌜ ((w : Tables) → Went t (putBindings (putPairs (putKeys w (now (keys .exit))) (now (pairs .exit))) (now (bindings .exit))) (newKey x r (body .0) (j .0) (view self (putBindings (putPairs (putKeys w (now (keys .entry))) (now (pairs .entry))) (now (bindings .entry)))))) ⌝ }
+        ensures { λ t. ⌜ ((w : Tables) → Went t (putBindings (putPairs (putKeys w (now (keys .exit))) (now (pairs .exit))) (now (bindings .exit))) (settle (deed (d-key x r (body .0) (j .0)) (view self (putBindings (putPairs (putKeys w (now (keys .entry))) (now (pairs .entry))) (now (bindings .entry))))))) ⌝ }
     {
         let nk = self.keys;
         let np = self.pairs;
@@ -631,30 +628,30 @@ impl Thread {
         next.go(body, (nb + 2) as u16, on)
     }
 
-    fn act_associate(self, back: Thread, x: Value, y: Value, keys: &[u8; 128]) -> Acted
-        ensures { λ r. ⌜ ((w : Tables) → acted r (putKeys w (now (keys .entry))) ≡ tried self back (putKeys w (now (keys .entry))) (actAssoc (valueIn x) (valueIn y))) ⌝ }
+    fn act_associate(self, back: Thread, value: Value, limit: Value, keys: &[u8; 128]) -> Acted
+        ensures { λ r. ⌜ ((w : Tables) → acted r (putKeys w (now (keys .entry))) ≡ tried self back (putKeys w (now (keys .entry))) (actAssoc (valueIn value) (valueIn limit))) ⌝ }
     {
-        let l = y.kind;
+        let l = limit.kind;
         let Kind::Limit = l else {
             return self.stop(Answer::Stuck);
         };
-        if back.touch(x, keys) {} else {
+        if back.touch(value, keys) {} else {
             return self.stop(Answer::Denied);
         }
-        if back.touch(y, keys) {} else {
+        if back.touch(limit, keys) {} else {
             return self.stop(Answer::Denied);
         }
-        let j = store::key_in(y);
-        let k = x.kind;
+        let j = store::key_in(limit);
+        let k = value.kind;
         back.give(Value {
             key: j,
             kind: k,
-            payload: x.payload,
+            payload: value.payload,
         })
     }
 
     fn push(self, e: Expr, first: Expr, frames: &mut [u64; 1536]) -> Acted
-        ensures { λ r. ⌜ ((w : Tables) → acted r (putFrames w (now (frames .exit))) ≡ tried self self (putFrames w (now (frames .entry))) (push (e .0) (first .0))) ⌝ }
+        ensures { λ r. ⌜ ((w : Tables) → acted r (putFrames w (now (frames .exit))) ≡ tried self self (putFrames w (now (frames .entry))) (deed (d-push (e .0) (first .0)))) ⌝ }
     {
         let n = self.frames;
         if n < 256 {
@@ -670,7 +667,7 @@ impl Thread {
     }
 
     fn function(self, x: u8, body: Expr, functions: &mut [u64; 512]) -> Acted
-        ensures { λ r. ⌜ ((w : Tables) → acted r (putFunctions w (now (functions .exit))) ≡ tried self self (putFunctions w (now (functions .entry))) (newFn x (body .0))) ⌝ }
+        ensures { λ r. ⌜ ((w : Tables) → acted r (putFunctions w (now (functions .exit))) ≡ tried self self (putFunctions w (now (functions .entry))) (deed (d-fn x (body .0)))) ⌝ }
     {
         let n = self.functions;
         if n < 512 {
@@ -928,7 +925,7 @@ impl Thread {
         functions: &mut [u64; 512],
         bindings: &mut [u64; 2048],
     ) -> Acted
-        ensures { λ r. ⌜ acted r (tables (now (frames .exit)) (now (cells .exit)) (now (keys .exit)) (now (pairs .exit)) (now (functions .exit)) (now (bindings .exit))) ≡ tried self self (tables (now (frames .entry)) (now (cells .entry)) (now (keys .entry)) (now (pairs .entry)) (now (functions .entry)) (now (bindings .entry))) (step (codeIn (now (heads .entry)) (now (slots .entry)))) ⌝ }
+        ensures { λ r. ⌜ acted r (tables (now (frames .exit)) (now (cells .exit)) (now (keys .exit)) (now (pairs .exit)) (now (functions .exit)) (now (bindings .exit))) ≡ stepped self (tables (now (frames .entry)) (now (cells .entry)) (now (keys .entry)) (now (pairs .entry)) (now (functions .entry)) (now (bindings .entry))) (step (codeIn (now (heads .entry)) (now (slots .entry)))) ⌝ }
     {
         let now = self.now;
         let control = now.control;

@@ -1,9 +1,9 @@
 -- Demand 3, from the bytes: whatever the bytes of a job, if the check accepts it, then every list of calls, each a step or a run of any n, made one after another from
 -- the machine that starting the job gives, gets only the answers that document 01 allows, each exactly when document 01 has it. `AllGive` says which
 -- those are, by "finished" and "needs a place that is not there", which are defined apart from the step; stuck and denied are not among them.
-use mathlib.Core.Path.{_≡_, subst}
+use mathlib.Core.Path.{_≡_, sym, subst}
 use Prim.Native.Nat.{ℕ}
-use mathlib.Core.List.{List}
+use mathlib.Core.List.{List, List·Memᴰ, List·Memᴰ·head, List·Memᴰ·tail}
 use Rattle.order.specs.Effects.{Effect}
 use Rattle.syntax.specs.Types.{Ty, tree}
 use Rattle.syntax.specs.Commands.{Cmd, mapCmd}
@@ -14,11 +14,12 @@ use Rattle.syntax.specs.ReadFormed.{read-well, nth-map}
 use Rattle.typing.specs.Verdict.{accept, verdictOf}
 use Rattle.typing.specs.Demand2.{accepts-typed}
 use Rattle.typing.specs.Rules.{codeOf}
+use Rattle.semantics.specs.Machine.{Machine}
 use Rattle.semantics.specs.Start.{startOf}
-use Rattle.semantics.specs.Calls.{Call, Ran, calls, AllGive}
+use Rattle.semantics.specs.Calls.{Call, Ran, calls, AllGive, all-nil, all-cons}
 use Rattle.semantics.specs.TypeFree.{calls-same, all-same}
 use Rattle.semantics.specs.Only.{all-one}
-use Rattle.semantics.specs.Safety.{safety}
+use Rattle.semantics.specs.Safety.{Fine, fine, safety}
 
 -- the expressions of a job as it is read
 abbrev pub exprOf : Job → ℕ → Cmd ℕ
@@ -50,3 +51,12 @@ demand3 s h =
 -- and nothing else is allowed: what a list of calls may give is what it gives
 pub demand3-one : (J : Job) (cs : List Call) (l : List Ran) → Allowed J cs l → Allowed J cs (callsOf J cs) → callsOf J cs ≡ l
 demand3-one J cs l g h = all-one (exprOf J) h g
+
+-- in plain words: each answer is taken, finished, spent or no room; none is stuck or denied
+all-fine : {T : Type 0} (code : ℕ → Cmd T) {cs : List Call} {m : Machine} {l : List Ran} → AllGive code cs m l → (r : Ran) → List·Memᴰ r l → Fine (r .answer)
+all-fine code (all-cons g h) r (List·Memᴰ·head e) = subst (λ q. Fine (q .answer)) (sym e) (fine code g)
+all-fine code (all-cons g h) r (List·Memᴰ·tail i) = all-fine code h r i
+
+pub demand3-answers : (s : List ℕ) {T : Ty} {e : Effect} → verdictOf s ≡ accept T e
+    → (J : Job) × (reading s ≡ read J) × ((cs : List Call) (r : Ran) → List·Memᴰ r (callsOf J cs) → Fine (r .answer))
+demand3-answers s h = let z = demand3 s h in (z .0, z .1, λ cs. all-fine (exprOf (z .0)) (z .2 cs))

@@ -1,5 +1,5 @@
 -- What is enabled, exactly: no less than document 01's machine enables, and no more. Safety alone would not notice a machine that enables too much.
-use mathlib.Core.Path.{_≡_, refl, sym, _∙_, subst}
+use mathlib.Core.Path.{_≡_, refl, sym, ap, _∙_, subst}
 use Prim.Native.Nat.{ℕ, suc, _^_, _<_}
 use native.Mathlib.Omega.{arith}
 use mathlib.Core.Bool.{Bool, true, false, false≢true}
@@ -26,7 +26,7 @@ use Rattle.typing.specs.Rules.{h-num}
 use Rattle.semantics.specs.Machine.{k-num, k-fn, k-cell, k-lim, k-grant, Value, b-var, Closure, Frame, enter, hand, Machine, most-bindings}
 use Rattle.semantics.specs.Keys.{enabled, upto, narrow, add}
 use Rattle.semantics.specs.Step
-use Rattle.semantics.specs.Step.{Out, give, go, withCells, withBindings, withFrames, room, onNum, onFn, onCell, onLim, onGrant, found, one, two, branch, actApp, actAsg, actTest, limitKeys, touchAll, actLim, actGrant, worked, act, enterLim, enterCmd, resume, receive, handTo, stepOn, step}
+use Rattle.semantics.specs.Step.{Out, o-step, does, free, Plan, room, settle, handing, entering, withCells, withBindings, withFrames, asNum, asFn, asCell, asLim, asGrant, found, one, two, branch, actApp, actAsg, actTest, limitKeys, keysOf, touchAll, actLim, actGrant, worked, act, enterLim, enterCmd, resume, receive, handTo, planOn, plan, step}
 use Rattle.semantics.specs.Start.{named, keyNamed, startOf}
 use Rattle.semantics.specs.Enabled.{mem-upto}
 use Rattle.semantics.specs.Begin.{start-ok}
@@ -178,13 +178,13 @@ pub data Stand : List Value → List ℕ → Type 0 where
   st-nil : Stand [] []
   st-cons : {v : Value} {j : ℕ} {vs : List Value} {js : List ℕ} → v .kind ≡ k-lim j → Stand vs js → Stand (v ∷ vs) (j ∷ js)
 
-stand-keys : {vs : List Value} {js : List ℕ} → Stand vs js → (g : List ℕ → Out) → limitKeys vs g ≡ g js
-unfolding limitKeys onLim
+stand-keys : {vs : List Value} {js : List ℕ} → Stand vs js → (g : List ℕ → Plan) → limitKeys vs g ≡ g js
+unfolding limitKeys asLim found
 stand-keys st-nil g = refl
 stand-keys (st-cons {j = j} {vs = vs} e s) g = rw e (stand-keys s (λ js. g (j ∷ js)))
 
-touch-all : (m : Machine) (vs : List Value) (o : Out) → ((v : Value) → List·Memᴰ v vs → enabled (m .store .keys) (m .thread .on) (v .key) ≡ true) → touchAll vs m o ≡ o
-unfolding touchAll Step.touch
+touch-all : (m : Machine) (vs : List Value) (o : Out) → ((v : Value) → List·Memᴰ v vs → enabled (m .store .keys) (m .thread .on) (v .key) ≡ true) → touchAll (keysOf vs) m o ≡ o
+unfolding touchAll keysOf Step.touch
 touch-all m [] o h = refl
 touch-all m (v ∷ vs) o h = rw (h v (List·Memᴰ·head refl)) (touch-all m vs o (λ w n. h w (List·Memᴰ·tail n)))
 
@@ -199,50 +199,50 @@ module _ {T : Type 0} (code : ℕ → Cmd T) where
     pub values : (f .hand ++ (last ∷ [])) ≡ vs
 
   -- "brings back its own bindings and enabled keys and .., all in hand, is popped and acts"
-  pub acting : {m : Machine} {k : Cmd T} {vs : List Value} {f : Frame} {fs : List Frame} → Acting m k vs f fs → step code m ≡ act k vs (resume f fs m)
-  unfolding step stepOn handTo receive
+  pub acting : {m : Machine} {k : Cmd T} {vs : List Value} {f : Frame} {fs : List Frame} → Acting m k vs f fs → step code m ≡ settle (act k vs (resume f fs m))
+  unfolding step plan planOn handTo receive
   acting {m} {k} {vs} {f} {fs} a = rw (a .control, a .frames, a .command, a .whole, a .values, a .command)
 
   -- "3C with no keys pushes none and enters its body with no key enabled"
-  pub limit-none : (m : Machine) {e b : ℕ} → m .thread .control ≡ enter e → code e ≡ c-lim [] b → step code m ≡ go b (m .thread .env) 0 m
-  unfolding step stepOn enterCmd enterLim
+  pub limit-none : (m : Machine) {e b : ℕ} → m .thread .control ≡ enter e → code e ≡ c-lim [] b → step code m ≡ o-step (entering b (m .thread .env) 0 m)
+  unfolding step plan planOn enterCmd enterLim settle touchAll Step.touch free does room
   limit-none m h c = rw (h, c)
 
   -- 3C: the body is entered with exactly what the limit leaves of the frame's own enabled keys
   pub limit-body : {m : Machine} {b : ℕ} {ks js : List ℕ} {vs : List Value} {f : Frame} {fs : List Frame} → Acting m (c-lim ks b) vs f fs → Stand vs js
       → ((v : Value) → List·Memᴰ v vs → enabled (m .store .keys) (f .on) (v .key) ≡ true)
-      → step code m ≡ go b (f .env) (narrow (m .store .keys) (f .on) js) (withFrames m fs)
-  unfolding act actLim
-  limit-body {m} {vs = vs} {f = f} {fs = fs} a s h = acting a ∙ stand-keys s _ ∙ touch-all (resume f fs m) vs _ h
+      → step code m ≡ o-step (entering b (f .env) (narrow (m .store .keys) (f .on) js) (withFrames m fs))
+  unfolding act actLim settle free does room
+  limit-body {m} {vs = vs} {f = f} {fs = fs} a s h = acting a ∙ ap settle (stand-keys s _) ∙ touch-all (resume f fs m) vs _ h
 
   -- 3D: with exactly what the frame had and the granted key
   pub grant-body : {m : Machine} {a b j : ℕ} {v : Value} {f : Frame} {fs : List Frame} → Acting m (c-grant a b) (v ∷ []) f fs → v .kind ≡ k-grant j
       → enabled (m .store .keys) (f .on) (v .key) ≡ true
-      → step code m ≡ go b (f .env) (add (m .store .keys) j (f .on)) (withFrames m fs)
-  unfolding act one actGrant onGrant Step.touch
+      → step code m ≡ o-step (entering b (f .env) (add (m .store .keys) j (f .on)) (withFrames m fs))
+  unfolding act one actGrant asGrant found settle touchAll Step.touch free does room
   grant-body a e h = acting a ∙ rw (e, h)
 
   -- 36: "a call uses the caller's enabled keys", the frame's own, and not those where the function was made
   pub call-body : {m : Machine} {a b i : ℕ} {v w : Value} {c : Closure} {f : Frame} {fs : List Frame} → Acting m (c-app a b) (v ∷ w ∷ []) f fs → v .kind ≡ k-fn i
       → enabled (m .store .keys) (f .on) (v .key) ≡ true → getElem? (m .store .functions) i ≡ some c → length (m .store .bindings) < most-bindings
-      → step code m ≡ go (c .body) (suc (length (m .store .bindings))) (f .on) (withBindings (withFrames m fs) (m .store .bindings ++ (record { bind = b-var (c .var) w; next = c .env } ∷ [])))
-  unfolding act two actApp onFn Step.touch found Step.call room
-  call-body {m} a e h g r = acting a ∙ rw (e, h, g, lt-ltb (length (m .store .bindings)) most-bindings r)
+      → step code m ≡ o-step (entering (c .body) (suc (length (m .store .bindings))) (f .on) (withBindings (withFrames m fs) (m .store .bindings ++ (record { bind = b-var (c .var) w; next = c .env } ∷ []))))
+  unfolding act two actApp asFn found settle touchAll Step.touch free does room
+  call-body {m} a e h g r = acting a ∙ rw (e, g, h, lt-ltb (length (m .store .bindings)) most-bindings r)
 
   -- 38 "hands on the assigned value"
   pub assign-hands : {m : Machine} {a b c : ℕ} {v w old : Value} {f : Frame} {fs : List Frame} → Acting m (c-asg a b) (v ∷ w ∷ []) f fs → v .kind ≡ k-cell c
       → enabled (m .store .keys) (f .on) (v .key) ≡ true → getElem? (m .store .cells) c ≡ some old
-      → step code m ≡ give w (withCells (resume f fs m) (set (m .store .cells) c w))
-  unfolding act two actAsg onCell Step.touch found
-  assign-hands a e h g = acting a ∙ rw (e, h, g)
+      → step code m ≡ o-step (handing w (withCells (resume f fs m) (set (m .store .cells) c w)))
+  unfolding act two actAsg asCell found settle touchAll Step.touch free does room
+  assign-hands a e h g = acting a ∙ rw (e, g, h)
 
   -- 3B: the second operand for a number above 0, the third for 0, each with the frame's own enabled keys
   pub test-above : {m : Machine} {a b c n : ℕ} {t : T} {v : Value} {f : Frame} {fs : List Frame} → Acting m (c-test a b c t) (v ∷ []) f fs → v .kind ≡ k-num (suc n)
-      → enabled (m .store .keys) (f .on) (v .key) ≡ true → step code m ≡ go b (f .env) (f .on) (withFrames m fs)
-  unfolding act one actTest onNum Step.touch branch
+      → enabled (m .store .keys) (f .on) (v .key) ≡ true → step code m ≡ o-step (entering b (f .env) (f .on) (withFrames m fs))
+  unfolding act one actTest asNum found branch settle touchAll Step.touch free does room
   test-above a e h = acting a ∙ rw (e, h)
 
   pub test-zero : {m : Machine} {a b c : ℕ} {t : T} {v : Value} {f : Frame} {fs : List Frame} → Acting m (c-test a b c t) (v ∷ []) f fs → v .kind ≡ k-num 0
-      → enabled (m .store .keys) (f .on) (v .key) ≡ true → step code m ≡ go c (f .env) (f .on) (withFrames m fs)
-  unfolding act one actTest onNum Step.touch branch
+      → enabled (m .store .keys) (f .on) (v .key) ≡ true → step code m ≡ o-step (entering c (f .env) (f .on) (withFrames m fs))
+  unfolding act one actTest asNum found branch settle touchAll Step.touch free does room
   test-zero a e h = acting a ∙ rw (e, h)

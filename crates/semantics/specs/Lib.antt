@@ -2,6 +2,9 @@ pub mod Machine
 pub mod Keys
 pub mod Step
 pub mod Room
+pub mod Wants
+pub mod StepExactly
+pub mod Agreement
 pub mod Start
 pub mod Starting
 pub mod Calls

@@ -7,6 +7,7 @@ use lib.ListN.{length, getElem?}
 use lib.Dec.{leb}
 use Rattle.order.specs.Bools.{_or_}
 use Rattle.syntax.specs.Commands.{Cmd, c-num, c-top, c-var, c-pair, c-part, c-fn, c-app, c-new, c-asg, c-read, c-sum, c-test, c-lim, c-grant, c-newkey, c-assoc}
+use Rattle.syntax.specs.Operands.{inner}
 use Rattle.semantics.specs.Machine.{Frame, Control, enter, hand, Machine, most-cells, most-keys, most-pairs, most-functions, most-frames, most-bindings}
 use Rattle.semantics.specs.Step.{worked}
 
@@ -23,26 +24,15 @@ isDone m = doneAt (m .thread .control) (m .thread .frames)
 unfoldable pub full : ℕ → ℕ → Bool
 full used most = leb most used
 
+unfoldable pub lacksEntry : List ℕ → List ℕ → Machine → Bool
+lacksEntry (a ∷ l) bodies m = full (length (m .thread .frames)) most-frames
+lacksEntry [] (b ∷ bodies) m = full (length (m .store .functions)) most-functions
+lacksEntry [] [] m = false
+
 module _ {T : Type 0} where
-  -- entering takes a frame, but for 30, 31 and 32, which take nothing, 35, which takes a function, and 3C with no keys
+  -- entering takes a frame where operands are worked out first; else a function, where the body of a binder is kept (35); else nothing (30, 31, 32, 3C with no keys)
   unfoldable pub lacksEnter : Cmd T → Machine → Bool
-  lacksEnter (c-num n) m = false
-  lacksEnter c-top m = false
-  lacksEnter (c-var x) m = false
-  lacksEnter (c-pair a b) m = full (length (m .thread .frames)) most-frames
-  lacksEnter (c-part a i) m = full (length (m .thread .frames)) most-frames
-  lacksEnter (c-fn x t b) m = full (length (m .store .functions)) most-functions
-  lacksEnter (c-app a b) m = full (length (m .thread .frames)) most-frames
-  lacksEnter (c-new t a) m = full (length (m .thread .frames)) most-frames
-  lacksEnter (c-asg a b) m = full (length (m .thread .frames)) most-frames
-  lacksEnter (c-read a) m = full (length (m .thread .frames)) most-frames
-  lacksEnter (c-sum i a b) m = full (length (m .thread .frames)) most-frames
-  lacksEnter (c-test a b c t) m = full (length (m .thread .frames)) most-frames
-  lacksEnter (c-lim [] b) m = false
-  lacksEnter (c-lim (a ∷ ks) b) m = full (length (m .thread .frames)) most-frames
-  lacksEnter (c-grant a b) m = full (length (m .thread .frames)) most-frames
-  lacksEnter (c-newkey x r a b t) m = full (length (m .thread .frames)) most-frames
-  lacksEnter (c-assoc a b) m = full (length (m .thread .frames)) most-frames
+  lacksEnter k m = lacksEntry (worked k) (inner k) m
 
   -- 33 takes a pair, 36 a binding, 37 a cell, 3E a key, a pair and two bindings
   unfoldable pub lacksAct : Cmd T → Machine → Bool

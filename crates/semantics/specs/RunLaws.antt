@@ -1,5 +1,5 @@
 -- What a step and a run say, exactly, of every machine, typed or not, and whatever the expressions are. `Says` has document 01's words, a constructor for each answer, and
--- a call says that and nothing else: so each answer is given exactly when its conditions hold.
+-- a call says that and nothing else: so each answer is given exactly when its conditions hold. Done, stuck, denied and no room are defined apart from the step.
 use mathlib.Core.Path.{_≡_, refl, sym, _∙_, subst}
 use Prim.Native.Nat.{ℕ, zero, suc, _+_, _≤_, _<_}
 use native.Mathlib.Omega.{arith}
@@ -10,7 +10,8 @@ use Rattle.semantics.specs.Machine.{Machine}
 use Rattle.semantics.specs.Step.{Out, o-step, o-done, o-room, o-stuck, o-denied, step}
 use Rattle.semantics.specs.Room.{isDone}
 use Rattle.semantics.specs.Calls.{Call, one-step, run-of, taken, finished, spent, noroom, stuck, denied, Ran, ran, turn, run, call, Takes, no-step, first}
-use Rattle.semantics.specs.RoomLaws.{Fair, fair-step, fair-done, fair-room, fair-stuck, fair-denied, fair}
+use Rattle.semantics.specs.Wants.{Stuck, Denied, NoRoom}
+use Rattle.semantics.specs.StepExactly.{done-exactly, stuck-exactly, denied-exactly, noroom-exactly}
 
 module _ {T : Type 0} (code : ℕ → Cmd T) where
   -- what a call says of the machine m: the answer, the steps taken, and the machine after them. "A run of n steps takes up to n, one after another, and counts those
@@ -19,35 +20,17 @@ module _ {T : Type 0} (code : ℕ → Cmd T) where
     one-taken : {t : Machine} → step code m ≡ o-step t → Says m one-step (ran taken 1 t)
     -- "A step of a finished machine answers done and changes nothing."
     one-done : isDone m ≡ true → Says m one-step (ran finished 0 m)
-    one-stuck : step code m ≡ o-stuck → Says m one-step (ran stuck 0 m)
-    one-denied : step code m ≡ o-denied → Says m one-step (ran denied 0 m)
-    one-noroom : step code m ≡ o-room → Says m one-step (ran noroom 0 m)
+    one-stuck : Stuck code m → Says m one-step (ran stuck 0 m)
+    one-denied : Denied code m → Says m one-step (ran denied 0 m)
+    one-noroom : NoRoom code m → Says m one-step (ran noroom 0 m)
     -- "done only if the machine is done at the end"
     run-done : {n k : ℕ} {t : Machine} → k ≤ n → Takes code k m t → isDone t ≡ true → Says m (run-of n) (ran finished k t)
     -- "spent only after n steps taken, and only if it isn't done then"
     run-spent : {n : ℕ} {t : Machine} → Takes code n m t → isDone t ≡ false → Says m (run-of n) (ran spent n t)
     -- "stuck, denied or no room only if a step within the n failed with that"
-    run-stuck : {n k : ℕ} {t : Machine} → k < n → Takes code k m t → step code t ≡ o-stuck → Says m (run-of n) (ran stuck k t)
-    run-denied : {n k : ℕ} {t : Machine} → k < n → Takes code k m t → step code t ≡ o-denied → Says m (run-of n) (ran denied k t)
-    run-noroom : {n k : ℕ} {t : Machine} → k < n → Takes code k m t → step code t ≡ o-room → Says m (run-of n) (ran noroom k t)
-
-  -- a machine is done exactly when its step answers done
-  done-of : {b c : Bool} {o : Out} → Fair b c o → b ≡ true → o ≡ o-done
-  done-of fair-step e = absurd (false≢true e)
-  done-of fair-done e = refl
-  done-of fair-room e = absurd (false≢true e)
-  done-of fair-stuck e = absurd (false≢true e)
-  done-of fair-denied e = absurd (false≢true e)
-
-  of-done : {b c : Bool} {o : Out} → Fair b c o → o ≡ o-done → b ≡ true
-  of-done fair-step e = let z : _≡_ {A = ℕ} 0 1 = cc in absurd (omega arith)
-  of-done fair-done e = refl
-  of-done fair-room e = let z : _≡_ {A = ℕ} 0 1 = cc in absurd (omega arith)
-  of-done fair-stuck e = let z : _≡_ {A = ℕ} 0 1 = cc in absurd (omega arith)
-  of-done fair-denied e = let z : _≡_ {A = ℕ} 0 1 = cc in absurd (omega arith)
-
-  pub done-exactly : (m : Machine) → (isDone m ≡ true) ↔ (step code m ≡ o-done)
-  done-exactly m = (done-of (fair code m), of-done (fair code m))
+    run-stuck : {n k : ℕ} {t : Machine} → k < n → Takes code k m t → Stuck code t → Says m (run-of n) (ran stuck k t)
+    run-denied : {n k : ℕ} {t : Machine} → k < n → Takes code k m t → Denied code t → Says m (run-of n) (ran denied k t)
+    run-noroom : {n k : ℕ} {t : Machine} → k < n → Takes code k m t → NoRoom code t → Says m (run-of n) (ran noroom k t)
 
   -- One way: what may be said is said
 
@@ -61,23 +44,23 @@ module _ {T : Type 0} (code : ℕ → Cmd T) where
   ends-done : (n i : ℕ) (t : Machine) → isDone t ≡ true → run code n i t ≡ ran finished i t
   unfolding run turn
   ends-done zero i t d = rw d
-  ends-done (suc n) i t d = rw (done-exactly t .0 d)
+  ends-done (suc n) i t d = rw (done-exactly code t .1 d)
 
   ends-spent : (i : ℕ) (t : Machine) → isDone t ≡ false → run code 0 i t ≡ ran spent i t
   unfolding run
   ends-spent i t d = rw d
 
-  ends-stuck : (n i : ℕ) (t : Machine) → step code t ≡ o-stuck → run code (suc n) i t ≡ ran stuck i t
+  ends-stuck : (n i : ℕ) (t : Machine) → Stuck code t → run code (suc n) i t ≡ ran stuck i t
   unfolding run turn
-  ends-stuck n i t e = rw e
+  ends-stuck n i t e = rw (stuck-exactly code t .1 e)
 
-  ends-denied : (n i : ℕ) (t : Machine) → step code t ≡ o-denied → run code (suc n) i t ≡ ran denied i t
+  ends-denied : (n i : ℕ) (t : Machine) → Denied code t → run code (suc n) i t ≡ ran denied i t
   unfolding run turn
-  ends-denied n i t e = rw e
+  ends-denied n i t e = rw (denied-exactly code t .1 e)
 
-  ends-noroom : (n i : ℕ) (t : Machine) → step code t ≡ o-room → run code (suc n) i t ≡ ran noroom i t
+  ends-noroom : (n i : ℕ) (t : Machine) → NoRoom code t → run code (suc n) i t ≡ ran noroom i t
   unfolding run turn
-  ends-noroom n i t e = rw e
+  ends-noroom n i t e = rw (noroom-exactly code t .1 e)
 
   -- the steps left after k of n
   left : (k n : ℕ) → k ≤ n → (j : ℕ) × (n ≡ k + j)
@@ -92,10 +75,10 @@ module _ {T : Type 0} (code : ℕ → Cmd T) where
   pub said : {m : Machine} {c : Call} {r : Ran} → Says m c r → call code c m ≡ r
   unfolding call turn
   said (one-taken e) = rw e
-  said (one-done d) = rw (done-exactly _ .0 d)
-  said (one-stuck e) = rw e
-  said (one-denied e) = rw e
-  said (one-noroom e) = rw e
+  said (one-done d) = rw (done-exactly code _ .1 d)
+  said (one-stuck e) = rw (stuck-exactly code _ .1 e)
+  said (one-denied e) = rw (denied-exactly code _ .1 e)
+  said (one-noroom e) = rw (noroom-exactly code _ .1 e)
   said (run-done {n = n} {k = k} {t = t} h x d) = let z = left k n h in run-on x n (z .0) 0 k (z .1) (omega arith) ∙ ends-done (z .0) k t d
   said (run-spent {n = n} {t = t} x d) = run-on x n 0 0 n (omega arith) (omega arith) ∙ ends-spent n t d
   said (run-stuck {n = n} {k = k} {t = t} h x e) = let z = over k n h in run-on x n (suc (z .0)) 0 k (z .1) (omega arith) ∙ ends-stuck (z .0) k t e
@@ -140,10 +123,10 @@ module _ {T : Type 0} (code : ℕ → Cmd T) where
     where
       at : (o : Out) → step code m ≡ o → ((t : Machine) → Says t (run-of n) (run code n 0 t)) → Says m (run-of (suc n)) (turn o 0 m (λ t. run code n 1 t))
       at (o-step t) e f = subst (λ r. Says m (run-of (suc n)) r) (sym (count-first n 0 t)) (earlier e (f t))
-      at o-done e f = run-done {n = suc n} {k = 0} (omega arith) no-step (done-exactly m .1 e)
-      at o-room e f = run-noroom {n = suc n} {k = 0} (omega arith) no-step e
-      at o-stuck e f = run-stuck {n = suc n} {k = 0} (omega arith) no-step e
-      at o-denied e f = run-denied {n = suc n} {k = 0} (omega arith) no-step e
+      at o-done e f = run-done {n = suc n} {k = 0} (omega arith) no-step (done-exactly code m .0 e)
+      at o-room e f = run-noroom {n = suc n} {k = 0} (omega arith) no-step (noroom-exactly code m .0 e)
+      at o-stuck e f = run-stuck {n = suc n} {k = 0} (omega arith) no-step (stuck-exactly code m .0 e)
+      at o-denied e f = run-denied {n = suc n} {k = 0} (omega arith) no-step (denied-exactly code m .0 e)
 
   pub call-says : (c : Call) (m : Machine) → Says m c (call code c m)
   unfolding call turn
@@ -151,10 +134,10 @@ module _ {T : Type 0} (code : ℕ → Cmd T) where
     where
       at : (o : Out) → step code m ≡ o → Says m one-step (turn o 0 m (λ t. ran taken 1 t))
       at (o-step t) e = one-taken e
-      at o-done e = one-done (done-exactly m .1 e)
-      at o-room e = one-noroom e
-      at o-stuck e = one-stuck e
-      at o-denied e = one-denied e
+      at o-done e = one-done (done-exactly code m .0 e)
+      at o-room e = one-noroom (noroom-exactly code m .0 e)
+      at o-stuck e = one-stuck (stuck-exactly code m .0 e)
+      at o-denied e = one-denied (denied-exactly code m .0 e)
   call-says (run-of n) m = run-says n m
 
   -- a call says one thing

@@ -23,11 +23,11 @@ use Rattle.typing.specs.Subtype.{Sub}
 use Rattle.typing.specs.Scoped.{scoped-free}
 use Rattle.typing.specs.Rules.{Has, h-num, h-top, h-var, h-pair, h-part1, h-part2, h-fn, h-app, h-new, h-asg, h-read, h-sum, h-test, h-lim, h-grant, h-newkey, h-assoc, h-sub, HasKeys, k-nil, k-cons, Fresh, Free, codeOf, keysType}
 use Rattle.semantics.specs.Machine.{Kind, k-pair, k-lim, k-grant, Value, unkeyed, Bind, b-var, b-name, Link, Frame, Control, hand, Thread, Store, Machine, most-bindings}
-use Rattle.semantics.specs.Keys.{add}
+use Rattle.semantics.specs.Keys.{enabled, add}
 use Rattle.semantics.specs.Step
-use Rattle.semantics.specs.Step.{Out, o-step, o-done, o-room, room, onNum, onPair, onFn, onCell, onLim, onGrant, found, one, two, go}
-use Rattle.semantics.specs.Step.{actPair, partOf, actPart, actApp, actNew, actAsg, actRead, actSum, branch, actTest, limitKeys, touchAll, actLim, actGrant, newKey, actNewkey, actAssoc}
-use Rattle.semantics.specs.Step.{worked, act, variable, newFn, push, enterLim, enterCmd, receive, handTo, stepOn, step}
+use Rattle.semantics.specs.Step.{Out, o-step, o-done, o-room, Deed, d-enter, d-push, d-fn, does, free, Plan, p-done, p-try, room, touchAll, settle, asNum, asPair, asFn, asCell, asLim, asGrant, found, one, two}
+use Rattle.semantics.specs.Step.{actPair, partOf, actPart, actApp, actNew, actAsg, actRead, actSum, branch, actTest, limitKeys, keysOf, actLim, actGrant, actNewkey, actAssoc}
+use Rattle.semantics.specs.Step.{worked, act, variable, enterLim, enterCmd, receive, handTo, planOn, plan, step}
 use Rattle.semantics.specs.RuntimeTypes.{RTy, rnum, rpair, rcell, rfn, rlim, rgrant, RSub, r-num, r-pair, r-cell, r-fn, r-lim, r-grant, rkey, rrekey, inst, rsub-refl, rsub-trans, rsub-key, rsub-rekey, inst-rekey, inst-key, under-refl}
 use Rattle.semantics.specs.Chains.{look, lookVar, Chain, ch-cons, chain-le, chain-seek, chain-wider, seam, seam-next, length-two}
 use Rattle.semantics.specs.Invariant.{TwoTy, FnTy, World, worldOf, Ext, Typ, t-num, t-pair, t-cell, t-fn, t-lim, t-grant, Fits, On, on-zero, on-key, OnAll, Covers, EnvOk, eo-var, eo-name, Env, Held, hd-nil, hd-cons, Rest, rest-here, rest-next}
@@ -44,11 +44,28 @@ pub data Good (S : Src) (W : World) : Out → Type 0 where
   g-done : Good S W o-done
   g-room : Good S W o-room
 
--- where there is room
-room-ok : {S : Src} {W : World} {o : Out} (b : Bool) → (b ≡ true → Good S W o) → Good S W (room b o)
-unfolding room
-room-ok true h = h refl
-room-ok false h = g-room
+-- the keys are enabled
+data AllOn (m : Machine) : List ℕ → Type 0 where
+  no-key : AllOn m []
+  and-key : {k : ℕ} {ks : List ℕ} → enabled (m .store .keys) (m .thread .on) k ≡ true → AllOn m ks → AllOn m (k ∷ ks)
+
+-- the same of a plan: nothing is wrong, the keys that it touches are enabled, and where there is room it does well
+data Sure (S : Src) (W : World) : Plan → Type 0 where
+  sure-done : Sure S W p-done
+  sure-try : {ks : List ℕ} {m : Machine} {d : Deed} → AllOn m ks → (free d m ≡ true → Good S W (o-step (does d m))) → Sure S W (p-try ks m d)
+
+settled : {S : Src} {W : World} {p : Plan} → Sure S W p → Good S W (settle p)
+unfolding settle touchAll Step.touch room
+settled sure-done = g-done
+settled {S} {W} (sure-try {ks = ks} {m = m} {d = d} a h) = all a
+  where
+    all : {ks : List ℕ} → AllOn m ks → Good S W (touchAll ks m (room (free d m) (o-step (does d m))))
+    all no-key = at (free d m) h
+      where
+        at : (b : Bool) → (b ≡ true → Good S W (o-step (does d m))) → Good S W (room b (o-step (does d m)))
+        at true h = h refl
+        at false h = g-room
+    all (and-key e a) = rw e (all a)
 
 kb-refl : {ks : List ℕ} {A : RTy} → RSub ks A A
 kb-refl {A = A} = rsub-refl A
@@ -116,28 +133,31 @@ module _ (S : Src) (σ : Store) (pt : List TwoTy) (ft : List FnTy) (ct : List RT
     abbrev Stack : RTy → Type 0
     Stack T = StackOk S W (θ .frames) T
 
-    touch-ok : {k : ℕ} {o : Out} → OnHere k → Good S W o → Good S W (Step.touch k m o)
-    unfolding Step.touch
-    touch-ok h g = rw (on-enabled ko (θ .on) h) g
+    touch-ok : {k : ℕ} → OnHere k → enabled (σ .keys) (θ .on) k ≡ true
+    touch-ok h = on-enabled ko (θ .on) h
+
+    -- a key touched, or none
+    one-key : {k : ℕ} → OnHere k → AllOn m (k ∷ [])
+    one-key h = and-key (touch-ok h) no-key
 
     push-ok : (at : ℕ) {a : ℕ} {k : Cmd Ty} {E : List Bind} {Γ : List Entry} {A : Ty} {X U : RTy} {s : Effect}
         → codeOf S at ≡ k → Envs E Γ → Has S Γ a A s → CoversHere E s → RSub (σ .keys) (inst (look E) A) X → FrameOk S W k [] (θ .env) (θ .on) X U → Stack U
-        → Good S W (push at a m)
-    unfolding push
-    push-ok at q o h c b g k = room-ok _ (λ z. step-ok (to-enter o h c (so-cons q b g k)))
+        → Sure S W (p-try [] m (d-push at a))
+    unfolding does
+    push-ok at q o h c b g k = sure-try no-key (λ z. step-ok (to-enter o h c (so-cons q b g k)))
 
     var-ok : (x : ℕ) {E : List Bind} {Γ : List Entry} {v : Value} {T : RTy}
-        → Envs E Γ → lookVar E x ≡ some v → Fits W v T → Stack T → Good S W (variable x m)
-    unfolding variable found
-    var-ok x o z f k = let h : θ .env ≤ most-bindings = omega (arith, few, chain-le (o .chain)) in rw (chain-seek (o .chain) most-bindings h x ∙ z) (step-ok (to-hand f k))
+        → Envs E Γ → lookVar E x ≡ some v → Fits W v T → Stack T → Sure S W (variable x m)
+    unfolding variable found does
+    var-ok x o z f k = let h : θ .env ≤ most-bindings = omega (arith, few, chain-le (o .chain)) in rw (chain-seek (o .chain) most-bindings h x ∙ z) (sure-try no-key (λ r. step-ok (to-hand f k)))
 
     newFn-ok : {x b : ℕ} {E : List Bind} {Γ : List Entry} {T U : Ty} {s : Effect}
-        → Envs E Γ → Has S (e-var x T ∷ Γ) b U s → Stack (inst (look E) (fn 0 T U s)) → Good S W (newFn x b m)
-    unfolding newFn inst
+        → Envs E Γ → Has S (e-var x T ∷ Γ) b U s → Stack (inst (look E) (fn 0 T U s)) → Sure S W (p-try [] m (d-fn x b))
+    unfolding does inst
     newFn-ok {x = x} {b = b} {E = E} {Γ = Γ} {T = T} {U = U} {s = s} o h k =
         let t : FnTy = record { from = inst (look E) T; to = inst (look E) U; eff = map (look E) (names s) } in
         let w = fn-extends st t in
-        room-ok _ (λ z. g-step (record {
+        sure-try no-key (λ z. g-step (record {
           pt = pt;
           ft = ft ++ (t ∷ []);
           ct = ct;
@@ -165,19 +185,19 @@ module _ (S : Src) (σ : Store) (pt : List TwoTy) (ft : List FnTy) (ct : List RT
     enterLim-ok : (at : ℕ) {b : ℕ} {E : List Bind} {Γ : List Entry} {ks rs : List ℕ} {T : Ty} {s t : Effect}
         → codeOf S at ≡ c-lim ks b → Envs E Γ → HasKeys S Γ ks rs s → CoversHere E s
         → Has S Γ b T t → CoversHere E t → Covers (σ .keys) (map (look E) rs) (look E) t → Stack (inst (look E) T)
-        → Good S W (enterLim at ks b m)
-    unfolding enterLim inst
-    enterLim-ok at q o k-nil cl h c u k = step-ok (to-enter o h (covers-more (λ a m. absurd (List·Memᴰ·not-nil m)) u) k)
+        → Sure S W (p-try [] m (enterLim at ks b))
+    unfolding enterLim inst does
+    enterLim-ok at q o k-nil cl h c u k = sure-try no-key (λ z. step-ok (to-enter o h (covers-more (λ a m. absurd (List·Memᴰ·not-nil m)) u) k))
     enterLim-ok at q o (k-cons {q = p} {s = s} {t = t} x ks) cl h c u k =
         let d = covers-old p (join s t) cl in
         push-ok at q o x (covers-join-l s t d) kb-refl
         (fo-lim o (rest-next rest-here) ks (covers-join-r s t d) hd-nil (covers-touch (env-zero (o .ok)) p (join s t) cl) h c u) k
 
     enter-ok : {a : ℕ} {E : List Bind} {Γ : List Entry} {T : Ty} {n : Effect}
-        → Envs E Γ → Has S Γ a T n → CoversHere E n → Stack (inst (look E) T) → Good S W (enterCmd a (codeOf S a) m)
-    unfolding enterCmd inst
-    enter-ok o (h-num c) v k = rw c (step-ok (to-hand (record { exact = rnum 0; typ = t-num; sub = r-num bot }) k))
-    enter-ok o (h-top c) v k = rw c (step-ok (to-hand (record { exact = rlim 0 1; typ = t-lim (omega arith); sub = rw (env-one (o .ok)) (r-lim bot) }) k))
+        → Envs E Γ → Has S Γ a T n → CoversHere E n → Stack (inst (look E) T) → Sure S W (enterCmd a (codeOf S a) m)
+    unfolding enterCmd inst does
+    enter-ok o (h-num c) v k = rw c (sure-try no-key (λ z. step-ok (to-hand (record { exact = rnum 0; typ = t-num; sub = r-num bot }) k)))
+    enter-ok o (h-top c) v k = let p : 0 < 1 = omega arith in rw c (sure-try no-key (λ z. step-ok (to-hand (record { exact = rlim 0 1; typ = t-lim p; sub = rw (env-one (o .ok)) (r-lim bot) }) k)))
     enter-ok o (h-var c l) v k = let z = env-lookup (o .ok) l in rw c (var-ok _ o (z .1) (z .2) k)
     enter-ok o (h-pair {s = s} {t = t} c x y) v k =
         rw c (push-ok _ c o x (covers-join-l s t v) kb-refl (fo-pair1 o y (covers-join-r s t v)) (stack-sub (r-pair bot kb-refl kb-refl) k))
@@ -228,20 +248,20 @@ module _ (S : Src) (σ : Store) (pt : List TwoTy) (ft : List FnTy) (ct : List RT
         (subst (λ i. Stack i) (inst-rekey (look E) r A) k))
     enter-ok o (h-sub d x p u i) v k = enter-ok o d (covers-below ko (o .ok) v u) (stack-sub (env-sub (o .ok) x) k)
 
-    part1-ok : {k q : ℕ} {x : Kind} {X A B : RTy} → RSub (σ .keys) X (rpair q A B) → Typ W k x X → OnHere q → Stack A → Good S W (actPart true (val k x) m)
-    unfolding actPart onPair found partOf
-    part1-ok (r-pair b y z) (t-pair {t = t} e) on k = let o = st .ps _ t e in touch-ok (on-below ko on b) (rw (o .found) (step-ok (to-hand (fits-sub (o .one) y) k)))
+    part1-ok : {k q : ℕ} {x : Kind} {X A B : RTy} → RSub (σ .keys) X (rpair q A B) → Typ W k x X → OnHere q → Stack A → Sure S W (actPart true (val k x) m)
+    unfolding actPart asPair found partOf does
+    part1-ok (r-pair b y z) (t-pair {t = t} e) on k = let o = st .ps _ t e in rw (o .found) (sure-try (one-key (on-below ko on b)) (λ z. step-ok (to-hand (fits-sub (o .one) y) k)))
 
-    part2-ok : {k q : ℕ} {x : Kind} {X A B : RTy} → RSub (σ .keys) X (rpair q A B) → Typ W k x X → OnHere q → Stack B → Good S W (actPart false (val k x) m)
-    unfolding actPart onPair found partOf
-    part2-ok (r-pair b y z) (t-pair {t = t} e) on k = let o = st .ps _ t e in touch-ok (on-below ko on b) (rw (o .found) (step-ok (to-hand (fits-sub (o .two) z) k)))
+    part2-ok : {k q : ℕ} {x : Kind} {X A B : RTy} → RSub (σ .keys) X (rpair q A B) → Typ W k x X → OnHere q → Stack B → Sure S W (actPart false (val k x) m)
+    unfolding actPart asPair found partOf does
+    part2-ok (r-pair b y z) (t-pair {t = t} e) on k = let o = st .ps _ t e in rw (o .found) (sure-try (one-key (on-below ko on b)) (λ r. step-ok (to-hand (fits-sub (o .two) z) k)))
 
-    pair-ok : {v w : Value} {A B : RTy} → Fits W v A → Fits W w B → Stack (rpair 0 A B) → Good S W (actPair v w m)
-    unfolding actPair
+    pair-ok : {v w : Value} {A B : RTy} → Fits W v A → Fits W w B → Stack (rpair 0 A B) → Sure S W (actPair v w m)
+    unfolding actPair does
     pair-ok {v} {w} {A} {B} f g k =
         let t : TwoTy = record { one = A; two = B } in
         let x = pair-extends st t in
-        room-ok _ (λ z. g-step (record {
+        sure-try no-key (λ z. g-step (record {
           pt = pt ++ (t ∷ []);
           ft = ft;
           ct = ct;
@@ -252,18 +272,18 @@ module _ (S : Src) (σ : Store) (pt : List TwoTy) (ft : List FnTy) (ct : List RT
         }) x)
 
     app-ok : {k q : ℕ} {x : Kind} {X T U : RTy} {L : List ℕ} {w : Value}
-        → RSub (σ .keys) X (rfn q T U L) → Typ W k x X → OnHere q → OnAll (σ .keys) (members (θ .on)) L → Fits W w T → Stack U → Good S W (actApp (val k x) w m)
-    unfolding actApp onFn found Step.call look
-    app-ok {U = U} {w = w} (r-fn b y z u) (t-fn {f = i} {t = t} e) on c g k = touch-ok (on-below ko on b) (rw (o .found) (room-ok _ (λ q. g-step (record {
+        → RSub (σ .keys) X (rfn q T U L) → Typ W k x X → OnHere q → OnAll (σ .keys) (members (θ .on)) L → Fits W w T → Stack U → Sure S W (actApp (val k x) w m)
+    unfolding actApp asFn found does free look
+    app-ok {U = U} {w = w} (r-fn b y z u) (t-fn {f = i} {t = t} e) on c g k = rw (o .found) (sure-try (one-key (on-below ko on b)) (λ q. g-step (record {
       pt = pt;
       ft = ft;
       ct = ct;
       keys = ko;
-      few = omega (arith, ltb-true (length (σ .bindings)) most-bindings q, length-snoc (σ .bindings) l);
+      few = room-left (ltb-true (length (σ .bindings)) most-bindings q);
       store = store-wider st (σ .keys) B′ wx;
       thread = to-enter inner (o .body) (covers-ext wx (map-covers (o .used) (subst (λ L. OnAll (σ .keys) (members (θ .on)) L) (o .eff) (on-under ko u c))))
           (stack-ext wx (stack-sub (subst (λ h. RSub (σ .keys) h U) (o .to) z) k));
-    }) wx)))
+    }) wx))
       where
         o : FnOk S W (σ .functions) i t
         o = st .fs i t e
@@ -274,6 +294,9 @@ module _ (S : Src) (σ : Store) (pt : List TwoTy) (ft : List FnTy) (ct : List RT
         B′ : List Link
         B′ = σ .bindings ++ (l ∷ [])
 
+        room-left : length (σ .bindings) < most-bindings → length B′ ≤ most-bindings
+        room-left z = omega (arith, z, length-snoc (σ .bindings) l)
+
         wx : Ext W (world pt ft ct (σ .keys) B′)
         wx = record { pts = λ i a e. e; fts = λ i a e. e; cts = λ i a e. e; ks = λ a b h. h; klen = omega arith; lks = getElem?-append (σ .bindings) (l ∷ []) }
 
@@ -283,11 +306,11 @@ module _ (S : Src) (σ : Store) (pt : List TwoTy) (ft : List FnTy) (ct : List RT
           ok = eo-var (envOk-ext wx (o .env .ok)) (subst (λ h. Fits (world pt ft ct (σ .keys) B′) w h) (o .from) (fits-ext wx (fits-sub g y)));
         }
 
-    new-ok : {v : Value} {T : RTy} → Fits W v T → Stack (rcell 0 T) → Good S W (actNew v m)
-    unfolding actNew
+    new-ok : {v : Value} {T : RTy} → Fits W v T → Stack (rcell 0 T) → Sure S W (actNew v m)
+    unfolding actNew does
     new-ok {v} {T} f k =
         let x = cell-extends st T in
-        room-ok _ (λ z. g-step (record {
+        sure-try no-key (λ z. g-step (record {
           pt = pt;
           ft = ft;
           ct = ct ++ (T ∷ []);
@@ -297,15 +320,15 @@ module _ (S : Src) (σ : Store) (pt : List TwoTy) (ft : List FnTy) (ct : List RT
           thread = to-hand (record { exact = rcell 0 T; typ = t-cell (getElem?-at ct T (length (σ .cells)) (st .clen)); sub = kb-refl }) (stack-ext x k);
         }) x)
 
-    read-ok : {k q : ℕ} {x : Kind} {X A : RTy} → RSub (σ .keys) X (rcell q A) → Typ W k x X → OnHere q → Stack A → Good S W (actRead (val k x) m)
-    unfolding actRead onCell found
-    read-ok (r-cell b) (t-cell {A = t} e) on k = let o = st .cs _ t e in touch-ok (on-below ko on b) (rw (o .found) (step-ok (to-hand (o .fits) k)))
+    read-ok : {k q : ℕ} {x : Kind} {X A : RTy} → RSub (σ .keys) X (rcell q A) → Typ W k x X → OnHere q → Stack A → Sure S W (actRead (val k x) m)
+    unfolding actRead asCell found does
+    read-ok (r-cell b) (t-cell {A = t} e) on k = let o = st .cs _ t e in rw (o .found) (sure-try (one-key (on-below ko on b)) (λ z. step-ok (to-hand (o .fits) k)))
 
-    asg-ok : {k q : ℕ} {x : Kind} {X A : RTy} {w : Value} → RSub (σ .keys) X (rcell q A) → Typ W k x X → OnHere q → Fits W w A → Stack A → Good S W (actAsg (val k x) w m)
-    unfolding actAsg onCell found
+    asg-ok : {k q : ℕ} {x : Kind} {X A : RTy} {w : Value} → RSub (σ .keys) X (rcell q A) → Typ W k x X → OnHere q → Fits W w A → Stack A → Sure S W (actAsg (val k x) w m)
+    unfolding actAsg asCell found does
     asg-ok {w = w} (r-cell b) (t-cell {A = t} e) on g k =
         let o = st .cs _ t e in
-        touch-ok (on-below ko on b) (rw (o .found) (g-step (record {
+        rw (o .found) (sure-try (one-key (on-below ko on b)) (λ z. g-step (record {
           pt = pt;
           ft = ft;
           ct = ct;
@@ -316,50 +339,50 @@ module _ (S : Src) (σ : Store) (pt : List TwoTy) (ft : List FnTy) (ct : List RT
         }) (ext-refl W)))
 
     sum-ok : (i : Bool) {k l p q : ℕ} {x y : Kind} {X Y : RTy}
-        → RSub (σ .keys) X (rnum p) → Typ W k x X → OnHere p → RSub (σ .keys) Y (rnum q) → Typ W l y Y → OnHere q → Stack (rnum 0) → Good S W (actSum i (val k x) (val l y) m)
-    unfolding actSum onNum
+        → RSub (σ .keys) X (rnum p) → Typ W k x X → OnHere p → RSub (σ .keys) Y (rnum q) → Typ W l y Y → OnHere q → Stack (rnum 0) → Sure S W (actSum i (val k x) (val l y) m)
+    unfolding actSum asNum found does
     sum-ok i (r-num a) t-num on (r-num b) t-num on′ k =
-        touch-ok (on-below ko on a) (touch-ok (on-below ko on′ b) (step-ok (to-hand (record { exact = rnum 0; typ = t-num; sub = kb-refl }) k)))
+        sure-try (and-key (touch-ok (on-below ko on a)) (one-key (on-below ko on′ b))) (λ z. step-ok (to-hand (record { exact = rnum 0; typ = t-num; sub = kb-refl }) k))
 
     test-ok : {k q b c : ℕ} {x : Kind} {X : RTy} {B C T : Ty} {E : List Bind} {Γ : List Entry} {s u : Effect}
         → RSub (σ .keys) X (rnum q) → Typ W k x X → OnHere q → Envs E Γ → Has S Γ b B s → CoversHere E s → Sub (upOf S) B T
-        → Has S Γ c C u → CoversHere E u → Sub (upOf S) C T → Stack (inst (look E) T) → Good S W (actTest b c (val k x) m)
-    unfolding actTest onNum branch
-    test-ok {b = b} {c = c} (r-num a) (t-num {n = n}) on o h v y g w z k = touch-ok (on-below ko on a) (at n)
+        → Has S Γ c C u → CoversHere E u → Sub (upOf S) C T → Stack (inst (look E) T) → Sure S W (actTest b c (val k x) m)
+    unfolding actTest asNum found does branch
+    test-ok {b = b} {c = c} (r-num a) (t-num {n = n}) on o h v y g w z k = sure-try (one-key (on-below ko on a)) (λ r. at n)
       where
-        at : (n : ℕ) → Good S W (go (branch n b c) (θ .env) (θ .on) m)
+        at : (n : ℕ) → Good S W (o-step (does (d-enter (branch n b c)) m))
         at zero = step-ok (to-enter o g w (stack-sub (env-sub (o .ok) z) k))
         at (suc n) = step-ok (to-enter o h v (stack-sub (env-sub (o .ok) y) k))
 
     -- limit keys in hand are limit keys, and may be touched
-    held-keys : {vs : List Value} {js : List ℕ} → Held W (members (θ .on)) vs js → (f : List ℕ → Out) → limitKeys vs f ≡ f js
-    unfolding limitKeys onLim
+    held-keys : {vs : List Value} {js : List ℕ} → Held W (members (θ .on)) vs js → (f : List ℕ → Plan) → limitKeys vs f ≡ f js
+    unfolding limitKeys asLim found
     held-keys hd-nil f = refl
     held-keys (hd-cons {v = v} {j = j} {vs = vs} {js = js} g q h) f = first (g .sub) (g .typ) (λ i. limitKeys vs (λ is. f (i ∷ is))) ∙ held-keys h (λ is. f (j ∷ is))
       where
-        first : {k q j : ℕ} {x : Kind} {X : RTy} → RSub (σ .keys) X (rlim q j) → Typ W k x X → (f : ℕ → Out) → onLim x f ≡ f j
+        first : {k q j : ℕ} {x : Kind} {X : RTy} → RSub (σ .keys) X (rlim q j) → Typ W k x X → (f : ℕ → Plan) → found (asLim x) f ≡ f j
         first (r-lim b) (t-lim p) f = refl
 
     on-value : {v : Value} {A : RTy} → Fits W v A → OnHere (rkey A) → OnHere (v .key)
     on-value f a = subst (λ i. OnHere i) (typ-key (f .typ)) (on-below ko a (rsub-key (f .sub)))
 
-    held-touch : {vs : List Value} {js : List ℕ} {o : Out} → Held W (members (θ .on)) vs js → Good S W o → Good S W (touchAll vs m o)
-    unfolding touchAll rkey
-    held-touch hd-nil g = g
-    held-touch (hd-cons f q h) g = touch-ok (on-value f q) (held-touch h g)
+    held-touch : {vs : List Value} {js : List ℕ} → Held W (members (θ .on)) vs js → AllOn m (keysOf vs)
+    unfolding keysOf rkey
+    held-touch hd-nil = no-key
+    held-touch (hd-cons f q h) = and-key (touch-ok (on-value f q)) (held-touch h)
 
     limit-ok : {b : ℕ} {E : List Bind} {Γ : List Entry} {js : List ℕ} {vs : List Value} {T : Ty} {t : Effect}
-        → Envs E Γ → Held W (members (θ .on)) vs js → Has S Γ b T t → CoversHere E t → Covers (σ .keys) js (look E) t → Stack (inst (look E) T) → Good S W (actLim b vs m)
-    unfolding actLim
+        → Envs E Γ → Held W (members (θ .on)) vs js → Has S Γ b T t → CoversHere E t → Covers (σ .keys) js (look E) t → Stack (inst (look E) T) → Sure S W (actLim b vs m)
+    unfolding actLim does
     limit-ok {js = js} o hd h c u k =
-        subst⁻¹ (λ r. Good S W r) (held-keys hd _)
-        (held-touch hd (step-ok (to-enter o h (record { each = λ n w. on-narrow ko (θ .on) js (c .each n w) (u .each n w) (env-lt ko (o .ok) n) }) k)))
+        subst⁻¹ (λ r. Sure S W r) (held-keys hd _)
+        (sure-try (held-touch hd) (λ z. step-ok (to-enter o h (record { each = λ n w. on-narrow ko (θ .on) js (c .each n w) (u .each n w) (env-lt ko (o .ok) n) }) k)))
 
     grant-ok : {k q j b : ℕ} {x : Kind} {X : RTy} {T : Ty} {E : List Bind} {Γ : List Entry} {t : Effect}
         → RSub (σ .keys) X (rgrant q j) → Typ W k x X → OnHere q → Envs E Γ → Has S Γ b T t → ((n : ℕ) → List·Memᴰ n (names t) → OnHere (look E n) ⊎ Below (σ .keys) (look E n) j)
-        → Stack (inst (look E) T) → Good S W (actGrant b (val k x) m)
-    unfolding actGrant onGrant
-    grant-ok {j = j} {E = E} {t = t} (r-grant b) (t-grant z) on o h c k = touch-ok (on-below ko on b) (step-ok (to-enter o h (record { each = λ n w. more n (c n w) }) k))
+        → Stack (inst (look E) T) → Sure S W (actGrant b (val k x) m)
+    unfolding actGrant asGrant found does
+    grant-ok {j = j} {E = E} {t = t} (r-grant b) (t-grant z) on o h c k = sure-try (one-key (on-below ko on b)) (λ q. step-ok (to-enter o h (record { each = λ n w. more n (c n w) }) k))
       where
         -- the granted key is there, since a key below it is
         under : (n : ℕ) → Below (σ .keys) (look E n) j → (look E n ≡ 0) ⊎ (j ≤ look E n) → On (σ .keys) (members (add (σ .keys) j (θ .on))) (look E n)
@@ -371,20 +394,20 @@ module _ (S : Src) (σ : Store) (pt : List TwoTy) (ft : List FnTy) (ct : List RT
         more n (inr e) = under n e (below-le (ko .proper) e)
 
     assoc-ok : {k q j : ℕ} {x : Kind} {X A : RTy} {v : Value}
-        → RSub (σ .keys) X (rlim q j) → Typ W k x X → OnHere q → Fits W v A → OnHere (rkey A) → Stack (rrekey j A) → Good S W (actAssoc v (val k x) m)
-    unfolding actAssoc onLim
+        → RSub (σ .keys) X (rlim q j) → Typ W k x X → OnHere q → Fits W v A → OnHere (rkey A) → Stack (rrekey j A) → Sure S W (actAssoc v (val k x) m)
+    unfolding actAssoc asLim found does
     assoc-ok {j = j} (r-lim b) (t-lim z) on f a k =
-        touch-ok (on-value f a)
-        (touch-ok (on-below ko on b) (step-ok (to-hand (record { exact = rrekey j (f .exact); typ = typ-rekey j (f .typ); sub = rsub-rekey j (f .sub) }) k)))
+        sure-try (and-key (touch-ok (on-value f a)) (one-key (on-below ko on b)))
+        (λ q. (step-ok (to-hand (record { exact = rrekey j (f .exact); typ = typ-rekey j (f .typ); sub = rsub-rekey j (f .sub) }) k)))
 
     newkey-ok : {k q j x r b u : ℕ} {z : Kind} {X : RTy} {B T : Ty} {E : List Bind} {Γ : List Entry} {t : Effect}
         → RSub (σ .keys) X (rlim q j) → Typ W k z X → j ≡ look E u → OnHere q → Envs E Γ → getElem? (upOf S) r ≡ some u → Fresh (upOf S) Γ r
         → Has S (e-var x (keysType r) ∷ e-name r ∷ Γ) b B t → Sub (upOf S) B T → Free r T
         → ((n : ℕ) → List·Memᴰ n (names t) → n ≢ r → OnHere (look E n)) → (List·Memᴰ r (names t) → OnHere (look E u))
-        → Stack (inst (look E) T) → Good S W (actNewkey x r b (val k z) m)
-    unfolding actNewkey newKey onLim look inst
+        → Stack (inst (look E) T) → Sure S W (actNewkey x r b (val k z) m)
+    unfolding actNewkey asLim found does free look inst
     newkey-ok {j = j} {x = x} {r = r} {b = b} {u = u} {T = T} {E = E} {Γ = Γ} {t = t} (r-lim d) (t-lim pos) ju on o e f h y free c cu k =
-        touch-ok (on-below ko on d) (room-ok _ (λ full. g-step (record {
+        sure-try (one-key (on-below ko on d)) (λ full. g-step (record {
           pt = pt ++ (tw ∷ []);
           ft = ft;
           ct = ct;
@@ -393,7 +416,7 @@ module _ (S : Src) (σ : Store) (pt : List TwoTy) (ft : List FnTy) (ct : List RT
           store = add-pair (store-wider st ks′ B′ wx) tw (record { one = unkeyed (k-lim K); two = unkeyed (k-grant K) })
               (record { exact = rlim 0 K; typ = t-lim posK; sub = kb-refl }) (record { exact = rgrant 0 K; typ = t-grant posK; sub = kb-refl });
           thread = to-enter inner h (record { each = λ n w. at n w (eqb n r) refl }) (stack-sub (env-sub (inner .ok) y) (subst (λ a. StackOk S W′ (θ .frames) a) (inst-off E r K T free) (stack-ext wx′ k)));
-        }) wx′))
+        }) wx′)
       where
         K : ℕ
         K = length (σ .keys)
@@ -483,31 +506,31 @@ module _ (S : Src) (σ : Store) (pt : List TwoTy) (ft : List FnTy) (ct : List RT
   keys-ok : (θ : Thread) (at n e on : ℕ) {b : ℕ} {fs : List Frame} {E : List Bind} {Γ : List Entry} {ks rest rs js : List ℕ} (vs ws : List Value) {T : Ty} {s t : Effect}
       → codeOf S at ≡ c-lim ks b → Env S W e E Γ → Rest ks n rest → n ≡ length ws → HasKeys S Γ rest rs s → Covers (σ .keys) (members on) (look E) s → Held W (members on) ws js
       → Has S Γ b T t → Covers (σ .keys) (members on) (look E) t → Covers (σ .keys) (js ++ map (look E) rs) (look E) t → StackOk S W fs (inst (look E) T)
-      → Good S W (receive (codeOf S) (getElem? ks n) (frame at e on vs) ws fs (machine θ))
-  unfolding receive act inst
+      → Sure S W (receive (codeOf S) (getElem? ks n) (frame at e on vs) ws fs (machine θ))
+  unfolding receive act inst does
   keys-ok θ at n e on {fs = fs} {E = E} {js = js} vs ws {t = t} q o r l k-nil cl hd h c u k =
       rw (rest-none r, q) (limit-ok (popped (θ .control) e on fs) o hd h c (subst (λ i. Covers (σ .keys) i (look E) t) (append-nil js) u) k)
   keys-ok θ at n e on {ks = ks} vs ws q o r l (k-cons {q = p} {ks = rest} {s = s} {t = t} x more) cl hd h c u k =
       let d = covers-old p (join s t) cl in
-      rw (rest-some r) (step-ok (to-enter o x (covers-join-l s t d) (so-cons q kb-refl
-      (fo-lim o (subst (λ i. Rest ks (suc i) rest) l (rest-more r)) more (covers-join-r s t d) hd (covers-touch (env-zero (o .ok)) p (join s t) cl) h c u) k)))
+      rw (rest-some r) (sure-try no-key (λ z. step-ok (to-enter o x (covers-join-l s t d) (so-cons q kb-refl
+      (fo-lim o (subst (λ i. Rest ks (suc i) rest) l (rest-more r)) more (covers-join-r s t d) hd (covers-touch (env-zero (o .ok)) p (join s t) cl) h c u) k))))
 
   -- a frame that a value of its type goes to
   receive-ok : (θ : Thread) (at : ℕ) {k : Cmd Ty} {h : List Value} {e on : ℕ} {A B : RTy} {fs : List Frame} (v : Value)
       → codeOf S at ≡ k → FrameOk S W k h e on A B → Fits W v A → StackOk S W fs B
-      → Good S W (receive (codeOf S) (getElem? (worked k) (suc (length h))) (frame at e on h) (h ++ (v ∷ [])) fs (machine θ))
-  unfolding receive worked act one two inst
-  receive-ok θ at v q (fo-pair1 o h c) g k = step-ok (to-enter o h c (so-cons q kb-refl (fo-pair2 g) k))
+      → Sure S W (receive (codeOf S) (getElem? (worked k) (suc (length h))) (frame at e on h) (h ++ (v ∷ [])) fs (machine θ))
+  unfolding receive worked act one two inst does
+  receive-ok θ at v q (fo-pair1 o h c) g k = sure-try no-key (λ z. step-ok (to-enter o h c (so-cons q kb-refl (fo-pair2 g) k)))
   receive-ok θ at {fs = fs} v q (fo-pair2 {e = e} {on = on} f) g k = rw q (pair-ok (popped (θ .control) e on fs) f g k)
   receive-ok θ at {fs = fs} v q (fo-part1 {e = e} {on = on} p) g k = rw q (part1-ok (popped (θ .control) e on fs) (g .sub) (g .typ) p k)
   receive-ok θ at {fs = fs} v q (fo-part2 {e = e} {on = on} p) g k = rw q (part2-ok (popped (θ .control) e on fs) (g .sub) (g .typ) p k)
-  receive-ok θ at v q (fo-app1 o h c y p l) g k = step-ok (to-enter o h c (so-cons q y (fo-app2 g p l) k))
+  receive-ok θ at v q (fo-app1 o h c y p l) g k = sure-try no-key (λ z. step-ok (to-enter o h c (so-cons q y (fo-app2 g p l) k)))
   receive-ok θ at {fs = fs} v q (fo-app2 {e = e} {on = on} f p l) g k = rw q (app-ok (popped (θ .control) e on fs) (f .sub) (f .typ) p l g k)
   receive-ok θ at {fs = fs} v q (fo-new {e = e} {on = on}) g k = rw q (new-ok (popped (θ .control) e on fs) g k)
   receive-ok θ at {fs = fs} v q (fo-read {e = e} {on = on} p) g k = rw q (read-ok (popped (θ .control) e on fs) (g .sub) (g .typ) p k)
-  receive-ok θ at v q (fo-asg1 o h c y p) g k = step-ok (to-enter o h c (so-cons q y (fo-asg2 g p) k))
+  receive-ok θ at v q (fo-asg1 o h c y p) g k = sure-try no-key (λ z. step-ok (to-enter o h c (so-cons q y (fo-asg2 g p) k)))
   receive-ok θ at {fs = fs} v q (fo-asg2 {e = e} {on = on} f p) g k = rw q (asg-ok (popped (θ .control) e on fs) (f .sub) (f .typ) p g k)
-  receive-ok θ at v q (fo-sum1 o h c p r) g k = step-ok (to-enter o h c (so-cons q kb-refl (fo-sum2 g p r) k))
+  receive-ok θ at v q (fo-sum1 o h c p r) g k = sure-try no-key (λ z. step-ok (to-enter o h c (so-cons q kb-refl (fo-sum2 g p r) k)))
   receive-ok θ at {fs = fs} v q (fo-sum2 {e = e} {on = on} {i = i} f p r) g k = rw q (sum-ok (popped (θ .control) e on fs) i (f .sub) (f .typ) p (g .sub) (g .typ) r k)
   receive-ok θ at {fs = fs} v q (fo-test {e = e} {on = on} o h c y i d z p) g k = rw q (test-ok (popped (θ .control) e on fs) (g .sub) (g .typ) p o h c y i d z k)
   receive-ok θ at v q (fo-lim {e = e} {on = on} {j = j} {E = E} {rs = rs} {js = js} {vs = vs} {t = t} o r ks cl hd p h c u) g k =
@@ -515,19 +538,19 @@ module _ (S : Src) (σ : Store) (pt : List TwoTy) (ft : List FnTy) (ct : List RT
       (subst⁻¹ (λ l. Covers (σ .keys) l (look E) t) (append-assoc js (j ∷ []) (map (look E) rs)) u) k
   receive-ok θ at {fs = fs} v q (fo-grant {e = e} {on = on} o h p c) g k = rw q (grant-ok (popped (θ .control) e on fs) (g .sub) (g .typ) p o h c k)
   receive-ok θ at {fs = fs} v q (fo-newkey {e = e} {on = on} o a f h y i p c u) g k = rw q (newkey-ok (popped (θ .control) e on fs) (g .sub) (g .typ) refl p o a f h y i c u k)
-  receive-ok θ at v q (fo-assoc1 o h c a p) g k = step-ok (to-enter o h c (so-cons q kb-refl (fo-assoc2 g a p) k))
+  receive-ok θ at v q (fo-assoc1 o h c a p) g k = sure-try no-key (λ z. step-ok (to-enter o h c (so-cons q kb-refl (fo-assoc2 g a p) k)))
   receive-ok θ at {fs = fs} v q (fo-assoc2 {e = e} {on = on} f a p) g k = rw q (assoc-ok (popped (θ .control) e on fs) (g .sub) (g .typ) p f a k)
 
-  hand-ok : (θ : Thread) {fs : List Frame} (v : Value) {T : RTy} → Fits W v T → StackOk S W fs T → Good S W (handTo (codeOf S) v fs (machine θ))
+  hand-ok : (θ : Thread) {fs : List Frame} (v : Value) {T : RTy} → Fits W v T → StackOk S W fs T → Sure S W (handTo (codeOf S) v fs (machine θ))
   unfolding handTo
-  hand-ok θ v g so-nil = g-done
+  hand-ok θ v g so-nil = sure-done
   hand-ok θ v g (so-cons {f = f} q h o k) = rw q (receive-ok θ (f .at) v q o (fits-sub g h) k)
 
-  thread-ok : (θ : Thread) {c : Control} → ThreadOk S W c (θ .env) (θ .on) (θ .frames) → Good S W (stepOn (codeOf S) c (machine θ))
-  unfolding stepOn
+  thread-ok : (θ : Thread) {c : Control} → ThreadOk S W c (θ .env) (θ .on) (θ .frames) → Sure S W (planOn (codeOf S) c (machine θ))
+  unfolding planOn
   thread-ok θ (to-enter o h c k) = enter-ok θ o h c k
   thread-ok θ (to-hand {v = v} g k) = hand-ok θ v g k
 
 pub sound : (S : Src) (m : Machine) (k : Ok S m) → Good S (worldOf (k .pt) (k .ft) (k .ct) (m .store)) (step (codeOf S) m)
-unfolding step
-sound S m o = thread-ok S (m .store) (o .pt) (o .ft) (o .ct) (o .keys) (o .few) (o .store) (m .thread) (o .thread)
+unfolding step plan
+sound S m o = settled (thread-ok S (m .store) (o .pt) (o .ft) (o .ct) (o .keys) (o .few) (o .store) (m .thread) (o .thread))
