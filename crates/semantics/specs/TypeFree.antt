@@ -6,7 +6,6 @@ use mathlib.Core.List.{List, [], _∷_, _++_}
 use mathlib.Core.Option.{Option, none, some}
 use lib.ListN.{length, getElem?}
 use Rattle.syntax.specs.Commands.{Cmd, c-num, c-top, c-var, c-pair, c-part, c-fn, c-app, c-new, c-asg, c-read, c-sum, c-test, c-lim, c-grant, c-newkey, c-assoc, mapCmd}
-use Rattle.syntax.specs.RowLaws.{evaluated-map}
 use Rattle.semantics.specs.Machine.{Value, Frame, Control, enter, hand, Machine}
 use Rattle.semantics.specs.Step.{Out, o-step, o-done, o-room, o-stuck, o-denied, worked, act, enterCmd, receive, handTo, stepOn, step}
 use Rattle.semantics.specs.Room.{isDone, lacksEnter, lacksAct, lacksReceive, lacksHand, lacksOn, lacks}
@@ -14,8 +13,23 @@ use Rattle.semantics.specs.Calls.{Call, one-step, run-of, Ran, run, call
 
 module _ {T U : Type 0} (f : T → U) where
   worked-map : (k : Cmd T) → worked (mapCmd f k) ≡ worked k
-  unfolding worked
-  worked-map k = evaluated-map f k
+  unfolding worked mapCmd
+  worked-map (c-num n) = refl
+  worked-map c-top = refl
+  worked-map (c-var v) = refl
+  worked-map (c-pair a b) = refl
+  worked-map (c-part a i) = refl
+  worked-map (c-fn v t b) = refl
+  worked-map (c-app a b) = refl
+  worked-map (c-new t a) = refl
+  worked-map (c-asg a b) = refl
+  worked-map (c-read a) = refl
+  worked-map (c-sum i a b) = refl
+  worked-map (c-test a b c t) = refl
+  worked-map (c-lim ks b) = refl
+  worked-map (c-grant a b) = refl
+  worked-map (c-newkey v r a b t) = refl
+  worked-map (c-assoc a b) = refl
 
   act-map : (k : Cmd T) (h : List Value) (m : Machine) → act (mapCmd f k) h m ≡ act k h m
   unfolding act mapCmd
