@@ -9,9 +9,11 @@ use lib.ListN.{length}
 use lib.Dec.{eqb}
 use borrow.Author.Tests.{eq-eqb, eqb-true}
 use Rattle.order.specs.Bools.{_and_, and-l, and-r}
+use Rattle.syntax.specs.Types.{Ty}
 use Rattle.syntax.specs.Commands.{Cmd, c-num, c-top, c-var, c-pair, c-part, c-fn, c-app, c-new, c-asg, c-read, c-sum, c-test, c-lim, c-grant, c-newkey, c-assoc, mapCmd}
 use Rattle.syntax.specs.Commands.{Role, r-parameter, r-keypair, form, Operand, numbers, type, Row, row-of, row}
 use Rattle.syntax.specs.Operands.{code, wanted, someWanted, having, types, ofRoles, plain, inner, children, evaluated, typesOf, bindsVar, bindsName}
+use Rattle.syntax.specs.Tree.{entriesOf, binds}
 
 -- Roles that are wanted
 
@@ -235,3 +237,8 @@ module _ {T U : Type 0} (f : T → U) where
   pub typesOf-map : (k : Cmd T) → typesOf (mapCmd f k) ≡ map f (typesOf k)
   unfolding typesOf
   typesOf-map k = ap (λ (r : Row U). types (r .given)) (row-map k) ∙ types-map (row k .given)
+
+-- what a command binds, with other type operands
+pub binds-map : {T : Type 0} (f : T → Ty) (k : Cmd T) → binds (mapCmd f k) ≡ entriesOf (ofRoles (r-parameter ∷ []) k) (map f (typesOf k)) (ofRoles (r-keypair ∷ []) k) (bindsName k)
+unfolding binds
+binds-map f k = λ i. entriesOf (roles-map f (r-parameter ∷ []) k i) (typesOf-map f k i) (roles-map f (r-keypair ∷ []) k i) (bindsName-map f k i)

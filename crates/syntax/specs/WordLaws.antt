@@ -20,7 +20,7 @@ use Rattle.syntax.specs.Types.{TypeEntry, e-num, e-pair, e-cell, e-fn, e
 use Rattle.syntax.specs.Commands.{Cmd, c-num, c-top, c-var, c-pair, c-part, c-fn, c-app, c-new, c-asg, c-read, c-sum, c-test, c-lim, c-grant, c-newkey, c-assoc}
 use Rattle.syntax.specs.Commands.{Op, o-host, o-local, o-number, o-pair, o-cell, o-function, o-limit, o-grant, o-value, o-rights, o-end, opOf, operands, width, sectionOf, little, fields}
 use Rattle.syntax.specs.Commands.{x-number, x-top, x-variable, x-pair, x-part, x-function, x-apply, x-cell, x-assign, x-read, x-sum, x-test, x-limit, x-grant, x-newkey, x-associate}
-use Rattle.syntax.specs.Commands.{Role, r-evaluated, r-entered, r-inside, r-count, r-keys, r-unused, r-number, Operand, numbers, type, row}
+use Rattle.syntax.specs.Commands.{r-evaluated, r-entered, r-inside, r-count, r-keys, r-unused, r-number, Operand, numbers, type, row}
 use Rattle.syntax.specs.Operands.{nth, wanted, ofRoles, plain, inner, children, typesOf, usesVar, bindsVar, bindsName}
 use Rattle.syntax.specs.RowLaws.{among, roles-among, roles-split}
 use Rattle.syntax.specs.Job.{Name, HostValue, Job}

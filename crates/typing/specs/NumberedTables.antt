@@ -18,13 +18,13 @@ use Rattle.syntax.specs.Types.{Ty, pair, lim, grant, TypeEntry, e-num, e-pair, 
 use Rattle.syntax.specs.TypeLaws.{Part, of-pair-1, of-pair-2, of-cell, of-fn-1, of-fn-2, Earlier, tree-entry, tree-kept}
 use Rattle.syntax.specs.Commands.{Cmd, mapCmd}
 use Rattle.syntax.specs.Operands.{nth, typesOf, bindsName}
-use Rattle.syntax.specs.RowLaws.{Bound, bound-none, bound-type, bound-keys, bound}
+use Rattle.syntax.specs.RowLaws.{binds-map, Bound, bound-none, bound-type, bound-keys, bound}
 use Rattle.syntax.specs.Job.{Name, HostValue, Job, valueOf, sourceOf}
 use Rattle.syntax.specs.Reading.{declared, localName, setOk, partsOk, hostValueOk}
 use Rattle.syntax.specs.ReadLaws.{TypesOk, JobOk, built-at}
 use Rattle.syntax.specs.ReadFormed.{entry-parts, types-earlier, declared-lt, cmds-formed}
 use Rattle.syntax.specs.Tree.{Entry, e-var, e-name, entriesOf, binds, boundBy, hostCtx}
-use Rattle.syntax.specs.Scope.{VarIn, v-here, v-var, v-name, binds-map, host-var}
+use Rattle.syntax.specs.Scope.{VarIn, v-here, v-var, v-name, host-var}
 use Rattle.typing.specs.Least.{typeIn, varType}
 use Rattle.typing.specs.Layout.{newKeys, keyEntries, Typing, hostVars, keysEnd, typingsOf, boundVars, entryOf, varEntry}
 use Rattle.typing.specs.Numbered.{keyIn, startOf}
