@@ -80,9 +80,9 @@ oneOf n = cond (ltb n 64) (2 ^ n) 0
 unfoldable pub nonzero : Effect → Effect
 nonzero s = s - s % 2
 
--- touch and raise, for names below 64; a number that is no such name adds nothing
+-- touch and raise, for names below 64; 0 and a number that is no such name add nothing
 unfoldable pub touchBy : ℕ → Effect → Effect
-touchBy q s = bitOr (oneOf q) s
+touchBy q s = cond (eqb q 0) s (bitOr (oneOf q) s)
 
 unfoldable pub raiseBy : ℕ → ℕ → Effect → Effect
 raiseBy r u s = cond (bit (nonzero s) r) (bitOr (oneOf u) (bitXor (nonzero s) (oneOf r))) (nonzero s)

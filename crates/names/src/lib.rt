@@ -225,11 +225,14 @@ pub fn raise(r: Name, u: Name, s: u64) -> u64
     t
 }
 
-// s with q.
+// s with q; without a key, s as it is.
 pub fn touch(q: Name, s: u64) -> u64
     ensures { λ r. ⌜ r ≡ touchBy (q .0) s ⌝ }
 {
     let n = q.0;
+    if n == 0 {
+        return s;
+    }
     single(n) | s
 }
 
