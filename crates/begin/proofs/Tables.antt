@@ -22,11 +22,11 @@ use Rattle.semantics.specs.Starting.{Started, unless, startRead, starting, JobT
 use Rattle.machine.specs.declared.Machine.{Machine}
 use Rattle.machine.specs.View.{seen}
 use Rattle.job.specs.declared.Shape.{Shape}
-use Rattle.job.specs.declared.Refusal.{Refusal as Refused}
+use Rattle.table.specs.declared.Refusal.{Refusal as Refused}
 use Rattle.job.specs.declared.Answer.{Answer}
 use Rattle.job.specs.declared.Answer.the-variants as answers
 use Rattle.job.specs.Answer.{longEnough, longTables, shapeOf, answerOf, refusedBy, tableOf, afterOf, ReadTo, Holds, Zeroed}
-use Rattle.tree.specs.declared.Expr.{Expr}
+use Rattle.table.specs.declared.Expr.{Expr}
 use Rattle.tree.specs.declared.Answer.{Answer as TreeAnswer}
 use Rattle.tree.specs.declared.Answer.the-variants as trees
 use Rattle.tree.specs.Answer.{refusalOf}

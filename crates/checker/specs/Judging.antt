@@ -32,7 +32,7 @@ use Rattle.numbering.specs.Right.{Reached, r-whole, r-halted, numbered-right}
 use Rattle.job.specs.declared.Shape.{Shape}
 use Rattle.job.specs.declared.Answer.{Answer}
 use Rattle.job.specs.declared.Answer.the-variants as answers
-use Rattle.job.specs.declared.Refusal as job-refusal
+use Rattle.table.specs.declared.Refusal as job-refusal
 use Rattle.job.specs.Answer.{shapeOf, answerOf, tableOf, longEnough, longTables, afterOf, ReadTo}
 use Rattle.tree.specs.Holds.{Holds}
 use Rattle.tree.specs.Filled.{filled-holds}

@@ -17,7 +17,7 @@ use Rattle.order.specs.Effects.{join}
 use Rattle.syntax.specs.Words.{entryIn}
 use Rattle.typing.specs.Numbered.{Result, points, wrong, needLim, need, keysFrom}
 use Rattle.names.specs.Ancestors.{effBelowBy, touchBy, reduceBy}
-use Rattle.names.specs.declared.Name.{Name}
+use Rattle.table.specs.declared.Name.{Name}
 use Rattle.types.specs.declared.Entry.{Entry}
 use Rattle.types.specs.declared.Entry.the-variants.{Limit}
 use Rattle.types.specs.Entry.{entryOf}

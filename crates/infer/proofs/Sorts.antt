@@ -9,7 +9,7 @@ use Rattle.order.specs.Effects.{Effect}
 use Rattle.syntax.specs.Types.{TypeEntry}
 use Rattle.typing.specs.Numbered.{Result, wrong, needNum, needPair, needCell, needFn, needLim, needGrant, keyIn}
 use Rattle.typing.specs.Layout.{rekeyed}
-use Rattle.names.specs.declared.Name.{Name}
+use Rattle.table.specs.declared.Name.{Name}
 use Rattle.infer.specs.Answer.{made}
 use Rattle.types.specs.declared.Entry.{Entry}
 use Rattle.types.specs.declared.Entry.the-variants.{Number, Pair, Cell, Function, Limit, Grant, Nothing}

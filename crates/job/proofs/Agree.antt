@@ -1,10 +1,10 @@
 -- What the reader makes of a command is what reading makes of it.
 use mathlib.Core.Path.{_≡_, refl, sym, ap, ap₂, _∙_, subst}
-use Prim.Native.Nat.{ℕ, zero, suc, _+_, _*_, _≤_, _<_}
+use Prim.Native.Nat.{ℕ, _+_, _≤_, _<_}
 use native.Mathlib.Omega.{arith}
 use mathlib.Core.Bool.{Bool, true, false, cond, not}
-use mathlib.Core.List.{List, [], _∷_, _++_}
-use mathlib.Core.Option.{Option, none, some}
+use mathlib.Core.List.{List, _∷_}
+use mathlib.Core.Option.{Option, some}
 use lib.ListN.{length, length-append, length-replicate, length-take, getD, getElem?, take, drop}
 use lib.Dec.{eqb, ltb, leb}
 use borrow.Author.Tests.{ne-eqb, ltb-false}
@@ -13,25 +13,23 @@ use Rattle.order.specs.OrderLaws.{Proper}
 use Rattle.order.specs.Sets.{all-of}
 use Rattle.order.specs.Effects.{Effect}
 use Rattle.syntax.specs.Types.{TypeEntry, tree, depth}
-use Rattle.syntax.specs.Commands.{Cmd, c-lim, Op, o-host, o-local, o-number, o-pair, o-cell, o-function, o-limit, o-grant, o-value, o-rights, o-end, opOf, operands, width, total, sectionOf, fields}
+use Rattle.syntax.specs.Commands.{Cmd, c-lim, Op, o-host, o-local, o-number, o-pair, o-cell, o-function, o-limit, o-grant, o-value, o-rights, o-end, opOf, operands, width, sectionOf, fields}
 use Rattle.syntax.specs.Commands.{x-number, x-top, x-variable, x-pair, x-part, x-function, x-apply, x-cell, x-assign, x-read, x-sum, x-test, x-limit, x-grant, x-newkey, x-associate}
 use Rattle.syntax.specs.Job.{Name, HostValue, Job, uppers}
 use Rattle.syntax.specs.Words.{nameWord, typeWord, filled, slots}
 use Rattle.syntax.specs.Reading.{State, declared, hostName, nameOk, typeOk, hostValueOk, setOk, rightsOk, cmdOk, Written, w-name, w-type, w-value, w-rights, w-cmd, w-end, unwritten, partOf, sumOf, limitOf, written, given, enter, misplaced, full}
 use Rattle.syntax.specs.Reading.{Step, refuse, proceed, finish, settle, command}
-use Rattle.syntax.specs.ReadLaws.{NamesOk, TypesOk, Wrote, wrote-name, wrote-type, wrote-value, wrote-rights, wrote-cmd, wrote-end, wrote-none, wrote}
-use Rattle.syntax.specs.ReadFormed as formed
-use Rattle.names.specs.Ancestors.{namesIn, declaredOf, ancestorsBy, setOkBy, rightsOkBy}
+use Rattle.syntax.specs.ReadLaws.{TypesOk, Wrote, wrote-name, wrote-type, wrote-value, wrote-rights, wrote-cmd, wrote-end, wrote-none, wrote}
+use Rattle.names.specs.Ancestors.{namesIn, declaredOf, ancestorsBy, setOkBy}
 use Rattle.names.specs.Laws.{set-ok-by, rights-ok-by}
 use Rattle.names.specs.Pass.{ancestors-by}
-use Rattle.job.specs.Bytes.{fieldAt, widthByte, sectionByte, misplacedBy, fullBy}
-use Rattle.job.specs.Entries.{namedOf, nameEntry, typeEntry, valueEntry, rightsEntry, formEntry, entryOf, judgedBy, entryIn, judgedIn}
+use Rattle.job.specs.Bytes.{fieldAt, sectionByte, misplacedBy, fullBy}
+use Rattle.job.specs.Entries.{namedOf, nameEntry, valueEntry, rightsEntry, formEntry, entryOf, judgedBy, entryIn, judgedIn}
 use Rattle.job.specs.Answer.{shapeOf}
-use Rattle.job.specs.declared.Shape.{Shape}
 use Rattle.job.specs.declared.Entry.{Entry}
-use Rattle.job.specs.declared.Entry.the-variants.{Refuse, Named, Typed, Valued, Rights, Formed, Last}
-use Rattle.job.proofs.Ops.{byteOf, op-byte, section-is, width-narrow, width-is, misplaced-is, full-is, fieldsFrom, fields-from}
-use Rattle.job.proofs.Entered.{okW, extended, enter-is, wordsOf, newDepth, entryW, judgedW}
+use Rattle.job.specs.declared.Entry.the-variants.{Refuse, Named, Rights, Last}
+use Rattle.job.proofs.Ops.{byteOf, op-byte, width-narrow, width-is, misplaced-is, full-is, fieldsFrom, fields-from}
+use Rattle.job.proofs.Entered.{okW, extended, enter-is, entryW, judgedW}
 use Rattle.job.proofs.Exprs as exprs
 use Rattle.job.proofs.TypeLaws as typed
 use Rattle.job.proofs.ValueLaws as valued

@@ -2,11 +2,11 @@
 use mathlib.Core.Path.{_≡_, refl}
 use Prim.Native.Nat.{ℕ}
 use mathlib.Core.Bool.{Bool, true, false, cond}
-use mathlib.Core.List.{List, [], _∷_, _++_}
+use mathlib.Core.List.{[], _∷_, _++_}
 use lib.ListN.{length, getD}
 use Rattle.syntax.specs.Types.{TypeEntry, tree, depth}
 use Rattle.syntax.specs.Commands.{Cmd}
-use Rattle.syntax.specs.Job.{Name, HostValue, Job}
+use Rattle.syntax.specs.Job.{Job}
 use Rattle.syntax.specs.Words.{nameWord, typeWord, setWord, valueWord, headWord, slots}
 use Rattle.syntax.specs.Reading.{Written, w-name, w-type, w-value, w-rights, w-cmd, w-end, unwritten, given, enter, nameOk, typeOk, hostValueOk, rightsOk, cmdOk}
 use Rattle.job.specs.declared.Form.{Form}

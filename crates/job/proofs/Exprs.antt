@@ -1,24 +1,23 @@
 -- Expressions: the words that the reader makes of the operands are those of the expression, and its test is reading's.
-use mathlib.Core.Path.{_≡_, refl, sym, ap, _∙_, subst}
-use Prim.Native.Nat.{ℕ, zero, suc, _+_, _*_, _%_, _≤_, _<_}
+use mathlib.Core.Path.{_≡_, refl, sym, ap, _∙_}
+use Prim.Native.Nat.{ℕ, zero, suc, _+_, _*_}
 use native.Mathlib.Omega.{arith}
 use mathlib.Core.Bool.{Bool, true, false, cond}
-use mathlib.Core.List.{List, [], _∷_, _++_}
-use lib.ListN.{length, getD, take, drop}
+use mathlib.Core.List.{List, [], _∷_}
+use lib.ListN.{length, take, drop}
 use lib.Dec.{eqb, ltb, leb}
-use borrow.Author.Tests.{eqb-true, lt-leb}
+use borrow.Author.Tests.{eqb-true}
 use Rattle.order.specs.Bools.{_and_, _or_}
 use Rattle.order.specs.Sets.{all-of}
-use Rattle.syntax.specs.Commands.{Cmd, c-num, c-top, c-var, c-pair, c-part, c-fn, c-app, c-new, c-asg, c-read, c-sum, c-test, c-lim, c-grant, c-newkey, c-assoc}
-use Rattle.syntax.specs.Commands.{Op, operands}
+use Rattle.syntax.specs.Commands.{Cmd, c-part, c-sum, c-lim}
+use Rattle.syntax.specs.Commands.{operands}
 use Rattle.syntax.specs.Commands.{x-number, x-top, x-variable, x-pair, x-part, x-function, x-apply, x-cell, x-assign, x-read, x-sum, x-test, x-limit, x-grant, x-newkey, x-associate}
 use Rattle.syntax.specs.Operands.{plain, inner, children, typesOf, usesVar, bindsVar, bindsName}
-use Rattle.syntax.specs.Job.{Name, Job}
+use Rattle.syntax.specs.Job.{Job}
 use Rattle.syntax.specs.Words.{headWord, slots, filled}
 use Rattle.syntax.specs.Reading.{Written, w-cmd, unwritten, partOf, sumOf, limitOf, written, localName, cmdOk}
 use Rattle.job.specs.Bytes.{fieldAt, digitOf, offsetOf, kindOf, slotOf, leadOf, formOf, slotOk, slotsOk, keyOk, limitOk}
 use Rattle.job.specs.Entries.{eitherOf, bindsOk, newKeyOk, leadOk, placesOk, formEntry}
-use Rattle.job.specs.declared.Form.{Form}
 use Rattle.job.specs.declared.Entry.{Entry}
 use Rattle.job.specs.declared.Entry.the-variants.{Refuse, Formed}
 use Rattle.job.proofs.Ops.{byteOf, fieldsFrom}

@@ -20,7 +20,7 @@ use Rattle.syntax.specs.ReadLaws.{TypesOk}
 use Rattle.syntax.specs.ReadFormed.{parts-earlier, types-earlier}
 use Rattle.names.specs.Ancestors.{declaredOf, setOkBy}
 use Rattle.job.specs.Bytes.{fieldAt}
-use Rattle.job.specs.Entries.{partDepth, deeperOf, twoDepths, typeBitsOf, typedOf, keyTypeOf, functionOf, typeBy, typeEntry}
+use Rattle.job.specs.Entries.{partDepth, deeperOf, twoDepths, typedOf, keyTypeOf, functionOf, typeBy, typeEntry}
 use Rattle.job.specs.declared.Entry.{Entry}
 use Rattle.job.specs.declared.Entry.the-variants.{Refuse, Typed}
 use Rattle.job.proofs.Ops.{byteOf, fieldsFrom}
@@ -110,11 +110,11 @@ join-key true false false x r = refl
 module _ (s : List ℕ) (J : Job) (ok : TypesOk (J .names) (J .types)) (depths : List ℕ) (deep : (i : ℕ) → i < length (J .types) → getD depths i 0 ≡ depth (tree (J .types) i))
     (anc : List ℕ) (sets : (x : ℕ) → setOkBy anc (length (J .names)) x ≡ setOk (J .names) x) where
   pub law-o-number : typeEntry (byteOf o-number) s anc (length (J .names)) depths (length (J .types)) ≡ judgedW (written o-number (fieldsFrom (operands o-number) s 1)) J
-  unfolding typeEntry typeBy typeBitsOf byteOf written operands fieldsFrom declaredOf declared partsOk typeWord setWord entryTree depth
+  unfolding typeEntry typeBy byteOf written operands fieldsFrom declaredOf declared partsOk typeWord setWord entryTree depth
   law-o-number = judged-type J ok depths deep (e-num (fieldAt 1 s 1)) (declared (J .names) (fieldAt 1 s 1)) refl 0 (λ h. refl)
 
   pub law-o-pair : typeEntry (byteOf o-pair) s anc (length (J .names)) depths (length (J .types)) ≡ judgedW (written o-pair (fieldsFrom (operands o-pair) s 1)) J
-  unfolding typeEntry typeBy typeBitsOf byteOf written operands fieldsFrom declaredOf declared partsOk typeWord setWord entryTree depth
+  unfolding typeEntry typeBy byteOf written operands fieldsFrom declaredOf declared partsOk typeWord setWord entryTree depth
   law-o-pair =
       let q = fieldAt 1 s 1 in
       let a = fieldAt 2 s 2 in
@@ -125,7 +125,7 @@ module _ (s : List ℕ) (J : Job) (ok : TypesOk (J .names) (J .types)) (depths :
       ∙ judged-type J ok depths deep (e-pair q a b) (declared (J .names) q and ltb a n and ltb b n) refl (max (depth (tree (J .types) a)) (depth (tree (J .types) b))) (λ h. refl)
 
   pub law-o-cell : typeEntry (byteOf o-cell) s anc (length (J .names)) depths (length (J .types)) ≡ judgedW (written o-cell (fieldsFrom (operands o-cell) s 1)) J
-  unfolding typeEntry typeBy typeBitsOf byteOf written operands fieldsFrom declaredOf declared partsOk typeWord setWord entryTree depth
+  unfolding typeEntry typeBy byteOf written operands fieldsFrom declaredOf declared partsOk typeWord setWord entryTree depth
   law-o-cell =
       let q = fieldAt 1 s 1 in
       let a = fieldAt 2 s 2 in
@@ -135,7 +135,7 @@ module _ (s : List ℕ) (J : Job) (ok : TypesOk (J .names) (J .types)) (depths :
       ∙ judged-type J ok depths deep (e-cell q a) (declared (J .names) q and ltb a n) refl (depth (tree (J .types) a)) (λ h. refl)
 
   pub law-o-function : typeEntry (byteOf o-function) s anc (length (J .names)) depths (length (J .types)) ≡ judgedW (written o-function (fieldsFrom (operands o-function) s 1)) J
-  unfolding typeEntry typeBy functionOf typeBitsOf byteOf written operands fieldsFrom declaredOf declared partsOk typeWord setWord entryTree depth
+  unfolding typeEntry typeBy functionOf byteOf written operands fieldsFrom declaredOf declared partsOk typeWord setWord entryTree depth
   law-o-function =
       let q = fieldAt 1 s 1 in
       let a = fieldAt 2 s 2 in
@@ -148,7 +148,7 @@ module _ (s : List ℕ) (J : Job) (ok : TypesOk (J .names) (J .types)) (depths :
       ∙ judged-type J ok depths deep (e-fn q a b x) (declared (J .names) q and ltb a n and ltb b n and setOk (J .names) x) refl (max (depth (tree (J .types) a)) (depth (tree (J .types) b))) (λ h. refl)
 
   pub law-o-limit : typeEntry (byteOf o-limit) s anc (length (J .names)) depths (length (J .types)) ≡ judgedW (written o-limit (fieldsFrom (operands o-limit) s 1)) J
-  unfolding typeEntry typeBy keyTypeOf typeBitsOf byteOf written operands fieldsFrom declaredOf declared partsOk typeWord setWord entryTree depth
+  unfolding typeEntry typeBy keyTypeOf byteOf written operands fieldsFrom declaredOf declared partsOk typeWord setWord entryTree depth
   law-o-limit =
       let q = fieldAt 1 s 1 in
       let r = fieldAt 1 s 2 in
@@ -156,7 +156,7 @@ module _ (s : List ℕ) (J : Job) (ok : TypesOk (J .names) (J .types)) (depths :
       ∙ judged-type J ok depths deep (e-lim q r) (declared (J .names) q and declared (J .names) r and not (eqb r 0)) refl 0 (λ h. refl)
 
   pub law-o-grant : typeEntry (byteOf o-grant) s anc (length (J .names)) depths (length (J .types)) ≡ judgedW (written o-grant (fieldsFrom (operands o-grant) s 1)) J
-  unfolding typeEntry typeBy keyTypeOf typeBitsOf byteOf written operands fieldsFrom declaredOf declared partsOk typeWord setWord entryTree depth
+  unfolding typeEntry typeBy keyTypeOf byteOf written operands fieldsFrom declaredOf declared partsOk typeWord setWord entryTree depth
   law-o-grant =
       let q = fieldAt 1 s 1 in
       let r = fieldAt 1 s 2 in

@@ -1,13 +1,13 @@
 -- The whole of reading: cleared, filled, and cleared again on a refusal.
-use mathlib.Core.Path.{_≡_, refl, sym, ap, _∙_, subst}
+use mathlib.Core.Path.{_≡_, refl, sym, ap, _∙_}
 use Prim.Native.Nat.{ℕ}
 use mathlib.Core.Bool.{Bool, true, false, cond, true≢false, false≢true}
-use mathlib.Core.List.{List, [], _∷_}
+use mathlib.Core.List.{List}
 use lib.ListN.{length, replicate, length-replicate}
 use Rattle.syntax.specs.Job.{Job}
 use Rattle.syntax.specs.Words.{filled, nameWords, typeWords, setWords, valueWords, headWords, slotWords}
 use Rattle.syntax.specs.Reading.{Refusal, Read, refused, read, reading}
-use Rattle.job.specs.Answer.{refusedBy, answerOf, tableOf, longEnough, longTables, afterOf, ReadTo, Filled, Cleared, Zeroed, isJob}
+use Rattle.job.specs.Answer.{refusedBy, answerOf, tableOf, longTables, afterOf, ReadTo, Filled, Cleared, Zeroed, isJob}
 use Rattle.job.specs.declared.Answer.{Answer}
 
 -- a table whose length is kept

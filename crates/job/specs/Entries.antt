@@ -5,6 +5,7 @@ use mathlib.Core.List.{List, [], _∷_}
 use lib.ListN.{length, getD, set}
 use lib.Dec.{eqb, ltb, leb}
 use Rattle.syntax.specs.Job.{Name}
+use Rattle.syntax.specs.Words.{typeBits}
 use Rattle.syntax.specs.Reading.{hostName, openName, localName}
 use Rattle.names.specs.Ancestors.{nameOf, namesIn, entered, declaredOf, ancestorsBy, setOkBy, rightsOkBy}
 use Rattle.job.specs.Bytes.{fieldAt, widthByte, sectionByte, misplacedBy, fullBy, formOf, slotsOk, limitOk}
@@ -19,9 +20,6 @@ partDepth depths n a = cond (ltb a n) (getD depths a 0) 255
 
 unfoldable pub deeperOf : ℕ → ℕ → ℕ
 deeperOf x y = cond (ltb x y) y x
-
-unfoldable pub typeBitsOf : ℕ → ℕ → ℕ → ℕ → ℕ
-typeBitsOf op q a b = op + 256 * q + 65536 * a + 4294967296 * b
 
 -- a type whose deepest part has depth d
 unfoldable pub typedOf : ℕ → ℕ → ℕ → Entry
@@ -124,11 +122,11 @@ nameEntry op s names n = namedOf op (fieldAt 1 s 1) (declaredOf n (fieldAt 1 s 1
 
 -- 14, 15
 unfoldable pub keyTypeOf : ℕ → ℕ → ℕ → Bool → Entry
-keyTypeOf op q r d = cond (eqb r 0) (Refuse 6) (cond d (typedOf (typeBitsOf op q r 0) 0 0) (Refuse 6))
+keyTypeOf op q r d = cond (eqb r 0) (Refuse 6) (cond d (typedOf (typeBits op q r 0) 0 0) (Refuse 6))
 
 -- 13
 unfoldable pub functionOf : ℕ → ℕ → ℕ → ℕ → ℕ → Bool → Entry
-functionOf q a b s d ok = cond ok (typedOf (typeBitsOf 0x13 q a b) s d) (Refuse 6)
+functionOf q a b s d ok = cond ok (typedOf (typeBits 0x13 q a b) s d) (Refuse 6)
 
 unfoldable pub twoDepths : List ℕ → ℕ → ℕ → ℕ → ℕ
 twoDepths depths t a b = deeperOf (partDepth depths t a) (partDepth depths t b)
@@ -136,9 +134,9 @@ twoDepths depths t a b = deeperOf (partDepth depths t a) (partDepth depths t b)
 -- 10 to 15, by the key q; t types are declared, and n names with these ancestors
 unfoldable pub typeBy : ℕ → ℕ → List ℕ → List ℕ → ℕ → List ℕ → ℕ → Entry
 typeBy op q s anc n depths t =
-    cond (eqb op 0x10) (typedOf (typeBitsOf op q 0 0) 0 0)
-    (cond (eqb op 0x11) (typedOf (typeBitsOf op q (fieldAt 2 s 2) (fieldAt 2 s 4)) 0 (twoDepths depths t (fieldAt 2 s 2) (fieldAt 2 s 4)))
-    (cond (eqb op 0x12) (typedOf (typeBitsOf op q (fieldAt 2 s 2) 0) 0 (partDepth depths t (fieldAt 2 s 2)))
+    cond (eqb op 0x10) (typedOf (typeBits op q 0 0) 0 0)
+    (cond (eqb op 0x11) (typedOf (typeBits op q (fieldAt 2 s 2) (fieldAt 2 s 4)) 0 (twoDepths depths t (fieldAt 2 s 2) (fieldAt 2 s 4)))
+    (cond (eqb op 0x12) (typedOf (typeBits op q (fieldAt 2 s 2) 0) 0 (partDepth depths t (fieldAt 2 s 2)))
     (cond (eqb op 0x13)
     (functionOf q (fieldAt 2 s 2) (fieldAt 2 s 4) (fieldAt 8 s 6) (twoDepths depths t (fieldAt 2 s 2) (fieldAt 2 s 4)) (setOkBy anc n (fieldAt 8 s 6)))
     (keyTypeOf op q (fieldAt 1 s 2) (declaredOf n (fieldAt 1 s 2))))))

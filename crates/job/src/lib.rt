@@ -1,4 +1,14 @@
 // Reading a job: its commands, the conditions on each of them, and the tables that they fill.
+use table::Expr;
+pub use table::Refusal;
+use table::at64;
+use table::byte_of;
+pub use table::clear16;
+pub use table::clear64;
+use table::put8;
+use table::put16;
+use table::put64;
+use table::type_word;
 ghost use mathlib.Core.Path.{_≡_};
 ghost use Prim.Native.Nat.{_+_, _*_, _%_, _<_, _≤_};
 ghost use lib.ListN.{length, getD, set, replicate};
@@ -8,19 +18,10 @@ ghost use Rattle.syntax.specs.Commands.{little};
 ghost use Rattle.job.specs.Bytes.{fieldAt, widthByte, sectionByte, restOf, misplacedBy, fullBy};
 ghost use Rattle.job.specs.Bytes.{digitOf, offsetOf, kindOf, slotOf, leadOf, formOf, slotOk, slotsOk, keyOk, limitOk};
 ghost use Rattle.names.specs.Ancestors.{namesIn, declaredOf, setOkBy};
-ghost use Rattle.job.specs.Entries.{partDepth, deeperOf, twoDepths, typeBitsOf, typedOf, fiveAt, shapeAfter, ancestorsAfter};
+ghost use Rattle.job.specs.Entries.{partDepth, deeperOf, twoDepths, typedOf, fiveAt, shapeAfter, ancestorsAfter};
 ghost use Rattle.job.specs.Entries.{nameEntry, keyTypeOf, functionOf, typeBy, typeEntry, hostWordOk, valueEntry, rightsEntry};
 ghost use Rattle.job.specs.Answer.{refusedBy, stopsOf, stoppedOf, isJob, longEnough, longTables, Small, shapeOver, Put, Zeroed, Cleared, Filled, ReadTo};
 ghost use Rattle.job.specs.Entries.{bindsOk, eitherOf, newKeyOk, leadOk, placesOk, formEntry, entryOf, judgedBy};
-
-// An expression's number.
-pub struct Expr(pub u16);
-
-// A refusal's number and place.
-pub struct Refusal {
-    pub number: u8,
-    pub place: usize,
-}
 
 // How many entries of each kind a job has, and its rights.
 pub struct Shape {
@@ -448,12 +449,6 @@ fn deeper(x: u8, y: u8) -> u8
     if x < y { y } else { x }
 }
 
-fn type_bits(op: u8, q: u8, a: u16, b: u16) -> u64
-    ensures { λ r. ⌜ r ≡ typeBitsOf op q a b ⌝ }
-{
-    (op as u64) + 256 * (q as u64) + 65536 * (a as u64) + 4294967296 * (b as u64)
-}
-
 // A type whose deepest part has depth d: it is one deeper, and at most 16.
 fn typed(w: u64, s: u64, d: u8) -> Entry
     ensures { λ r. ⌜ r ≡ typedOf w s d ⌝ }
@@ -462,52 +457,6 @@ fn typed(w: u64, s: u64, d: u8) -> Entry
         return Entry::Typed(w, s, d + 1);
     }
     Entry::Refuse(6)
-}
-
-// Zero to the end.
-pub fn clear16(s: &mut [u16])
-    ensures { λ _. ⌜ now (s .exit) ≡ replicate (length (now (s .entry))) 0 ⌝ }
-{
-    let mut i: usize = 0;
-    while i < s.len() {
-        s[i] = 0;
-        i += 1;
-    }
-}
-
-pub fn clear64(s: &mut [u64])
-    ensures { λ _. ⌜ now (s .exit) ≡ replicate (length (now (s .entry))) 0 ⌝ }
-{
-    let mut i: usize = 0;
-    while i < s.len() {
-        s[i] = 0;
-        i += 1;
-    }
-}
-
-// A store, and nothing past the end.
-fn put8(s: &mut [u8], i: usize, x: u8)
-    ensures { λ _. ⌜ now (s .exit) ≡ set (now (s .entry)) i x ⌝ }
-{
-    if i < s.len() {
-        s[i] = x;
-    }
-}
-
-fn put16(s: &mut [u16], i: usize, x: u16)
-    ensures { λ _. ⌜ now (s .exit) ≡ set (now (s .entry)) i x ⌝ }
-{
-    if i < s.len() {
-        s[i] = x;
-    }
-}
-
-fn put64(s: &mut [u64], i: usize, x: u64)
-    ensures { λ _. ⌜ now (s .exit) ≡ set (now (s .entry)) i x ⌝ }
-{
-    if i < s.len() {
-        s[i] = x;
-    }
 }
 
 // The five places of an expression, from i on.
@@ -550,7 +499,7 @@ fn key_type(op: u8, q: u8, r: u8, n: usize) -> Entry
         return Entry::Refuse(6);
     }
     if names::is_declared(n, r) {
-        return typed(type_bits(op, q, r as u16, 0), 0, 0);
+        return typed(type_word(op, q, r as u16, 0), 0, 0);
     }
     Entry::Refuse(6)
 }
@@ -560,7 +509,7 @@ fn function_type(q: u8, a: u16, b: u16, s: u64, d: u8, anc: &[u64; 64], n: usize
     ensures { λ e. ⌜ e ≡ functionOf q a b s d (setOkBy (now (anc .entry)) n s) ⌝ }
 {
     if names::set_ok(n, anc, s) {
-        return typed(type_bits(0x13, q, a, b), s, d);
+        return typed(type_word(0x13, q, a, b), s, d);
     }
     Entry::Refuse(6)
 }
@@ -584,15 +533,15 @@ fn type_by<'a>(
     ensures { λ r. ⌜ r ≡ typeBy op q (now (job .entry)) (now (anc .entry)) n (now (depths .entry)) t ⌝ }
 {
     if op == 0x10 {
-        return typed(type_bits(op, q, 0, 0), 0, 0);
+        return typed(type_word(op, q, 0, 0), 0, 0);
     }
     let a = op16(job, 2);
     let b = op16(job, 4);
     if op == 0x11 {
-        return typed(type_bits(op, q, a, b), 0, two_depths(depths, t, a, b));
+        return typed(type_word(op, q, a, b), 0, two_depths(depths, t, a, b));
     }
     if op == 0x12 {
-        return typed(type_bits(op, q, a, 0), 0, part_depth(depths, t, a));
+        return typed(type_word(op, q, a, 0), 0, part_depth(depths, t, a));
     }
     if op == 0x13 {
         return function_type(q, a, b, op64(job, 6), two_depths(depths, t, a, b), anc, n);
@@ -617,13 +566,6 @@ fn type_entry<'a>(
     Entry::Refuse(6)
 }
 
-// The low byte of a word.
-fn byte_of(w: u64) -> u8
-    ensures { λ r. ⌜ r ≡ w % 256 ⌝ }
-{
-    (w % 256) as u8
-}
-
 // Whether a host value may have the type whose word is w, and start at x.
 fn host_word_ok<'a>(types: &'a [u64], names: &'a [u16], n: usize, w: u64, x: u32) -> bool
     ensures { λ r. ⌜ r ≡ hostWordOk (now (types .entry)) (namesIn (now (names .entry)) n) w x ⌝ }
@@ -633,7 +575,7 @@ fn host_word_ok<'a>(types: &'a [u64], names: &'a [u16], n: usize, w: u64, x: u32
     if k == 0x12 {
         if names::is_open_name(names, n, q) {
             let i = (w / 65536 % 65536) as usize;
-            return names::at64(types, i) % 65536 == 0x10;
+            return at64(types, i) % 65536 == 0x10;
         }
         return false;
     }
@@ -656,7 +598,7 @@ fn value_entry<'a>(job: &'a [u8], names: &'a [u16], n: usize, types: &'a [u64], 
     let x = op32(job, 3);
     let i = ty as usize;
     if i < t {
-        if host_word_ok(types, names, n, names::at64(types, i), x) {
+        if host_word_ok(types, names, n, at64(types, i), x) {
             return Entry::Valued(0x20 + 256 * (ty as u64) + 16777216 * (x as u64));
         }
     }

@@ -12,7 +12,7 @@ use Rattle.order.specs.Order.{below}
 use Rattle.order.specs.Sets.{bit, members, setOf, keep, all-of}
 use Rattle.order.specs.Effects.{Effect, names}
 use Rattle.syntax.specs.Job.{Name}
-use Rattle.syntax.specs.Reading.{hostName}
+use Rattle.syntax.specs.Reading.{most-names, hostName}
 
 -- the declared name that a word of the names table stands for
 unfoldable pub nameOf : ℕ → Name
@@ -28,13 +28,13 @@ unfoldable pub range : ℕ → ℕ → List ℕ
 range i zero = []
 range i (suc n) = i ∷ range (suc i) n
 
--- the names at or above a, of the names below 64
+-- the names at or above a
 unfoldable pub atOrAbove : List ℕ → ℕ → ℕ
-atOrAbove up a = setOf (keep (λ b. below up a b) (range 0 64))
+atOrAbove up a = setOf (keep (λ b. below up a b) (range 0 most-names))
 
--- one entry for each of 64 names; for names past the last, none
+-- one entry for each of the names; for names past the last, none
 unfoldable pub ancestorsOf : List ℕ → List ℕ
-ancestorsOf up = map (λ a. cond (ltb a (length up)) (atOrAbove up a) 0) (range 0 64)
+ancestorsOf up = map (λ a. cond (ltb a (length up)) (atOrAbove up a) 0) (range 0 most-names)
 
 -- below, set below set, reduced, reduce, drop, by such a table
 unfoldable pub belowBy : List ℕ → ℕ → ℕ → Bool
@@ -68,28 +68,28 @@ staysBy anc r n = not (belowBy anc n r)
 unfoldable pub dropBy : List ℕ → ℕ → Effect → Effect
 dropBy anc r s = setOf (keep (staysBy anc r) (names s))
 
--- the lowest member of a set of numbers below 64; 64 for none
+-- the lowest member of a set of names; 64 for none
 unfoldable pub lowest : ℕ → ℕ
-lowest s = trailingZeros 64 s
+lowest s = trailingZeros most-names s
 
--- the set of one name below 64; none for other numbers
+-- the set of one name; none for other numbers
 unfoldable pub oneOf : ℕ → ℕ
-oneOf n = cond (ltb n 64) (2 ^ n) 0
+oneOf n = cond (ltb n most-names) (2 ^ n) 0
 
 -- s without 0
 unfoldable pub nonzero : Effect → Effect
 nonzero s = s - s % 2
 
--- touch and raise, for names below 64; a number that is no such name adds nothing
+-- touch and raise; 0 and a number that is no name add nothing
 unfoldable pub touchBy : ℕ → Effect → Effect
-touchBy q s = bitOr (oneOf q) s
+touchBy q s = cond (eqb q 0) s (bitOr (oneOf q) s)
 
 unfoldable pub raiseBy : ℕ → ℕ → Effect → Effect
 raiseBy r u s = cond (bit (nonzero s) r) (bitOr (oneOf u) (bitXor (nonzero s) (oneOf r))) (nonzero s)
 
 -- The table of ancestors by one pass over the declared names: a name's entry is its own bit with the entry of its upper name. 0 is below all, and 1 below itself.
 unfoldable pub firstTwo : List ℕ
-firstTwo = set (set (replicate 64 0) 0 0xFFFFFFFFFFFFFFFF) 1 2
+firstTwo = set (set (replicate most-names 0) 0 0xFFFFFFFFFFFFFFFF) 1 2
 
 unfoldable pub entered : List ℕ → ℕ → Name → List ℕ
 entered anc a d = set anc a (bitOr (oneOf a) (getD anc (d .upper) 0))

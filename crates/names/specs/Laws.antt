@@ -201,7 +201,7 @@ module _ {up : List ℕ} (ok : Proper up) (few : length up ≤ 64) {anc : List �
 
 pub touch-by : (q : ℕ) (s : Effect) → q < 64 → touchBy q s ≡ touch q s
 unfolding touchBy touch
-touch-by q s h = ap (λ (x : ℕ). bitOr x s) (one-of q h)
+touch-by q s h = ap (λ (x : ℕ). cond (eqb q 0) s (bitOr x s)) (one-of q h)
 
 pub raise-by : (r u : ℕ) (s : Effect) → r < 64 → u < 64 → raiseBy r u s ≡ raise r u s
 unfolding raiseBy

@@ -1,4 +1,9 @@
 // Names and sets of names in words: what is below what, reducing, dropping, raising.
+use table::MOST_DECLARED;
+use table::MOST_NAMES;
+pub use table::Name;
+pub use table::at16;
+pub use table::at64;
 ghost use mathlib.Core.Path.{_≡_};
 ghost use Prim.Native.Nat.{_<_};
 ghost use mathlib.Core.Bool.{cond};
@@ -11,24 +16,8 @@ ghost use Rattle.names.specs.Ancestors.{nameOf, namesIn, entered, ancest
 ghost use Rattle.names.specs.Ancestors.{belowBy, meetsBy, effBelowBy, maximalBy, reducedBy, reduceBy, staysBy, dropBy, touchBy, raiseBy};
 ghost use Rattle.names.specs.Ancestors.{declaredOf, setOkBy, rightsOkBy};
 
-// A name's number. A name number and a key number are never compared.
-pub struct Name(pub u8);
-
-// Entry i of a table, and 0 past its end.
-pub fn at16(s: &[u16], i: usize) -> u16
-    ensures { λ r. ⌜ r ≡ getD (now (s .entry)) i 0 ⌝ }
-{
-    if i < s.len() { s[i] } else { 0 }
-}
-
-pub fn at64(s: &[u64], i: usize) -> u64
-    ensures { λ r. ⌜ r ≡ getD (now (s .entry)) i 0 ⌝ }
-{
-    if i < s.len() { s[i] } else { 0 }
-}
-
 // The entry of name n in a table of ancestors, and none for a number that is no name.
-fn entry(anc: &[u64; 64], n: u8) -> u64
+fn entry(anc: &[u64; MOST_NAMES], n: u8) -> u64
     ensures { λ r. ⌜ r ≡ getD (now (anc .entry)) n 0 ⌝ }
 {
     at64(anc, n as usize)
@@ -52,7 +41,7 @@ fn low(s: u64) -> u8
 }
 
 // The set of n alone; none for a number that is no name.
-fn single(n: u8) -> u64
+pub fn single(n: u8) -> u64
     ensures { λ r. ⌜ r ≡ oneOf n ⌝ }
 {
     if n < 64 {
@@ -79,25 +68,25 @@ fn proper(s: u64) -> u64
 }
 
 // The table of ancestors with name a, whose word in the names table is w: its own bit, and the entry of its upper name. A number that is no name changes nothing.
-pub fn enter(anc: &mut [u64; 64], a: usize, w: u16)
+pub fn enter(anc: &mut [u64; MOST_NAMES], a: usize, w: u16)
     ensures { λ _. ⌜ now (anc .exit) ≡ cond (ltb a 64) (entered (now (anc .entry)) a (nameOf w)) (now (anc .entry)) ⌝ }
 {
-    if a < 64 {
+    if a < MOST_NAMES {
         let above = entry(anc, (w % 256) as u8);
         anc[a] = single(a as u8) | above;
     }
 }
 
 // The names at or above each name. An upper name is declared before its lower names, so one pass finds them.
-pub fn ancestors(names: &[u16], n: usize) -> [u64; 64]
+pub fn ancestors(names: &[u16], n: usize) -> [u64; MOST_NAMES]
     ensures { λ r. ⌜ r ≡ ancestorsBy (namesIn (now (names .entry)) n) ⌝ }
 {
-    let mut anc = [0u64; 64];
+    let mut anc = [0u64; MOST_NAMES];
     anc[0] = 0xFFFF_FFFF_FFFF_FFFF;
     anc[1] = 2;
     let mut k: usize = 0;
     while k < n {
-        if 62 <= k {
+        if MOST_DECLARED <= k {
             return anc;
         }
         let a = k + 2;
@@ -109,7 +98,7 @@ pub fn ancestors(names: &[u16], n: usize) -> [u64; 64]
 }
 
 // Whether a is below b: a is 0 or b, or b is above a.
-pub fn below(anc: &[u64; 64], a: Name, b: Name) -> bool
+pub fn below(anc: &[u64; MOST_NAMES], a: Name, b: Name) -> bool
     ensures { λ r. ⌜ r ≡ belowBy (now (anc .entry)) (a .0) (b .0) ⌝ }
 {
     let m = a.0;
@@ -124,7 +113,7 @@ pub fn below(anc: &[u64; 64], a: Name, b: Name) -> bool
 }
 
 // Whether a name of t is at or above n.
-fn meets(anc: &[u64; 64], t: u64, n: u8) -> bool
+fn meets(anc: &[u64; MOST_NAMES], t: u64, n: u8) -> bool
     ensures { λ r. ⌜ r ≡ meetsBy (now (anc .entry)) t n ⌝ }
 {
     let common = entry(anc, n) & t;
@@ -135,7 +124,7 @@ fn meets(anc: &[u64; 64], t: u64, n: u8) -> bool
 }
 
 // Whether each name of s is below some name of t.
-pub fn eff_below(anc: &[u64; 64], s: u64, t: u64) -> bool
+pub fn eff_below(anc: &[u64; MOST_NAMES], s: u64, t: u64) -> bool
     ensures { λ r. ⌜ r ≡ effBelowBy (now (anc .entry)) s t ⌝ }
 {
     let mut rest = proper(s);
@@ -149,7 +138,7 @@ pub fn eff_below(anc: &[u64; 64], s: u64, t: u64) -> bool
 }
 
 // Whether n is not 0, and no other name of s is at or above it.
-fn maximal(anc: &[u64; 64], s: u64, n: u8) -> bool
+fn maximal(anc: &[u64; MOST_NAMES], s: u64, n: u8) -> bool
     requires { ⌜ n < 64 ⌝ }
     ensures { λ r. ⌜ r ≡ maximalBy (now (anc .entry)) s n ⌝ }
 {
@@ -161,7 +150,7 @@ fn maximal(anc: &[u64; 64], s: u64, n: u8) -> bool
 }
 
 // Whether s has no 0, and no name below another.
-pub fn reduced(anc: &[u64; 64], s: u64) -> bool
+pub fn reduced(anc: &[u64; MOST_NAMES], s: u64) -> bool
     ensures { λ r. ⌜ r ≡ reducedBy (now (anc .entry)) s ⌝ }
 {
     let mut rest = s;
@@ -175,7 +164,7 @@ pub fn reduced(anc: &[u64; 64], s: u64) -> bool
 }
 
 // The names of s that are not below another.
-pub fn reduce(anc: &[u64; 64], s: u64) -> u64
+pub fn reduce(anc: &[u64; MOST_NAMES], s: u64) -> u64
     ensures { λ r. ⌜ r ≡ reduceBy (now (anc .entry)) s ⌝ }
 {
     let mut rest = s;
@@ -189,7 +178,7 @@ pub fn reduce(anc: &[u64; 64], s: u64) -> u64
 }
 
 // Whether n is not below r.
-fn stays(anc: &[u64; 64], r: Name, n: u8) -> bool
+fn stays(anc: &[u64; MOST_NAMES], r: Name, n: u8) -> bool
     ensures { λ b. ⌜ b ≡ staysBy (now (anc .entry)) (r .0) n ⌝ }
 {
     if below(anc, Name(n), r) {
@@ -199,7 +188,7 @@ fn stays(anc: &[u64; 64], r: Name, n: u8) -> bool
 }
 
 // s without 0 and without the names below r.
-pub fn drop_below(anc: &[u64; 64], r: Name, s: u64) -> u64
+pub fn drop_below(anc: &[u64; MOST_NAMES], r: Name, s: u64) -> u64
     ensures { λ b. ⌜ b ≡ dropBy (now (anc .entry)) (r .0) s ⌝ }
 {
     let mut rest = proper(s);
@@ -225,11 +214,14 @@ pub fn raise(r: Name, u: Name, s: u64) -> u64
     t
 }
 
-// s with q.
+// s with q; without a key, s as it is.
 pub fn touch(q: Name, s: u64) -> u64
     ensures { λ r. ⌜ r ≡ touchBy (q .0) s ⌝ }
 {
     let n = q.0;
+    if n == 0 {
+        return s;
+    }
     single(n) | s
 }
 
@@ -299,14 +291,14 @@ pub fn is_local_name(names: &[u16], n: usize, q: u8) -> bool
 fn all_declared(n: usize, s: u64) -> bool
     ensures { λ r. ⌜ r ≡ all-of (declaredOf n) (members s) ⌝ }
 {
-    if n < 62 {
+    if n < MOST_DECLARED {
         return s >> (n + 2) == 0;
     }
     true
 }
 
 // Whether s is a reduced set of declared names.
-pub fn set_ok(n: usize, anc: &[u64; 64], s: u64) -> bool
+pub fn set_ok(n: usize, anc: &[u64; MOST_NAMES], s: u64) -> bool
     ensures { λ r. ⌜ r ≡ setOkBy (now (anc .entry)) n s ⌝ }
 {
     if all_declared(n, s) {
@@ -330,7 +322,7 @@ fn all_host(names: &[u16], n: usize, s: u64) -> bool
 }
 
 // Whether s is a reduced set of host names and 1.
-pub fn rights_ok<'a>(names: &'a [u16], n: usize, anc: &'a [u64; 64], s: u64) -> bool
+pub fn rights_ok<'a>(names: &'a [u16], n: usize, anc: &'a [u64; MOST_NAMES], s: u64) -> bool
     ensures { λ r. ⌜ r ≡ rightsOkBy (now (anc .entry)) (namesIn (now (names .entry)) n) s ⌝ }
 {
     if set_ok(n, anc, s) {

@@ -14,7 +14,8 @@ use Rattle.order.specs.Sets.{bit}
 use Rattle.order.specs.SetLaws.{bit-or, bit-zero}
 use Rattle.syntax.specs.Reading.{Refusal}
 use Rattle.syntax.specs.Tree.{firstBad, orElse, numbered}
-use Rattle.tree.specs.Passes.{before, oneOf, boundVar, boundName, boundOf, isNew, varFits, operandNames, isScoped, hostName, hostNames, typeNames, masksFrom, putIn, inheritedDown, scopesBy, countsBy, rightCount, hostVars, masksBy, scopeRefusal, tableRefusal, inLimits}
+use Rattle.names.specs.Ancestors.{oneOf}
+use Rattle.tree.specs.Passes.{before, boundVar, boundName, boundOf, isNew, varFits, operandNames, isScoped, hostName, hostNames, typeNames, masksFrom, putIn, inheritedDown, scopesBy, countsBy, rightCount, hostVars, masksBy, scopeRefusal, tableRefusal, inLimits}
 use Rattle.tree.specs.Places.{isBinder}
 use Rattle.tree.specs.Heads.{one-past}
 
@@ -170,6 +171,17 @@ module _ (heads slots : List ℕ) (n : ℕ) (names : List ℕ) (nnames : ℕ) (t
       → y ≡ scopeRefusal heads slots n names nnames types sets ntypes nvalues → y ≡ whole
   unfolding orElse
   past-9 ec e d ey = ey ∙ sym (past-8 ec e ∙ ap (λ (o : Option Refusal). orElse o (scopeRefusal heads slots n names nnames types sets ntypes nvalues)) (sym d))
+
+-- the names in a type, by the fields of its word
+module _ (w s : ℕ) (m : List ℕ) {k o f a g b : ℕ} (ek : k ≡ w / 256 % 256) (eo : o ≡ oneOf k) (ef : f ≡ w / 65536 % 65536) (ea : a ≡ getD m f 0)
+    (eg : g ≡ w / 4294967296 % 65536) (eb : b ≡ getD m g 0) where
+  pub pair-names : w % 256 ≡ 0x11 → bitOr o (bitOr a b) ≡ typeNames w s m
+  unfolding typeNames
+  pair-names h = simp (h, eo, ek, ea, ef, eb, eg)
+
+  pub function-names : w % 256 ≡ 0x13 → bitOr o (bitOr (bitOr a b) s) ≡ typeNames w s m
+  unfolding typeNames
+  function-names h = simp (h, eo, ek, ea, ef, eb, eg)
 
 -- limits
 

@@ -8,7 +8,8 @@ use lib.ListN.{getD}
 use lib.Dec.{eqb, ltb}
 use lib.Bits.{bitOr}
 use borrow.Author.Tests.{lt-ltb, le-ltb, ltb-true, ltb-false, ne-eqb}
-use Rattle.tree.specs.Passes.{oneOf, boundOf, isBody, arityOf, isOperand, tallied, countStep, counted, inheritedBy, putIn, inheritStep, inheritedDown}
+use Rattle.names.specs.Ancestors.{oneOf}
+use Rattle.tree.specs.Passes.{boundOf, isBody, arityOf, isOperand, tallied, countStep, counted, inheritedBy, putIn, inheritStep, inheritedDown}
 use Rattle.tree.specs.Places.{lastIsOperand, firstOperands, atLast, atFirst, tallyAt, inheritTo, inheritAt, passTo, passAt, isBinder}
 
 -- which places are operands

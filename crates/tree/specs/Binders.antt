@@ -16,7 +16,8 @@ use Rattle.syntax.specs.Operands.{nth, bindsVar, bindsName}
 use Rattle.syntax.specs.Words as words
 use Rattle.syntax.specs.Tree.{Entry, e-var, e-name, binds, varsOf, namesOf, memB, boundBy}
 use Rattle.syntax.specs.ReadFormed.{nth-map}
-use Rattle.tree.specs.Passes.{oneOf, boundVar, boundName, boundOf, before, isNew}
+use Rattle.names.specs.Ancestors.{oneOf}
+use Rattle.tree.specs.Passes.{boundVar, boundName, boundOf, before, isNew}
 use Rattle.tree.specs.Heads.{byteOf, byte-is, one-bit, one-past}
 
 -- the variables, or the names

@@ -15,7 +15,9 @@ use Rattle.syntax.specs.Operands.{plain, inner, children}
 use Rattle.syntax.specs.Words.{headWord, slots, filled}
 use Rattle.syntax.specs.WordLaws.{slots-few}
 use Rattle.syntax.specs.Tree.{count}
-use Rattle.tree.specs.Passes.{oneOf, arityOf, isOperand}
+use Rattle.names.specs.Ancestors.{oneOf}
+use Rattle.names.specs.Bits.{one-of}
+use Rattle.tree.specs.Passes.{arityOf, isOperand}
 
 -- the set of one number
 
@@ -28,26 +30,22 @@ pow-fits b h =
 pub some-pow : (b : ℕ) → b < 64 → 1 ≤ 1 * 2 ^ b % 2 ^ 64
 some-pow b h = omega (arith, pow-fits b h, lt-pow b 0 (omega arith))
 
-pub one-is : (b : ℕ) → b < 64 → oneOf b ≡ 2 ^ b
-unfolding oneOf
-one-is b h = ap (λ (c : Bool). cond c (1 * 2 ^ b % 2 ^ 64) 0) (lt-ltb b 64 h) ∙ pow-fits b h
-
 pub one-none : (b : ℕ) → 64 ≤ b → oneOf b ≡ 0
 unfolding oneOf
-one-none b h = ap (λ (c : Bool). cond c (1 * 2 ^ b % 2 ^ 64) 0) (le-ltb b 64 h)
+one-none b h = ap (λ (c : Bool). cond c (2 ^ b) 0) (le-ltb b 64 h)
 
 pub one-bit : (b n : ℕ) → n < 64 → bit (oneOf b) n ≡ eqb n b
 one-bit b n h = at (ltb b 64) refl
   where
     at : (c : Bool) → ltb b 64 ≡ c → bit (oneOf b) n ≡ eqb n b
-    at true e = ap (λ (x : ℕ). bit x n) (one-is b (ltb-true b 64 e)) ∙ bit-pow b n
+    at true e = ap (λ (x : ℕ). bit x n) (one-of b (ltb-true b 64 e)) ∙ bit-pow b n
     at false e = let k : 64 ≤ b = ltb-false b 64 e in ap (λ (x : ℕ). bit x n) (one-none b k) ∙ bit-zero n ∙ sym (ne-eqb n b (λ z. omega arith))
 
 pub one-past : (b n : ℕ) → 64 ≤ n → bit (oneOf b) n ≡ false
 one-past b n h = at (ltb b 64) refl
   where
     at : (c : Bool) → ltb b 64 ≡ c → bit (oneOf b) n ≡ false
-    at true e = let k : b < 64 = ltb-true b 64 e in ap (λ (x : ℕ). bit x n) (one-is b k) ∙ bit-pow b n ∙ ne-eqb n b (λ z. omega arith)
+    at true e = let k : b < 64 = ltb-true b 64 e in ap (λ (x : ℕ). bit x n) (one-of b k) ∙ bit-pow b n ∙ ne-eqb n b (λ z. omega arith)
     at false e = ap (λ (x : ℕ). bit x n) (one-none b (ltb-false b 64 e)) ∙ bit-zero n
 
 -- a command's byte, and the rest of its head

@@ -20,7 +20,8 @@ use Rattle.syntax.specs.Words.{nameWord}
 use Rattle.syntax.specs.Tree.{Entry, e-var, e-name, varsOf, namesOf, memB, addHost, nameCtx, valueCtx, hostCtx, nameIn}
 use Rattle.syntax.specs.ReadLaws.{NamesOk, built-at}
 use Rattle.syntax.specs.ReadFormed.{upper-ok}
-use Rattle.tree.specs.Passes.{oneOf, hostVars, hostName, hostNames}
+use Rattle.names.specs.Ancestors.{oneOf}
+use Rattle.tree.specs.Passes.{hostVars, hostName, hostNames}
 use Rattle.tree.specs.Heads.{pow-fits, one-bit}
 use Rattle.tree.specs.Binders.{memB-cons}
 

@@ -24,12 +24,13 @@ use Rattle.syntax.specs.Tree.{memB}
 use Rattle.syntax.specs.Scope.{memB→, →memB}
 use Rattle.syntax.specs.ReadLaws.{TypesOk}
 use Rattle.syntax.specs.ReadFormed.{entry-parts, tree-at}
-use Rattle.tree.specs.Passes.{oneOf, typeNames, masksFrom, masksBy}
-use Rattle.tree.specs.Heads.{one-is}
+use Rattle.names.specs.Ancestors.{oneOf}
+use Rattle.tree.specs.Passes.{typeNames, masksFrom, masksBy}
+use Rattle.names.specs.Bits.{one-of}
 use Rattle.tree.specs.Binders.{memB-cons, memB-app}
 
 one-all : (q n : ℕ) → q < 64 → bit (oneOf q) n ≡ eqb n q
-one-all q n h = ap (λ (x : ℕ). bit x n) (one-is q h) ∙ bit-pow q n
+one-all q n h = ap (λ (x : ℕ). bit x n) (one-of q h) ∙ bit-pow q n
 
 set-names : (s : Effect) (n : ℕ) → n ≢ 0 → bit s n ≡ memB n (names s)
 set-names s n h = bool-ext (bit s n) (memB n (names s)) (λ e. →memB n (names s) (bit-name s e h)) (λ e. name-bit s (memB→ n (names s) e) .0)

@@ -2,17 +2,14 @@
 use Prim.Native.Nat.{ℕ, zero, suc, _+_, _-_, _*_, _/_, _%_, _^_}
 use mathlib.Core.Bool.{Bool, true, false, cond, not}
 use mathlib.Core.List.{List}
-use mathlib.Core.Option.{Option, none}
+use mathlib.Core.Option.{Option, some}
 use lib.ListN.{getD, set, replicate}
 use lib.Dec.{eqb, ltb}
 use lib.Bits.{bitOr}
 use Rattle.order.specs.Sets.{bit}
-use Rattle.syntax.specs.Reading.{Refusal}
+use Rattle.syntax.specs.Reading.{Refusal, most-names, most-types, most-variables, most-expressions}
 use Rattle.syntax.specs.Tree.{firstBad, orElse, numbered}
-
--- the set of one number below 64; 64 and more stand for none
-unfoldable pub oneOf : ℕ → ℕ
-oneOf n = cond (ltb n 64) (1 * 2 ^ n % 2 ^ 64) 0
+use Rattle.names.specs.Ancestors.{oneOf}
 
 -- how many of the first places of a command's operands are expressions; 3C has its own rule
 unfoldable pub arityOf : ℕ → ℕ
@@ -54,7 +51,7 @@ unfoldable pub oneMore : ℕ → ℕ
 oneMore x = cond (ltb x 2) (x + 1) 2
 
 unfoldable pub tallied : List ℕ → ℕ → List ℕ
-tallied l c = cond (ltb c 512) (set l c (oneMore (getD l c 0))) l
+tallied l c = cond (ltb c most-expressions) (set l c (oneMore (getD l c 0))) l
 
 unfoldable pub countStep : List ℕ → ℕ → ℕ → ℕ → List ℕ
 countStep l w i c = cond (isOperand w i) (tallied l c) l
@@ -64,7 +61,7 @@ counted heads slots zero l = l
 counted heads slots (suc j) l = counted heads slots j (countStep l (getD heads (j / 5) 0) (j % 5) (getD slots j 0))
 
 unfoldable pub countsBy : List ℕ → List ℕ → ℕ → List ℕ
-countsBy heads slots n = counted heads slots (n * 5) (replicate 512 0)
+countsBy heads slots n = counted heads slots (n * 5) (replicate most-expressions 0)
 
 -- once, and the last not at all
 unfoldable pub rightCount : List ℕ → ℕ → ℕ → Bool
@@ -80,7 +77,7 @@ isNew heads e = cond (bit (before false heads e) (boundVar (getD heads e 0))) fa
 
 -- 10: the host's variables; its names with 0 and 1
 unfoldable pub hostVars : ℕ → ℕ
-hostVars n = cond (ltb n 64) (1 * 2 ^ n % 2 ^ 64 - 1) 0xFFFFFFFFFFFFFFFF
+hostVars n = cond (ltb n most-variables) (1 * 2 ^ n % 2 ^ 64 - 1) 0xFFFFFFFFFFFFFFFF
 
 unfoldable pub hostName : ℕ → ℕ → ℕ
 hostName w n = cond (eqb (w / 256) 1) (oneOf n) 0
@@ -104,14 +101,14 @@ masksFrom types sets i zero m = m
 masksFrom types sets i (suc f) m = masksFrom types sets (i + 1) f (set m i (typeNames (getD types i 0) (getD sets i 0) m))
 
 unfoldable pub masksBy : List ℕ → List ℕ → ℕ → List ℕ
-masksBy types sets n = masksFrom types sets 0 n (replicate 256 0)
+masksBy types sets n = masksFrom types sets 0 n (replicate most-types 0)
 
 -- expression e passes its scope x to the operand c in place i, with what it binds where that is its body
 unfoldable pub inheritedBy : Bool → ℕ → ℕ → ℕ → ℕ
 inheritedBy isName w i x = cond (isBody w i) (bitOr x (oneOf (boundOf isName w))) x
 
 unfoldable pub putIn : List ℕ → ℕ → ℕ → List ℕ
-putIn sc c x = cond (ltb c 512) (set sc c x) sc
+putIn sc c x = cond (ltb c most-expressions) (set sc c x) sc
 
 unfoldable pub inheritStep : Bool → List ℕ → ℕ → ℕ → ℕ → ℕ → List ℕ
 inheritStep isName sc w i e c = cond (isOperand w i) (putIn sc c (inheritedBy isName w i (getD sc e 0))) sc
@@ -123,7 +120,7 @@ inheritedDown isName heads slots (suc j) sc = inheritedDown isName heads slots j
 
 -- the last expression stands in the host's scope
 unfoldable pub scopesBy : Bool → List ℕ → List ℕ → ℕ → ℕ → List ℕ
-scopesBy isName heads slots n host = inheritedDown isName heads slots (n * 5) (putIn (replicate 512 0) (n - 1) host)
+scopesBy isName heads slots n host = inheritedDown isName heads slots (n * 5) (putIn (replicate most-expressions 0) (n - 1) host)
 
 -- the place of a command's type operand; 5 for none
 unfoldable pub typePlace : ℕ → ℕ
@@ -156,10 +153,15 @@ tableRefusal heads slots n names nnames types sets ntypes nvalues =
     (orElse (numbered 9 (firstBad (isNew heads) 0 n))
     (scopeRefusal heads slots n names nnames types sets ntypes nvalues))
 
+-- the names that a job may declare: all but 0 and 1
+abbrev pub most-declared : ℕ
+most-declared = most-names - 2
+
 -- a job has an expression, and no more entries than the limits
 unfoldable pub inLimits : ℕ → ℕ → ℕ → Bool
-inLimits n nnames ntypes = cond (eqb n 0) false (cond (ltb 512 n) false (cond (ltb 62 nnames) false (cond (ltb 256 ntypes) false true)))
+inLimits n nnames ntypes =
+    cond (eqb n 0) false (cond (ltb most-expressions n) false (cond (ltb most-declared nnames) false (cond (ltb most-types ntypes) false true)))
 
--- for tables of any size; those that are not in the limits hold no job, and nothing is found
+-- for all tables and counts; those that are not in the limits hold no job, and are refused with 8 at the first expression
 unfoldable pub treeBy : List ℕ → List ℕ → ℕ → List ℕ → ℕ → List ℕ → List ℕ → ℕ → ℕ → Option Refusal
-treeBy heads slots n names nnames types sets ntypes nvalues = cond (inLimits n nnames ntypes) (tableRefusal heads slots n names nnames types sets ntypes nvalues) none
+treeBy heads slots n names nnames types sets ntypes nvalues = cond (inLimits n nnames ntypes) (tableRefusal heads slots n names nnames types sets ntypes nvalues) (numbered 8 (some 0))

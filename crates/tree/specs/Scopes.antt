@@ -20,7 +20,8 @@ use Rattle.syntax.specs.Job.{Src}
 use Rattle.syntax.specs.Tree.{Entry, binds, varsOf, namesOf, memB, count, hostCtx, past, root, uses, usedRight, parent, scopeIn, ctx, nameIn}
 use Rattle.syntax.specs.Scope.{count-mem, uses-mem, mem-uses, parent-is}
 use Rattle.syntax.specs.ReadFormed.{children-map, nth-map}
-use Rattle.tree.specs.Passes.{oneOf, arityOf, isOperand, isBody, boundOf, inheritedBy, putIn, inheritStep, inheritedDown, scopesBy}
+use Rattle.names.specs.Ancestors.{oneOf}
+use Rattle.tree.specs.Passes.{arityOf, isOperand, isBody, boundOf, inheritedBy, putIn, inheritStep, inheritedDown, scopesBy}
 use Rattle.tree.specs.Heads.{byteOf, byte-is, keysOf, opAt, operand-is, useAt, uses5, children-count, one-bit}
 use Rattle.tree.specs.Binders.{kindOf, kind-app, memB-app, Own, own, own-mem}
 

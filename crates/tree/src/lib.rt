@@ -1,7 +1,16 @@
 // The tree checks: numbers 8, 9 and 10 of document 01, by passes over a job's tables.
-use names::at16;
-use names::at64;
 use names::has;
+use names::single;
+use table::Expr;
+use table::MOST_DECLARED;
+use table::MOST_EXPRESSIONS;
+use table::MOST_TYPES;
+use table::at16;
+use table::at64;
+use table::first_of;
+use table::key_of;
+use table::name_of;
+use table::second_of;
 ghost use mathlib.Core.Path.{_≡_};
 ghost use Prim.Native.Nat.{_+_, _*_, _≤_, _<_};
 ghost use mathlib.Core.Bool.{true, false, cond, not};
@@ -14,26 +23,13 @@ ghost use Rattle.syntax.specs.ReadLaws.{JobOk};
 ghost use Rattle.syntax.specs.Tree.{firstBad, numbered, treeRefusal};
 ghost use Rattle.tree.specs.Answer.{refusalOf};
 ghost use Rattle.tree.specs.Holds.{Holds};
-ghost use Rattle.tree.specs.Passes.{arityOf, boundName, boundVar, counted, inheritedDown, hostName, hostNames, hostVars, inLimits, isBody, isNew, isScoped, masksBy, oneMore, oneOf, operandNames, rightCount, scopeRefusal, tableRefusal, tallied, treeBy, typeNames, typePlace, varFits};
+ghost use Rattle.tree.specs.Passes.{arityOf, boundName, boundVar, counted, inheritedDown, hostName, hostNames, hostVars, inLimits, isBody, isNew, isScoped, masksBy, oneMore, operandNames, rightCount, scopeRefusal, tableRefusal, tallied, treeBy, typeNames, typePlace, varFits};
 ghost use Rattle.tree.specs.Places.{atFirst, atLast, firstOperands, inheritAt, inheritTo, isBinder, lastIsOperand, passAt, passTo, tallyAt};
-
-// An expression's number.
-pub struct Expr(pub u16);
 
 // The expressions are a tree in scope, or the first refusal: 8, 9 or 10, and its expression.
 pub enum Answer {
     Tree,
     Refused(u8, Expr),
-}
-
-// The set of n alone; 64 and more stand for none.
-fn one(n: u8) -> u64
-    ensures { λ r. ⌜ r ≡ oneOf n ⌝ }
-{
-    if n < 64 {
-        return 1u64 << n;
-    }
-    0
 }
 
 // How many of the first places of a command's operands are expressions; 3C has its own rule.
@@ -110,10 +106,10 @@ fn bound_var(head: u64) -> u8
 {
     let byte = head % 256;
     if byte == 0x35 {
-        return (head / 256 % 256) as u8;
+        return key_of(head);
     }
     if byte == 0x3E {
-        return (head / 256 % 256) as u8;
+        return key_of(head);
     }
     64
 }
@@ -124,7 +120,7 @@ fn bound_name(head: u64) -> u8
 {
     let byte = head % 256;
     if byte == 0x3E {
-        return (head / 65536 % 256) as u8;
+        return name_of(head);
     }
     64
 }
@@ -140,16 +136,16 @@ fn one_more(x: u8) -> u8
 }
 
 // Counts a use of c.
-fn tally(counts: &mut [u8; 512], c: usize)
+fn tally(counts: &mut [u8; MOST_EXPRESSIONS], c: usize)
     ensures { λ r. ⌜ now (counts .exit) ≡ tallied (now (counts .entry)) c ⌝ }
 {
-    if c < 512 {
+    if c < MOST_EXPRESSIONS {
         counts[c] = one_more(counts[c]);
     }
 }
 
 // Counts the use in the last place of expression e, if it is an operand.
-fn tally_last(counts: &mut [u8; 512], slots: &[u16], head: u64, e: usize)
+fn tally_last(counts: &mut [u8; MOST_EXPRESSIONS], slots: &[u16], head: u64, e: usize)
     requires { ⌜ e < 512 ⌝ }
     ensures { λ r. ⌜ now (counts .exit) ≡ atLast (tallyAt (now (slots .entry)) e) head (now (counts .entry)) ⌝ }
 {
@@ -159,7 +155,7 @@ fn tally_last(counts: &mut [u8; 512], slots: &[u16], head: u64, e: usize)
 }
 
 // Counts the uses in the first n places of expression e, from the highest down.
-fn tally_first(counts: &mut [u8; 512], slots: &[u16], e: usize, n: usize)
+fn tally_first(counts: &mut [u8; MOST_EXPRESSIONS], slots: &[u16], e: usize, n: usize)
     requires { ⌜ (e < 512) × (n ≤ 4) ⌝ }
     ensures { λ r. ⌜ now (counts .exit) ≡ atFirst (tallyAt (now (slots .entry)) e) n (now (counts .entry)) ⌝ }
 {
@@ -171,7 +167,7 @@ fn tally_first(counts: &mut [u8; 512], slots: &[u16], e: usize, n: usize)
 }
 
 // The uses of each expression.
-fn count(heads: &[u64], slots: &[u16], cmds: usize, counts: &mut [u8; 512])
+fn count(heads: &[u64], slots: &[u16], cmds: usize, counts: &mut [u8; MOST_EXPRESSIONS])
     requires { ⌜ cmds ≤ 512 ⌝ }
     ensures { λ r. ⌜ now (counts .exit) ≡ counted (now (heads .entry)) (now (slots .entry)) (cmds * 5) (now (counts .entry)) ⌝ }
 {
@@ -196,7 +192,7 @@ fn right_count(x: u8, e: usize, n: usize) -> bool
 }
 
 // 8: the lowest expression that is not used once; the last is not used at all.
-fn misused(counts: &[u8; 512], cmds: usize) -> Answer
+fn misused(counts: &[u8; MOST_EXPRESSIONS], cmds: usize) -> Answer
     requires { ⌜ cmds ≤ 512 ⌝ }
     ensures { λ r. ⌜ refusalOf r ≡ numbered 8 (firstBad (rightCount (now (counts .entry)) cmds) 0 cmds) ⌝ }
 {
@@ -240,8 +236,8 @@ fn rebound(heads: &[u64], cmds: usize) -> Answer
         if is_new(vars, locals, head) {} else {
             return Answer::Refused(9, Expr(e as u16));
         }
-        vars = vars | one(bound_var(head));
-        locals = locals | one(bound_name(head));
+        vars = vars | single(bound_var(head));
+        locals = locals | single(bound_name(head));
         e = e + 1;
     }
     Answer::Tree
@@ -262,7 +258,7 @@ fn host_name(word: u16, n: u8) -> u64
     ensures { λ r. ⌜ r ≡ hostName word n ⌝ }
 {
     if word / 256 == 1 {
-        return one(n);
+        return single(n);
     }
     0
 }
@@ -283,14 +279,14 @@ fn host_names(names: &[u16], n: usize) -> u64
 }
 
 // The names in the type of this word and set, by the names in the types before it.
-fn names_of(word: u64, set: u64, masks: &[u64; 256]) -> u64
+fn names_of(word: u64, set: u64, masks: &[u64; MOST_TYPES]) -> u64
     ensures { λ r. ⌜ r ≡ typeNames word set (now (masks .entry)) ⌝ }
 {
     let byte = word % 256;
-    let own = one((word / 256 % 256) as u8);
-    let a = at64(masks, (word / 65536 % 65536) as usize);
-    let b = at64(masks, (word / 4294967296 % 65536) as usize);
-    let r = one((word / 65536 % 256) as u8);
+    let own = single(key_of(word));
+    let a = at64(masks, first_of(word) as usize);
+    let b = at64(masks, second_of(word) as usize);
+    let r = single(name_of(word));
     match byte {
         0x11 => own | (a | b),
         0x12 => own | a,
@@ -302,11 +298,11 @@ fn names_of(word: u64, set: u64, masks: &[u64; 256]) -> u64
 }
 
 // The names in each declared type. Its parts are earlier types, so one pass finds them.
-fn type_masks(types: &[u64], sets: &[u64], n: usize) -> [u64; 256]
+fn type_masks(types: &[u64], sets: &[u64], n: usize) -> [u64; MOST_TYPES]
     requires { ⌜ n ≤ 256 ⌝ }
     ensures { λ r. ⌜ r ≡ masksBy (now (types .entry)) (now (sets .entry)) n ⌝ }
 {
-    let mut masks = [0u64; 256];
+    let mut masks = [0u64; MOST_TYPES];
     let mut i: usize = 0;
     while i < n {
         let m = names_of(at64(types, i), at64(sets, i), &masks);
@@ -317,14 +313,21 @@ fn type_masks(types: &[u64], sets: &[u64], n: usize) -> [u64; 256]
 }
 
 // Expression e passes its scopes to c, the operand in place i of the command with this head.
-fn inherit(vars: &mut [u64; 512], locals: &mut [u64; 512], head: u64, i: usize, e: usize, c: usize)
+fn inherit(
+    vars: &mut [u64; MOST_EXPRESSIONS],
+    locals: &mut [u64; MOST_EXPRESSIONS],
+    head: u64,
+    i: usize,
+    e: usize,
+    c: usize,
+)
     requires { ⌜ e < 512 ⌝ }
     ensures { λ r. ⌜ (now (vars .exit) ≡ inheritTo false (now (vars .entry)) head i e c) × (now (locals .exit) ≡ inheritTo true (now (locals .entry)) head i e c) ⌝ }
 {
-    if c < 512 {
+    if c < MOST_EXPRESSIONS {
         if is_body(head, i) {
-            vars[c] = vars[e] | one(bound_var(head));
-            locals[c] = locals[e] | one(bound_name(head));
+            vars[c] = vars[e] | single(bound_var(head));
+            locals[c] = locals[e] | single(bound_name(head));
             return;
         }
         vars[c] = vars[e];
@@ -333,7 +336,13 @@ fn inherit(vars: &mut [u64; 512], locals: &mut [u64; 512], head: u64, i: usize, 
 }
 
 // Expression e passes its scopes to its last place, if it is an operand.
-fn inherit_last(vars: &mut [u64; 512], locals: &mut [u64; 512], slots: &[u16], head: u64, e: usize)
+fn inherit_last(
+    vars: &mut [u64; MOST_EXPRESSIONS],
+    locals: &mut [u64; MOST_EXPRESSIONS],
+    slots: &[u16],
+    head: u64,
+    e: usize,
+)
     requires { ⌜ e < 512 ⌝ }
     ensures { λ r. ⌜ (now (vars .exit) ≡ atLast (inheritAt false (now (slots .entry)) head e) head (now (vars .entry)))
         × (now (locals .exit) ≡ atLast (inheritAt true (now (slots .entry)) head e) head (now (locals .entry))) ⌝ }
@@ -345,8 +354,8 @@ fn inherit_last(vars: &mut [u64; 512], locals: &mut [u64; 512], slots: &[u16], h
 
 // Expression e, a binder, passes its scopes to its first n places, from the highest down, with what it binds in its body.
 fn bind_first(
-    vars: &mut [u64; 512],
-    locals: &mut [u64; 512],
+    vars: &mut [u64; MOST_EXPRESSIONS],
+    locals: &mut [u64; MOST_EXPRESSIONS],
     slots: &[u16],
     head: u64,
     e: usize,
@@ -364,18 +373,29 @@ fn bind_first(
 }
 
 // Expression e passes its scopes to c as they are.
-fn pass(vars: &mut [u64; 512], locals: &mut [u64; 512], e: usize, c: usize)
+fn pass(
+    vars: &mut [u64; MOST_EXPRESSIONS],
+    locals: &mut [u64; MOST_EXPRESSIONS],
+    e: usize,
+    c: usize,
+)
     requires { ⌜ e < 512 ⌝ }
     ensures { λ r. ⌜ (now (vars .exit) ≡ passTo (now (vars .entry)) e c) × (now (locals .exit) ≡ passTo (now (locals .entry)) e c) ⌝ }
 {
-    if c < 512 {
+    if c < MOST_EXPRESSIONS {
         vars[c] = vars[e];
         locals[c] = locals[e];
     }
 }
 
 // Expression e passes its scopes as they are to its first n places, from the highest down.
-fn pass_first(vars: &mut [u64; 512], locals: &mut [u64; 512], slots: &[u16], e: usize, n: usize)
+fn pass_first(
+    vars: &mut [u64; MOST_EXPRESSIONS],
+    locals: &mut [u64; MOST_EXPRESSIONS],
+    slots: &[u16],
+    e: usize,
+    n: usize,
+)
     requires { ⌜ (e < 512) × (n ≤ 4) ⌝ }
     ensures { λ r. ⌜ (now (vars .exit) ≡ atFirst (passAt (now (slots .entry)) e) n (now (vars .entry)))
         × (now (locals .exit) ≡ atFirst (passAt (now (slots .entry)) e) n (now (locals .entry))) ⌝ }
@@ -389,8 +409,8 @@ fn pass_first(vars: &mut [u64; 512], locals: &mut [u64; 512], slots: &[u16], e: 
 
 // Expression e passes its scopes to its first n places, from the highest down.
 fn inherit_first(
-    vars: &mut [u64; 512],
-    locals: &mut [u64; 512],
+    vars: &mut [u64; MOST_EXPRESSIONS],
+    locals: &mut [u64; MOST_EXPRESSIONS],
     slots: &[u16],
     head: u64,
     e: usize,
@@ -408,7 +428,13 @@ fn inherit_first(
 }
 
 // The variables and the names in scope at each expression, from the last one down.
-fn scopes(heads: &[u64], slots: &[u16], cmds: usize, vars: &mut [u64; 512], locals: &mut [u64; 512])
+fn scopes(
+    heads: &[u64],
+    slots: &[u16],
+    cmds: usize,
+    vars: &mut [u64; MOST_EXPRESSIONS],
+    locals: &mut [u64; MOST_EXPRESSIONS],
+)
     requires { ⌜ cmds ≤ 512 ⌝ }
     ensures { λ r. ⌜ (now (vars .exit) ≡ inheritedDown false (now (heads .entry)) (now (slots .entry)) (cmds * 5) (now (vars .entry)))
         × (now (locals .exit) ≡ inheritedDown true (now (heads .entry)) (now (slots .entry)) (cmds * 5) (now (locals .entry))) ⌝ }
@@ -436,7 +462,7 @@ fn type_place(byte: u64) -> usize
 }
 
 // The names in the type operand of expression e.
-fn operand_names<'a>(masks: &'a [u64; 256], slots: &'a [u16], e: usize, head: u64) -> u64
+fn operand_names<'a>(masks: &'a [u64; MOST_TYPES], slots: &'a [u16], e: usize, head: u64) -> u64
     requires { ⌜ e < 512 ⌝ }
     ensures { λ r. ⌜ r ≡ operandNames (now (masks .entry)) (now (slots .entry)) e head ⌝ }
 {
@@ -452,7 +478,7 @@ fn var_fits(head: u64, vars: u64) -> bool
     ensures { λ r. ⌜ r ≡ varFits head vars ⌝ }
 {
     if head % 256 == 0x32 {
-        return has(vars, (head / 256 % 256) as u8);
+        return has(vars, key_of(head));
     }
     true
 }
@@ -470,9 +496,9 @@ fn unscoped<'a>(
     heads: &'a [u64],
     slots: &'a [u16],
     cmds: usize,
-    masks: &'a [u64; 256],
-    vars: &'a [u64; 512],
-    locals: &'a [u64; 512],
+    masks: &'a [u64; MOST_TYPES],
+    vars: &'a [u64; MOST_EXPRESSIONS],
+    locals: &'a [u64; MOST_EXPRESSIONS],
 ) -> Answer
     requires { ⌜ cmds ≤ 512 ⌝ }
     ensures { λ r. ⌜ refusalOf r
@@ -510,9 +536,9 @@ fn scope_check<'a>(
         ≡ scopeRefusal (now (heads .entry)) (now (slots .entry)) cmds (now (names .entry)) nnames (now (types .entry)) (now (sets .entry)) ntypes nvalues ⌝ }
 {
     let masks = type_masks(types, sets, ntypes);
-    let mut vars = [0u64; 512];
+    let mut vars = [0u64; MOST_EXPRESSIONS];
     vars[cmds - 1] = host_vars(nvalues);
-    let mut locals = [0u64; 512];
+    let mut locals = [0u64; MOST_EXPRESSIONS];
     locals[cmds - 1] = host_names(names, nnames);
     scopes(heads, slots, cmds, &mut vars, &mut locals);
     unscoped(heads, slots, cmds, &masks, &vars, &locals)
@@ -525,13 +551,13 @@ fn in_limits(cmds: usize, nnames: usize, ntypes: usize) -> bool
     if cmds == 0 {
         return false;
     }
-    if 512 < cmds {
+    if MOST_EXPRESSIONS < cmds {
         return false;
     }
-    if 62 < nnames {
+    if MOST_DECLARED < nnames {
         return false;
     }
-    if 256 < ntypes {
+    if MOST_TYPES < ntypes {
         return false;
     }
     true
@@ -553,7 +579,7 @@ fn table_check<'a>(
     ensures { λ r. ⌜ refusalOf r
         ≡ tableRefusal (now (heads .entry)) (now (slots .entry)) cmds (now (names .entry)) nnames (now (types .entry)) (now (sets .entry)) ntypes nvalues ⌝ }
 {
-    let mut counts = [0u8; 512];
+    let mut counts = [0u8; MOST_EXPRESSIONS];
     count(heads, slots, cmds, &mut counts);
     match misused(&counts, cmds) {
         Answer::Refused(n, e) => Answer::Refused(n, e),
@@ -575,8 +601,8 @@ fn table_check<'a>(
 }
 
 // The first refusal of the job that the tables hold: cmds heads with five places each, nnames names from entry 2 on, ntypes types with
-// their sets, nvalues host values. Document 01 asks for an answer only of a job that is read: for tables that hold none it is free.
-// Every answer is the one that the same passes give, and Tree where there is no expression or a count is past its limit.
+// their sets, nvalues host values. For other tables it is what the same passes find in them. Where there is no expression or a count
+// is past its limit, the tables hold no job: 8 at the first expression.
 pub fn tree<'a>(
     heads: &'a [u64],
     slots: &'a [u16],
@@ -607,5 +633,5 @@ pub fn tree<'a>(
             nvalues,
         );
     }
-    Answer::Tree
+    Answer::Refused(8, Expr(0))
 }

@@ -9,8 +9,7 @@ use mathlib.Core.Option.{some}
 use lib.ListN.{length, getElem?}
 use borrow.Author.Tests.{eq-eqb}
 use Rattle.order.specs.Order.{Below, here}
-use Rattle.order.specs.Sets.{setOf}
-use Rattle.order.specs.Effects.{Effect, pure, touch, join, drop, raise, reduce, EffBelow}
+use Rattle.order.specs.Effects.{Effect, pure, touch, ofNames, join, drop, raise, reduce, EffBelow}
 use Rattle.order.specs.EffectLaws.{eff-refl, eff-trans, eff-join-mono, eff-touch-mono, reduce-below, drop-mono, raise-mono, →effBelow}
 use Rattle.syntax.specs.Types.{Ty, num, pair, cell, fn, lim, grant, keyOf, rekey}
 use Rattle.syntax.specs.Commands.{Cmd, c-num, c-top, c-var, c-pair, c-part, c-fn, c-app, c-new, c-asg, c-read, c-sum, c-test, c-lim, c-grant, c-newkey, c-assoc}
@@ -162,7 +161,7 @@ module _ (S : Src) (ok : Formed S) (tree : TreeOk S) where
   unfolding keysAt with wantLim
   key-least {r = r} {s₀ = s₀} h (s-lim {p = p} d) u k = record { eff = touch p (join s₀ (k .eff)); got = λ f. rw h (k .got (λ rs t. f (r ∷ rs) (touch p (join s₀ t)))); under = tch d (jn u (k .under)) }
 
-  lim-least : {e b : ℕ} {ks rs : List ℕ} {B T : Ty} {s t₀ t : Effect} → e < length (S .cmds) → nth (S .cmds) e ≡ c-lim ks b → LeastKeys e ks rs s → pre e b ≡ typed B t₀ → Sub up B T → EffBelow up t₀ t → EffBelow up t (setOf rs) → Least S e T (join s t)
+  lim-least : {e b : ℕ} {ks rs : List ℕ} {B T : Ty} {s t₀ t : Effect} → e < length (S .cmds) → nth (S .cmds) e ≡ c-lim ks b → LeastKeys e ks rs s → pre e b ≡ typed B t₀ → Sub up B T → EffBelow up t₀ t → EffBelow up t (ofNames rs) → Least S e T (join s t)
   unfolding typeAt with require
   lim-least {e} {b} {ks} {rs} {B} {t₀ = t₀} lt c k h x u w =
       record { ty = B; eff = reduce up (join (k .eff) t₀); got = typeOf-is S e lt ∙ ap (typeAt S (pre e)) c ∙ k .got _ ∙ rw (h, →effBelow (ok .proper) (tr u w)); sub = x; under = red (jn (k .under) u) }

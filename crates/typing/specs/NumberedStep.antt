@@ -8,10 +8,9 @@ use mathlib.Core.Option.{Option, some}
 use lib.ListN.{drop, length, getElem?}
 use lib.Bits.{bitOr, or-zero-l, or-zero-r, or-comm}
 use Rattle.order.specs.OrderLaws.{getElem?-some}
-use Rattle.order.specs.Sets.{setOf}
 use Rattle.order.specs.SetLaws.{or-assoc, lt-pow}
-use Rattle.order.specs.Effects.{Effect, pure, touch, join, drop as dropped, raise, reduce, effBelow}
-use Rattle.order.specs.EffectLaws.{reduce-lt, drop-lt, join-lt, touch-lt, raise-lt}
+use Rattle.order.specs.Effects.{Effect, pure, touch, ofNames, join, drop as dropped, raise, reduce, effBelow}
+use Rattle.order.specs.EffectLaws.{reduce-lt, drop-lt, join-lt, touch-lt, touch-join, join-touch, raise-lt}
 use Rattle.syntax.specs.Types.{Ty, cell, fn, keyOf, rekey, TypeEntry, e-num, e-pair, e-cell, e-fn, e-lim, e-grant, entryTree, tree}
 use Rattle.syntax.specs.TypeLaws.{tree-entry}
 use Rattle.syntax.specs.Commands.{Cmd, c-num, c-top, c-var, c-pair, c-part, c-fn, c-app, c-new, c-asg, c-read, c-sum, c-test, c-lim, c-grant, c-newkey, c-assoc, mapCmd}
@@ -43,9 +42,6 @@ pub record Operand (N : ℕ) (E : List TypeEntry) (tab : ℕ → Typed) (of : �
 
 swap3 : (a b c : ℕ) → bitOr (bitOr a b) c ≡ bitOr b (bitOr a c)
 swap3 a b c = ap (λ x. bitOr x c) (or-comm a b) ∙ or-assoc b a c
-
-swap4 : (a b c d : ℕ) → bitOr (bitOr a (bitOr b c)) d ≡ bitOr c (bitOr a (bitOr b d))
-swap4 a b c d = ap (λ x. bitOr x d) (sym (or-assoc a b c) ∙ or-comm (bitOr a b) c) ∙ or-assoc c (bitOr a b) d ∙ ap (bitOr c) (or-assoc a b d)
 
 -- Effects
 
@@ -228,29 +224,28 @@ module _ (S : Src) {O : Ops} (ag : Agree (upOf S) O) (ts : List TypeEntry) {E : 
   touch-low : {q : ℕ} {s : Effect} → q < N → s < 2 ^ N → O .touch q s < 2 ^ N
   touch-low {q} {s} h k = rw (ag .touch q s h k) (touch-lt N q s h k)
 
-  acc-names : (r n m : ℕ) → r < N → n < 2 ^ N → bitOr (O .touch r n) m ≡ bitOr n (touch r m)
-  unfolding touch
-  acc-names r n m h k = ap (λ x. bitOr x m) (ag .touch r n h k) ∙ swap3 (2 ^ r) n m
+  acc-names : (r n m : ℕ) → r < N → n < 2 ^ N → join (O .touch r n) m ≡ join n (touch r m)
+  acc-names r n m h k = ap (λ x. join x m) (ag .touch r n h k) ∙ touch-join r n m ∙ sym (join-touch r n m)
 
-  acc-effect : (q : ℕ) (s t u : Effect) → q < N → join s t < 2 ^ N → bitOr (O .touch q (join s t)) u ≡ bitOr t (touch q (join s u))
-  unfolding touch join
-  acc-effect q s t u h k = ap (λ x. bitOr x u) (ag .touch q (join s t) h k) ∙ swap4 (2 ^ q) s t u
+  acc-effect : (q : ℕ) (s t u : Effect) → q < N → join s t < 2 ^ N → join (O .touch q (join s t)) u ≡ join t (touch q (join s u))
+  unfolding join
+  acc-effect q s t u h k = ap (λ x. join x u) (ag .touch q (join s t) h k) ∙ touch-join q (join s t) u ∙ ap (touch q) (swap3 s t u) ∙ sym (join-touch q t (join s u))
 
   cast : {o : Typed} (g : ℕ → Effect → Result) {m n : ℕ} {s t : Effect} → m ≡ n → s ≡ t → M o (g n t) → M o (g m s)
   cast {o} g {m} {n} {s} {t} a b x = subst⁻¹ (λ k. M o (g k s)) a (subst⁻¹ (λ u. M o (g n u)) b x)
 
   -- the limit keys of 3C: n and t are what came before
   by-keys : (ks : List ℕ) → ((a : ℕ) → List·Memᴰ a ks → Op a) → (n : ℕ) (t : Effect) → n < 2 ^ N → t < 2 ^ N → (f : List ℕ → Effect → Typed) (g : ℕ → Effect → Result)
-      → ((rs : List ℕ) (s : Effect) → setOf rs < 2 ^ N → s < 2 ^ N → M (f rs s) (g (bitOr n (setOf rs)) (bitOr t s)))
+      → ((rs : List ℕ) (s : Effect) → ofNames rs < 2 ^ N → s < 2 ^ N → M (f rs s) (g (join n (ofNames rs)) (join t s)))
       → M (keysAt tab ks f) (keysFrom O var (getElem? E) of eff ks n t g)
-  unfolding keysAt keysFrom setOf touch
+  unfolding keysAt keysFrom ofNames join
   by-keys [] p n t hn ht f g k = cast g (sym (or-zero-r n)) (sym (or-zero-r t)) (k [] pure pure-low pure-low)
   by-keys (a ∷ ks) p n t hn ht f g k =
       let o = p a (List·Memᴰ·head refl) in
       by-operand o _ (by-lim (o .low) _ _ (λ q r hq hr.
       by-keys ks (λ c m. p c (List·Memᴰ·tail m)) (O .touch r n) (O .touch q (join (eff a) t)) (touch-low hr hn) (touch-low hq (join-lt N (eff a) t (o .small) ht)) _ g (λ rs s hs ht2.
-      cast g (acc-names r n (setOf rs) hr hn) (acc-effect q (eff a) t s hq (join-lt N (eff a) t (o .small) ht))
-      (k (r ∷ rs) (touch q (join (eff a) s)) (touch-lt N r (setOf rs) hr hs) (touch-lt N q (join (eff a) s) hq (join-lt N (eff a) s (o .small) ht2))))))
+      cast g (acc-names r n (ofNames rs) hr hn) (acc-effect q (eff a) t s hq (join-lt N (eff a) t (o .small) ht))
+      (k (r ∷ rs) (touch q (join (eff a) s)) (touch-lt N r (ofNames rs) hr hs) (touch-lt N q (join (eff a) s) hq (join-lt N (eff a) s (o .small) ht2))))))
 
   same-key : {n : ℕ} (x : TypeEntry) → EntryOk D N n x → {s t : Effect} → Same N s t
       → Same N (reduce (upOf S) (touch (keyOf (entryTree (some x) (tree E))) s)) (O .reduce (O .touch (keyIn (some x)) t))
@@ -265,7 +260,7 @@ module _ (S : Src) {O : Ops} (ag : Agree (upOf S) O) (ts : List TypeEntry) {E : 
     pub variable : (x : ℕ) → List·Memᴰ x (usesVar k) → (A : Ty) × (varType S x ≡ some A) × TreeAt E A (var x)
 
   pub matches : (k : Cmd ℕ) → Given k → M (typeAt S tab (mapCmd (tree ts) k)) (resultAt O var (getElem? E) of eff k)
-  unfolding children plain inner typesOf bindsName usesVar mapCmd typeAt resultAt entryTree ofVar pick
+  unfolding children plain inner typesOf bindsName usesVar mapCmd typeAt resultAt entryTree ofVar pick join
   matches (c-num n) h = m-new (ok-num zero-low) refl (same-self pure-low)
   matches c-top h = m-new (ok-lim zero-low two) refl (same-self pure-low)
   matches (c-var x) h = at (h .variable x (List·Memᴰ·head refl))
@@ -322,8 +317,8 @@ module _ (S : Src) {O : Ops} (ag : Agree (upOf S) O) (ts : List TypeEntry) {E : 
   matches (c-lim ks b) h =
       let p = h .operand b (Memᴰ·append-left [] (Memᴰ·append-right ks (List·Memᴰ·head refl))) in
       by-keys ks (λ a m. h .operand a (Memᴰ·append-left [] (Memᴰ·append-left (b ∷ []) m))) 0 pure pure-low pure-low _ _ (λ rs s hr hs.
-      cast (λ n u. need 13 (O .effBelow (eff b) n) (points (of b) (O .reduce (join u (eff b))))) (or-zero-l (setOf rs)) (or-zero-l s)
-      (by-operand p _ (by-need 13 _ _ (ag .effBelow (eff b) (setOf rs) (p .small) hr) (m-old (here (p .low)) (same-reduce ag (same-join (same-self hs) (eff-of p)))))))
+      cast (λ n u. need 13 (O .effBelow (eff b) n) (points (of b) (O .reduce (join u (eff b))))) (or-zero-l (ofNames rs)) (or-zero-l s)
+      (by-operand p _ (by-need 13 _ _ (ag .effBelow (eff b) (ofNames rs) (p .small) hr) (m-old (here (p .low)) (same-reduce ag (same-join (same-self hs) (eff-of p)))))))
   matches (c-grant a b) h =
       let p = h .operand a (List·Memᴰ·head refl) in
       let q = h .operand b (List·Memᴰ·tail (List·Memᴰ·head refl)) in

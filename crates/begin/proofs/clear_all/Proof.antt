@@ -3,8 +3,8 @@ use Rattle.begin.proofs.clear_all.Statement.{statement}
 use Rattle.begin.proofs.clear_all.Tie as tie
 use Rattle.begin.proofs.clear_all.Reads as reads
 use Rattle.begin.proofs.clear_all.Lts as lts
-use Rattle.job.proofs.clear16.Reads as clear16-reads
-use Rattle.job.proofs.clear64.Reads as clear64-reads
+use Rattle.table.proofs.clear16.Reads as clear16-reads
+use Rattle.table.proofs.clear64.Reads as clear64-reads
 
 -- src/lib.rt:111:5
 clear16-requires : tie.Need-clear16-requires

@@ -2,15 +2,11 @@ use Rattle.job.specs.Entries.{bindsOk}
 use borrow.Author.Tests.{le-leb, lt-leb}
 use Rattle.job.proofs.binds_ok.Statement.{statement}
 use Rattle.job.proofs.binds_ok.Tie as tie
-use Rattle.job.proofs.binds_ok.Reads as reads
-use Rattle.job.proofs.binds_ok.Lts as lts
 
--- src/lib.rt:624:9
 returns : tie.Need-returns
 unfolding bindsOk
 returns c = simp (le-leb _ _ (c .if1 .taken))
 
--- src/lib.rt:619:1
 returns-2 : tie.Need-returns-2
 unfolding bindsOk
 returns-2 c = simp (lt-leb _ _ (c .if1 .left))

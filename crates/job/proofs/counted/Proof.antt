@@ -2,93 +2,67 @@ use Rattle.job.specs.Entries.{shapeAfter}
 use borrow.Author.Needs.{needs}
 use Rattle.job.proofs.counted.Statement.{statement}
 use Rattle.job.proofs.counted.Tie as tie
-use Rattle.job.proofs.counted.Reads as reads
-use Rattle.job.proofs.counted.Lts as lts
-use Rattle.job.proofs.more_cmds.Reads as more-cmds-reads
-use Rattle.job.proofs.more_names.Reads as more-names-reads
-use Rattle.job.proofs.more_types.Reads as more-types-reads
-use Rattle.job.proofs.more_values.Reads as more-values-reads
-use Rattle.job.proofs.with_rights.Reads as with-rights-reads
 
--- src/lib.rt:885:29
 enum-told : tie.Need-enum-told
 enum-told c = search needs
 
--- src/lib.rt:886:28
 enum-told-2 : tie.Need-enum-told-2
 enum-told-2 c = search needs
 
--- src/lib.rt:886:28
 more-names-requires : tie.Need-more-names-requires
 more-names-requires c κs = search needs
 
--- src/lib.rt:887:34
 enum-told-3 : tie.Need-enum-told-3
 enum-told-3 c = search needs
 
--- src/lib.rt:887:34
 more-types-requires : tie.Need-more-types-requires
 more-types-requires c κs = search needs
 
--- src/lib.rt:888:29
 enum-told-4 : tie.Need-enum-told-4
 enum-told-4 c = search needs
 
--- src/lib.rt:888:29
 more-values-requires : tie.Need-more-values-requires
 more-values-requires c κs = search needs
 
--- src/lib.rt:889:23
 enum-known-e : tie.Need-enum-known-e
 enum-known-e c = search needs
 
--- src/lib.rt:889:29
 with-rights-requires : tie.Need-with-rights-requires
 with-rights-requires c κs = search needs
 
--- src/lib.rt:890:29
 enum-told-5 : tie.Need-enum-told-5
 enum-told-5 c = search needs
 
--- src/lib.rt:890:29
 more-cmds-requires : tie.Need-more-cmds-requires
 more-cmds-requires c κs = search needs
 
--- src/lib.rt:891:24
 enum-told-6 : tie.Need-enum-told-6
 enum-told-6 c = search needs
 
--- src/lib.rt:880:1
 returns : tie.Need-returns
 unfolding shapeAfter
 returns c = search needs
 
--- src/lib.rt:880:1
 returns-2 : tie.Need-returns-2
 unfolding shapeAfter
 returns-2 c = simp (c .before .enum-told2 .given .1) (c .more-names .ensures)
 
--- src/lib.rt:880:1
 returns-3 : tie.Need-returns-3
 unfolding shapeAfter
 returns-3 c = simp (c .before .enum-told3 .given .1) (c .more-types .ensures)
 
--- src/lib.rt:880:1
 returns-4 : tie.Need-returns-4
 unfolding shapeAfter
 returns-4 c = simp (c .before .enum-told4 .given .1) (c .more-values .ensures)
 
--- src/lib.rt:880:1
 returns-5 : tie.Need-returns-5
 unfolding shapeAfter
 returns-5 c = simp (c .before .before .e .given .1) (c .with-rights .ensures)
 
--- src/lib.rt:880:1
 returns-6 : tie.Need-returns-6
 unfolding shapeAfter
 returns-6 c = simp (c .before .enum-told5 .given .1) (c .more-cmds .ensures)
 
--- src/lib.rt:880:1
 returns-7 : tie.Need-returns-7
 unfolding shapeAfter
 returns-7 c = search needs

@@ -2,22 +2,16 @@ use Rattle.job.specs.Entries.{ancestorsAfter}
 use borrow.Author.Needs.{needs}
 use Rattle.job.proofs.enter.Statement.{statement}
 use Rattle.job.proofs.enter.Tie as tie
-use Rattle.job.proofs.enter.Reads as reads
-use Rattle.job.proofs.enter.Lts as lts
-use Rattle.names.proofs.enter.Reads as enter-reads
 
 enum-told : tie.Need-enum-told
 enum-told c = search needs
 
--- src/lib.rt:965:22
 enum-known-e : tie.Need-enum-known-e
 enum-known-e c = search needs
 
--- src/lib.rt:965:46
 add-enter : tie.Need-add-enter
 add-enter c = search needs
 
--- src/lib.rt:965:28
 enter-requires : tie.Need-enter-requires
 enter-requires c κs = search needs
 
@@ -36,37 +30,30 @@ enum-told-5 c = search needs
 enum-told-6 : tie.Need-enum-told-6
 enum-told-6 c = search needs
 
--- src/lib.rt:959:1
 returns : tie.Need-returns
 unfolding ancestorsAfter
 returns c = search needs
 
--- src/lib.rt:959:1
 returns-2 : tie.Need-returns-2
 unfolding ancestorsAfter
 returns-2 c = simp (c .before .before .before .e .given .1) (c .enter .ensures)
 
--- src/lib.rt:959:1
 returns-3 : tie.Need-returns-3
 unfolding ancestorsAfter
 returns-3 c = search needs
 
--- src/lib.rt:959:1
 returns-4 : tie.Need-returns-4
 unfolding ancestorsAfter
 returns-4 c = search needs
 
--- src/lib.rt:959:1
 returns-5 : tie.Need-returns-5
 unfolding ancestorsAfter
 returns-5 c = search needs
 
--- src/lib.rt:959:1
 returns-6 : tie.Need-returns-6
 unfolding ancestorsAfter
 returns-6 c = search needs
 
--- src/lib.rt:959:1
 returns-7 : tie.Need-returns-7
 unfolding ancestorsAfter
 returns-7 c = search needs

@@ -3,18 +3,13 @@ use lib.ListN.{List·getD-eq-default}
 use borrow.Author.Needs.{needs}
 use Rattle.job.proofs.first.Statement.{statement}
 use Rattle.job.proofs.first.Tie as tie
-use Rattle.job.proofs.first.Reads as reads
-use Rattle.job.proofs.first.Lts as lts
 
--- src/lib.rt:137:24
 shared-slice-read-result : tie.Need-shared-slice-read-result
 shared-slice-read-result c = search needs
 
--- src/lib.rt:134:1
 returns : tie.Need-returns
 returns c = search needs
 
--- src/lib.rt:134:1
 returns-2 : tie.Need-returns-2
 returns-2 c = let h0 = c .if1 .left in simp (List·getD-eq-default, set-past, fill-all)
 

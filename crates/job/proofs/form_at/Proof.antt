@@ -2,48 +2,34 @@ use Rattle.job.specs.Bytes.{formOf}
 use borrow.Author.Needs.{needs}
 use Rattle.job.proofs.form_at.Statement.{statement}
 use Rattle.job.proofs.form_at.Tie as tie
-use Rattle.job.proofs.form_at.Reads as reads
-use Rattle.job.proofs.form_at.Lts as lts
-use Rattle.job.proofs.lead.Reads as lead-reads
-use Rattle.job.proofs.slot.Reads as slot-reads
 
--- src/lib.rt:309:37
 lead-requires : tie.Need-lead-requires
 lead-requires c κs = search needs
 
--- src/lib.rt:309:37
 cast-head : tie.Need-cast-head
 cast-head c = search needs
 
--- src/lib.rt:309:30
 mul-head : tie.Need-mul-head
 mul-head c = search needs
 
--- src/lib.rt:309:16
 add-head : tie.Need-add-head
 add-head c = search needs
 
--- src/lib.rt:310:9
 slot-requires : tie.Need-slot-requires
 slot-requires c κs = search needs
 
--- src/lib.rt:311:9
 slot-requires-2 : tie.Need-slot-requires-2
 slot-requires-2 c κs = search needs
 
--- src/lib.rt:312:9
 slot-requires-3 : tie.Need-slot-requires-3
 slot-requires-3 c κs = search needs
 
--- src/lib.rt:313:9
 slot-requires-4 : tie.Need-slot-requires-4
 slot-requires-4 c κs = search needs
 
--- src/lib.rt:314:9
 slot-requires-5 : tie.Need-slot-requires-5
 slot-requires-5 c κs = search needs
 
--- src/lib.rt:306:1
 returns : tie.Need-returns
 unfolding formOf
 returns c = simp (← c .slot5 .ensures, ← c .before .slot4 .ensures, ← c .before .before .slot3 .ensures, ← c .before .before .before .slot2 .ensures, ← c .before .before .before .before .slot .ensures, ← c .before .before .before .before .before .lead .ensures)

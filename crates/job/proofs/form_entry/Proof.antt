@@ -3,40 +3,27 @@ use Rattle.names.specs.Ancestors.{namesIn}
 use borrow.Author.Needs.{needs}
 use Rattle.job.proofs.form_entry.Statement.{statement}
 use Rattle.job.proofs.form_entry.Tie as tie
-use Rattle.job.proofs.form_entry.Reads as reads
-use Rattle.job.proofs.form_entry.Lts as lts
-use Rattle.job.proofs.form_at.Reads as form-at-reads
-use Rattle.job.proofs.lead_ok.Reads as lead-ok-reads
-use Rattle.job.proofs.op8.Reads as op8-reads
-use Rattle.job.proofs.places_ok.Reads as places-ok-reads
 
--- src/lib.rt:737:9
 form-at-requires : tie.Need-form-at-requires
 form-at-requires c κs = search needs
 
--- src/lib.rt:738:22
 op8-requires : tie.Need-op8-requires
 op8-requires c κs = search needs
 
--- src/lib.rt:738:8
 places-ok-requires : tie.Need-places-ok-requires
 places-ok-requires c κs = search needs
 
--- src/lib.rt:739:12
 lead-ok-requires : tie.Need-lead-ok-requires
 lead-ok-requires c κs = search needs
 
--- src/lib.rt:740:13
 returns : tie.Need-returns
 unfolding formEntry namesIn
 returns c = simp (c .if2 .taken, c .before .before .if1 .taken, ← c .before .lead-ok .ensures, ← c .before .before .before .places-ok .ensures, ← c .before .before .before .before .op8 .ensures, ← c .before .before .before .before .before .form-at .ensures)
 
--- src/lib.rt:734:1
 returns-2 : tie.Need-returns-2
 unfolding formEntry namesIn
 returns-2 c = simp (c .if2 .left, c .before .before .if1 .taken, ← c .before .lead-ok .ensures, ← c .before .before .before .places-ok .ensures, ← c .before .before .before .before .op8 .ensures, ← c .before .before .before .before .before .form-at .ensures)
 
--- src/lib.rt:734:1
 returns-3 : tie.Need-returns-3
 unfolding formEntry namesIn
 returns-3 c = simp (c .if1 .left, ← c .before .places-ok .ensures, ← c .before .before .op8 .ensures, ← c .before .before .before .form-at .ensures)

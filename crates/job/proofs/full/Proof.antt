@@ -1,32 +1,24 @@
 use Rattle.job.specs.Bytes.{fullBy}
 use borrow.Author.Tests.{eq-eqb, ne-eqb}
-use borrow.Author.Needs.{needs}
 use Rattle.job.proofs.full.Statement.{statement}
 use Rattle.job.proofs.full.Tie as tie
-use Rattle.job.proofs.full.Reads as reads
-use Rattle.job.proofs.full.Lts as lts
 
--- src/lib.rt:236:9
 returns : tie.Need-returns
 unfolding fullBy
 returns c = simp (eq-eqb _ _ (c .before .if1 .taken))
 
--- src/lib.rt:239:9
 returns-2 : tie.Need-returns-2
 unfolding fullBy
 returns-2 c = simp (eq-eqb _ _ (c .before .if2 .taken), ne-eqb _ _ (c .before .before .if1 .left))
 
--- src/lib.rt:242:9
 returns-3 : tie.Need-returns-3
 unfolding fullBy
 returns-3 c = simp (eq-eqb _ _ (c .before .if3 .taken), ne-eqb _ _ (c .before .before .if2 .left), ne-eqb _ _ (c .before .before .before .if1 .left))
 
--- src/lib.rt:245:9
 returns-4 : tie.Need-returns-4
 unfolding fullBy
 returns-4 c = simp (eq-eqb _ _ (c .before .if4 .taken), ne-eqb _ _ (c .before .before .if3 .left), ne-eqb _ _ (c .before .before .before .if2 .left), ne-eqb _ _ (c .before .before .before .before .if1 .left))
 
--- src/lib.rt:231:1
 returns-5 : tie.Need-returns-5
 unfolding fullBy
 returns-5 c = simp (ne-eqb _ _ (c .if4 .left), ne-eqb _ _ (c .before .if3 .left), ne-eqb _ _ (c .before .before .if2 .left), ne-eqb _ _ (c .before .before .before .if1 .left))

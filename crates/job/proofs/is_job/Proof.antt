@@ -2,23 +2,17 @@ use Rattle.job.specs.Answer.{isJob}
 use borrow.Author.Needs.{needs}
 use Rattle.job.proofs.is_job.Statement.{statement}
 use Rattle.job.proofs.is_job.Tie as tie
-use Rattle.job.proofs.is_job.Reads as reads
-use Rattle.job.proofs.is_job.Lts as lts
 
--- src/lib.rt:813:27
 enum-told : tie.Need-enum-told
 enum-told c = search needs
 
--- src/lib.rt:814:31
 enum-told-2 : tie.Need-enum-told-2
 enum-told-2 c = search needs
 
--- src/lib.rt:809:1
 returns : tie.Need-returns
 unfolding isJob
 returns c = search needs
 
--- src/lib.rt:809:1
 returns-2 : tie.Need-returns-2
 unfolding isJob
 returns-2 c = search needs

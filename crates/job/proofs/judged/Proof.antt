@@ -3,64 +3,44 @@ use borrow.Author.Tests.{eq-eqb, le-leb, lt-leb, ne-eqb}
 use borrow.Author.Needs.{needs}
 use Rattle.job.proofs.judged.Statement.{statement}
 use Rattle.job.proofs.judged.Tie as tie
-use Rattle.job.proofs.judged.Reads as reads
-use Rattle.job.proofs.judged.Lts as lts
-use Rattle.job.proofs.entry_of.Reads as entry-of-reads
-use Rattle.job.proofs.first.Reads as first-reads
-use Rattle.job.proofs.full.Reads as full-reads
-use Rattle.job.proofs.misplaced.Reads as misplaced-reads
-use Rattle.job.proofs.section.Reads as section-reads
-use Rattle.job.proofs.width.Reads as width-reads
 
--- src/lib.rt:705:9
 first-requires : tie.Need-first-requires
 first-requires c κs = search needs
 
--- src/lib.rt:706:9
 width-requires : tie.Need-width-requires
 width-requires c κs = search needs
 
--- src/lib.rt:708:9
 returns : tie.Need-returns
 unfolding judgedBy
 returns c = simp (eq-eqb _ _ (c .if1 .taken), ← c .before .width .ensures, ← c .before .before .first .ensures)
 
--- src/lib.rt:710:9
 section-requires : tie.Need-section-requires
 section-requires c κs = search needs
 
--- src/lib.rt:711:8
 misplaced-requires : tie.Need-misplaced-requires
 misplaced-requires c κs = search needs
 
--- src/lib.rt:712:9
 returns-2 : tie.Need-returns-2
 unfolding judgedBy
 returns-2 c = simp (c .if2 .taken, ne-eqb _ _ (c .before .before .before .if1 .left), ← c .before .misplaced .ensures, ← c .before .before .section .ensures, ← c .before .before .before .before .width .ensures, ← c .before .before .before .before .before .first .ensures)
 
--- src/lib.rt:714:13
 cast-k : tie.Need-cast-k
 cast-k c = search needs
 
--- src/lib.rt:716:9
 returns-3 : tie.Need-returns-3
 unfolding judgedBy
 returns-3 c = simp (le-leb _ _ (c .if3 .taken), c .before .if2 .left, ne-eqb _ _ (c .before .before .before .before .if1 .left), ← c .before .before .misplaced .ensures, ← c .before .before .before .section .ensures, ← c .before .before .before .before .before .width .ensures, ← c .before .before .before .before .before .before .first .ensures)
 
--- src/lib.rt:718:8
 full-requires : tie.Need-full-requires
 full-requires c κs = search needs
 
--- src/lib.rt:719:9
 returns-4 : tie.Need-returns-4
 unfolding judgedBy
 returns-4 c = simp (c .if4 .taken, lt-leb _ _ (c .before .before .if3 .left), c .before .before .before .if2 .left, ne-eqb _ _ (c .before .before .before .before .before .before .if1 .left), ← c .before .full .ensures, ← c .before .before .before .before .misplaced .ensures, ← c .before .before .before .before .before .section .ensures, ← c .before .before .before .before .before .before .before .width .ensures, ← c .before .before .before .before .before .before .before .before .first .ensures)
 
--- src/lib.rt:721:5
 entry-of-requires : tie.Need-entry-of-requires
 entry-of-requires c κs = search needs
 
--- src/lib.rt:702:1
 returns-5 : tie.Need-returns-5
 unfolding judgedBy
 returns-5 c = simp (c .before .if4 .left, lt-leb _ _ (c .before .before .before .if3 .left), c .before .before .before .before .if2 .left, ne-eqb _ _ (c .before .before .before .before .before .before .before .if1 .left), ← c .before .before .full .ensures, ← c .before .before .before .before .before .misplaced .ensures, ← c .before .before .before .before .before .before .section .ensures, ← c .before .before .before .before .before .before .before .before .width .ensures, ← c .before .before .before .before .before .before .before .before .before .first .ensures) (c .entry-of .ensures)

@@ -3,20 +3,14 @@ use borrow.Author.Tests.{le-ltb, lt-ltb}
 use borrow.Author.Needs.{needs}
 use Rattle.job.proofs.key_ok.Statement.{statement}
 use Rattle.job.proofs.key_ok.Tie as tie
-use Rattle.job.proofs.key_ok.Reads as reads
-use Rattle.job.proofs.key_ok.Lts as lts
-use Rattle.job.proofs.earlier.Reads as earlier-reads
 
--- src/lib.rt:360:9
 earlier-requires : tie.Need-earlier-requires
 earlier-requires c κs = search needs
 
--- src/lib.rt:360:9
 returns : tie.Need-returns
 unfolding keyOk
 returns c = simp (lt-ltb _ _ (c .before .if1 .taken)) (c .earlier .ensures)
 
--- src/lib.rt:356:1
 returns-2 : tie.Need-returns-2
 unfolding keyOk
 returns-2 c = simp (le-ltb _ _ (c .if1 .left))

@@ -4,35 +4,24 @@ use borrow.Author.Tests.{eq-eqb, ne-eqb}
 use borrow.Author.Needs.{needs}
 use Rattle.job.proofs.key_type.Statement.{statement}
 use Rattle.job.proofs.key_type.Tie as tie
-use Rattle.job.proofs.key_type.Reads as reads
-use Rattle.job.proofs.key_type.Lts as lts
-use Rattle.job.proofs.type_bits.Reads as type-bits-reads
-use Rattle.job.proofs.typed.Reads as typed-reads
-use Rattle.names.proofs.is_declared.Reads as is-declared-reads
 
--- src/lib.rt:504:9
 returns : tie.Need-returns
 unfolding declaredOf keyTypeOf
 returns c = simp (eq-eqb _ _ (c .if1 .taken))
 
--- src/lib.rt:506:8
 is-declared-requires : tie.Need-is-declared-requires
 is-declared-requires c κs = search needs
 
--- src/lib.rt:507:22
-type-bits-requires : tie.Need-type-bits-requires
-type-bits-requires c κs = search needs
+type-word-requires : tie.Need-type-word-requires
+type-word-requires c κs = search needs
 
--- src/lib.rt:507:9
 typed-requires : tie.Need-typed-requires
 typed-requires c κs = search needs
 
--- src/lib.rt:507:9
 returns-2 : tie.Need-returns-2
 unfolding declaredOf keyTypeOf
-returns-2 c = simp (c .before .before .if2 .taken, ne-eqb _ _ (c .before .before .before .before .if1 .left), ← c .before .type-bits .ensures, ← c .before .before .before .is-declared .ensures) (c .typed .ensures)
+returns-2 c = simp (c .before .before .if2 .taken, ne-eqb _ _ (c .before .before .before .before .if1 .left), ← c .before .type-word .ensures, ← c .before .before .before .is-declared .ensures) (c .typed .ensures)
 
--- src/lib.rt:500:1
 returns-3 : tie.Need-returns-3
 unfolding declaredOf keyTypeOf
 returns-3 c = simp (c .if2 .left, ne-eqb _ _ (c .before .before .if1 .left), ← c .before .is-declared .ensures)
@@ -40,4 +29,4 @@ returns-3 c = simp (c .if2 .left, ne-eqb _ _ (c .before .before .if1 .left), ←
 pub key-type-spec : {M : Type 1} → statement M
 key-type-spec =
     tie.close
-    (tie.spec returns is-declared-requires type-bits-requires typed-requires returns-2 returns-3)
+    (tie.spec returns is-declared-requires type-word-requires typed-requires returns-2 returns-3)

@@ -4,71 +4,51 @@ use borrow.Author.Tests.{ne-eqb}
 use borrow.Author.Needs.{needs}
 use Rattle.job.proofs.lead_ok.Statement.{statement}
 use Rattle.job.proofs.lead_ok.Tie as tie
-use Rattle.job.proofs.lead_ok.Reads as reads
-use Rattle.job.proofs.lead_ok.Lts as lts
-use Rattle.job.proofs.binds_ok.Reads as binds-ok-reads
-use Rattle.job.proofs.new_key_ok.Reads as new-key-ok-reads
-use Rattle.job.proofs.one_of_two.Reads as one-of-two-reads
-use Rattle.job.proofs.op8.Reads as op8-reads
 
--- src/lib.rt:655:17
 op8-requires : tie.Need-op8-requires
 op8-requires c κs = search needs
 
--- src/lib.rt:656:28
 op8-requires-2 : tie.Need-op8-requires-2
 op8-requires-2 c κs = search needs
 
--- src/lib.rt:656:17
 one-of-two-requires : tie.Need-one-of-two-requires
 one-of-two-requires c κs = search needs
 
--- src/lib.rt:657:29
 op8-requires-3 : tie.Need-op8-requires-3
 op8-requires-3 c κs = search needs
 
--- src/lib.rt:657:17
 binds-ok-requires : tie.Need-binds-ok-requires
 binds-ok-requires c κs = search needs
 
--- src/lib.rt:658:28
 op8-requires-4 : tie.Need-op8-requires-4
 op8-requires-4 c κs = search needs
 
--- src/lib.rt:658:17
 one-of-two-requires-2 : tie.Need-one-of-two-requires-2
 one-of-two-requires-2 c κs = search needs
 
--- src/lib.rt:659:17
 new-key-ok-requires : tie.Need-new-key-ok-requires
 new-key-ok-requires c κs = search needs
 
--- src/lib.rt:651:1
 returns : tie.Need-returns
 unfolding leadOk namesIn
 returns c = simp (c .before .match .keys1, ← c .op8 .ensures)
 
--- src/lib.rt:651:1
 returns-2 : tie.Need-returns-2
 unfolding leadOk namesIn
 returns-2 c = simp (c .before .before .match .keys2, ← c .before .op82 .ensures) (c .one-of-two .ensures)
 
--- src/lib.rt:651:1
 returns-3 : tie.Need-returns-3
 unfolding leadOk namesIn
 returns-3 c = simp (c .before .before .match .keys3, ← c .before .op83 .ensures) (c .binds-ok .ensures)
 
--- src/lib.rt:651:1
 returns-4 : tie.Need-returns-4
 unfolding leadOk namesIn
 returns-4 c = simp (c .before .before .match .keys4, ← c .before .op84 .ensures) (c .one-of-two2 .ensures)
 
--- src/lib.rt:651:1
 returns-5 : tie.Need-returns-5
 unfolding leadOk namesIn
 returns-5 c = simp (c .before .match .keys5) (c .new-key-ok .ensures)
 
--- src/lib.rt:651:1
 returns-6 : tie.Need-returns-6
 unfolding leadOk namesIn
 returns-6 c = simp (ne-eqb _ _ (c .match .rest .1), ne-eqb _ _ (c .match .rest .0 .1), ne-eqb _ _ (c .match .rest .0 .0 .1), ne-eqb _ _ (c .match .rest .0 .0 .0 .1), ne-eqb _ _ (c .match .rest .0 .0 .0 .0 .1))

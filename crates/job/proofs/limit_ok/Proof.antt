@@ -3,57 +3,42 @@ use borrow.Author.Tests.{le-leb, le-ltb, lt-leb}
 use borrow.Author.Needs.{needs}
 use Rattle.job.proofs.limit_ok.Statement.{statement}
 use Rattle.job.proofs.limit_ok.Tie as tie
-use Rattle.job.proofs.limit_ok.Reads as reads
-use Rattle.job.proofs.limit_ok.Lts as lts
-use Rattle.job.proofs.earlier.Reads as earlier-reads
-use Rattle.job.proofs.key_ok.Reads as key-ok-reads
 
--- src/lib.rt:369:9
 returns : tie.Need-returns
 unfolding limitOk
 returns c = simp (lt-leb _ _ (c .if1 .taken))
 
--- src/lib.rt:371:8
 key-ok-requires : tie.Need-key-ok-requires
 key-ok-requires c κs = search needs
 
--- src/lib.rt:372:12
 key-ok-requires-2 : tie.Need-key-ok-requires-2
 key-ok-requires-2 c κs = search needs
 
--- src/lib.rt:373:16
 key-ok-requires-3 : tie.Need-key-ok-requires-3
 key-ok-requires-3 c κs = search needs
 
--- src/lib.rt:374:20
 key-ok-requires-4 : tie.Need-key-ok-requires-4
 key-ok-requires-4 c κs = search needs
 
--- src/lib.rt:375:21
 earlier-requires : tie.Need-earlier-requires
 earlier-requires c κs = search needs
 
--- src/lib.rt:375:21
 returns-2 : tie.Need-returns-2
 unfolding limitOk
 returns-2 c = simp (c .before .if5 .taken, c .before .before .before .if4 .taken, c .before .before .before .before .before .if3 .taken, c .before .before .before .before .before .before .before .if2 .taken, le-leb _ _ (c .before .before .before .before .before .before .before .before .before .if1 .left), le-ltb _ _ (c .before .before .before .before .before .before .before .before .before .if1 .left), ← c .before .before .key-ok4 .ensures, ← c .before .before .before .before .key-ok3 .ensures, ← c .before .before .before .before .before .before .key-ok2 .ensures, ← c .before .before .before .before .before .before .before .before .key-ok .ensures) (c .earlier .ensures)
 
--- src/lib.rt:365:1
 returns-3 : tie.Need-returns-3
 unfolding limitOk
 returns-3 c = simp (c .if5 .left, c .before .before .if4 .taken, c .before .before .before .before .if3 .taken, c .before .before .before .before .before .before .if2 .taken, le-leb _ _ (c .before .before .before .before .before .before .before .before .if1 .left), le-ltb _ _ (c .before .before .before .before .before .before .before .before .if1 .left), ← c .before .key-ok4 .ensures, ← c .before .before .before .key-ok3 .ensures, ← c .before .before .before .before .before .key-ok2 .ensures, ← c .before .before .before .before .before .before .before .key-ok .ensures)
 
--- src/lib.rt:365:1
 returns-4 : tie.Need-returns-4
 unfolding limitOk
 returns-4 c = simp (c .if4 .left, c .before .before .if3 .taken, c .before .before .before .before .if2 .taken, le-leb _ _ (c .before .before .before .before .before .before .if1 .left), le-ltb _ _ (c .before .before .before .before .before .before .if1 .left), ← c .before .key-ok3 .ensures, ← c .before .before .before .key-ok2 .ensures, ← c .before .before .before .before .before .key-ok .ensures)
 
--- src/lib.rt:365:1
 returns-5 : tie.Need-returns-5
 unfolding limitOk
 returns-5 c = simp (c .if3 .left, c .before .before .if2 .taken, le-leb _ _ (c .before .before .before .before .if1 .left), ← c .before .key-ok2 .ensures, ← c .before .before .before .key-ok .ensures)
 
--- src/lib.rt:365:1
 returns-6 : tie.Need-returns-6
 unfolding limitOk
 returns-6 c = simp (c .if2 .left, le-leb _ _ (c .before .before .if1 .left), ← c .before .key-ok .ensures)

@@ -3,34 +3,25 @@ use Rattle.job.proofs.Leaves.{little-two}
 use borrow.Author.Needs.{needs}
 use Rattle.job.proofs.low16.Statement.{statement}
 use Rattle.job.proofs.low16.Tie as tie
-use Rattle.job.proofs.low16.Reads as reads
-use Rattle.job.proofs.low16.Lts as lts
 
--- src/lib.rt:67:6
 shared-slice-read-result : tie.Need-shared-slice-read-result
 shared-slice-read-result c = search needs
 
--- src/lib.rt:67:6
 cast-result : tie.Need-cast-result
 cast-result c = omega (arith, c .shared-slice-known .given 0)
 
--- src/lib.rt:67:22
 shared-slice-read-result-2 : tie.Need-shared-slice-read-result-2
 shared-slice-read-result-2 c = search needs
 
--- src/lib.rt:67:22
 cast-result-2 : tie.Need-cast-result-2
 cast-result-2 c = omega (arith, c .shared-slice-known2 .given 1)
 
--- src/lib.rt:67:21
 mul-result : tie.Need-mul-result
 mul-result c = omega (arith, c .shared-slice-known2 .given 1)
 
--- src/lib.rt:67:5
 add-result : tie.Need-add-result
 add-result c = omega (arith, c .shared-slice-known2 .given 1, c .shared-slice-known2 .given 0)
 
--- src/lib.rt:63:1
 returns : tie.Need-returns
 returns c = little-two _ (c .before .before .pre)
 

@@ -1,62 +1,46 @@
-use mathlib.Core.Path.{_≡_, _∙_, ap₂}
+use mathlib.Core.Path.{_∙_, ap₂}
 use Prim.Native.Nat.{ℕ, _+_, _*_}
 use Rattle.job.proofs.Leaves.{little-four}
 use borrow.Author.Needs.{needs}
 use Rattle.job.proofs.low32.Statement.{statement}
 use Rattle.job.proofs.low32.Tie as tie
-use Rattle.job.proofs.low32.Reads as reads
-use Rattle.job.proofs.low32.Lts as lts
-use Rattle.job.proofs.low16.Reads as low16-reads
 
--- src/lib.rt:74:19
 sub-low16 : tie.Need-sub-low16
 sub-low16 c = search needs
 
--- src/lib.rt:74:19
 part-low16-start : tie.Need-part-low16-start
 part-low16-start c = search needs
 
--- src/lib.rt:74:19
 part-low16-end : tie.Need-part-low16-end
 part-low16-end c = search needs
 
--- src/lib.rt:74:9
 low16-requires : tie.Need-low16-requires
 low16-requires c κs = search needs
 
--- src/lib.rt:75:19
 sub-low16-2 : tie.Need-sub-low16-2
 sub-low16-2 c = search needs
 
--- src/lib.rt:75:19
 part-low16-start-2 : tie.Need-part-low16-start-2
 part-low16-start-2 c = search needs
 
--- src/lib.rt:75:19
 part-low16-end-2 : tie.Need-part-low16-end-2
 part-low16-end-2 c = search needs
 
--- src/lib.rt:75:9
 low16-requires-2 : tie.Need-low16-requires-2
 low16-requires-2 c κs = search needs
 
--- src/lib.rt:76:6
 cast-result : tie.Need-cast-result
 cast-result c = search needs
 
--- src/lib.rt:76:19
 cast-result-2 : tie.Need-cast-result-2
 cast-result-2 c = search needs
 
--- src/lib.rt:76:18
 mul-result : tie.Need-mul-result
 mul-result c = search needs
 
--- src/lib.rt:76:5
 add-result : tie.Need-add-result
 add-result c = search needs
 
--- src/lib.rt:70:1
 returns : tie.Need-returns
 returns c = ap₂ (λ (x y : ℕ). x + y * 65536) (c .before .before .low16 .ensures) (c .low162 .ensures) ∙ little-four _ (c .before .before .before .before .before .pre)
 

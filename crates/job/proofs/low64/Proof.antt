@@ -1,62 +1,46 @@
-use mathlib.Core.Path.{_≡_, _∙_, ap₂}
+use mathlib.Core.Path.{_∙_, ap₂}
 use Prim.Native.Nat.{ℕ, _+_, _*_}
 use Rattle.job.proofs.Leaves.{little-eight}
 use borrow.Author.Needs.{needs}
 use Rattle.job.proofs.low64.Statement.{statement}
 use Rattle.job.proofs.low64.Tie as tie
-use Rattle.job.proofs.low64.Reads as reads
-use Rattle.job.proofs.low64.Lts as lts
-use Rattle.job.proofs.low32.Reads as low32-reads
 
--- src/lib.rt:83:19
 sub-low32 : tie.Need-sub-low32
 sub-low32 c = search needs
 
--- src/lib.rt:83:19
 part-low32-start : tie.Need-part-low32-start
 part-low32-start c = search needs
 
--- src/lib.rt:83:19
 part-low32-end : tie.Need-part-low32-end
 part-low32-end c = search needs
 
--- src/lib.rt:83:9
 low32-requires : tie.Need-low32-requires
 low32-requires c κs = search needs
 
--- src/lib.rt:84:19
 sub-low32-2 : tie.Need-sub-low32-2
 sub-low32-2 c = search needs
 
--- src/lib.rt:84:19
 part-low32-start-2 : tie.Need-part-low32-start-2
 part-low32-start-2 c = search needs
 
--- src/lib.rt:84:19
 part-low32-end-2 : tie.Need-part-low32-end-2
 part-low32-end-2 c = search needs
 
--- src/lib.rt:84:9
 low32-requires-2 : tie.Need-low32-requires-2
 low32-requires-2 c κs = search needs
 
--- src/lib.rt:85:6
 cast-result : tie.Need-cast-result
 cast-result c = search needs
 
--- src/lib.rt:85:19
 cast-result-2 : tie.Need-cast-result-2
 cast-result-2 c = search needs
 
--- src/lib.rt:85:18
 mul-result : tie.Need-mul-result
 mul-result c = search needs
 
--- src/lib.rt:85:5
 add-result : tie.Need-add-result
 add-result c = search needs
 
--- src/lib.rt:79:1
 returns : tie.Need-returns
 returns c = ap₂ (λ (x y : ℕ). x + y * 4294967296) (c .before .before .low32 .ensures) (c .low322 .ensures) ∙ little-eight _ (c .before .before .before .before .before .pre)
 

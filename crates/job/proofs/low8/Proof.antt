@@ -2,14 +2,10 @@ use Rattle.job.proofs.Leaves.{little-one}
 use borrow.Author.Needs.{needs}
 use Rattle.job.proofs.low8.Statement.{statement}
 use Rattle.job.proofs.low8.Tie as tie
-use Rattle.job.proofs.low8.Reads as reads
-use Rattle.job.proofs.low8.Lts as lts
 
--- src/lib.rt:60:5
 shared-slice-read-result : tie.Need-shared-slice-read-result
 shared-slice-read-result c = search needs
 
--- src/lib.rt:56:1
 returns : tie.Need-returns
 returns c = little-one _ (c .before .pre)
 

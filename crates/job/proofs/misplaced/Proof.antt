@@ -2,35 +2,27 @@ use Rattle.job.specs.Bytes.{misplacedBy}
 use borrow.Author.Tests.{eq-eqb, le-ltb, lt-ltb, ne-eqb}
 use Rattle.job.proofs.misplaced.Statement.{statement}
 use Rattle.job.proofs.misplaced.Tie as tie
-use Rattle.job.proofs.misplaced.Reads as reads
-use Rattle.job.proofs.misplaced.Lts as lts
 
--- src/lib.rt:213:9
 returns : tie.Need-returns
 unfolding misplacedBy
 returns c = simp (lt-ltb _ _ (c .if1 .taken))
 
--- src/lib.rt:216:9
 returns-2 : tie.Need-returns-2
 unfolding misplacedBy
 returns-2 c = simp (eq-eqb _ _ (c .if2 .taken), le-ltb _ _ (c .before .if1 .left))
 
--- src/lib.rt:219:9
 returns-3 : tie.Need-returns-3
 unfolding misplacedBy
 returns-3 c = simp (lt-ltb _ _ (c .if3 .taken), ne-eqb _ _ (c .before .if2 .left), le-ltb _ _ (c .before .before .if1 .left))
 
--- src/lib.rt:222:9
 returns-4 : tie.Need-returns-4
 unfolding misplacedBy
 returns-4 c = simp (lt-ltb _ _ (c .if4 .taken), le-ltb _ _ (c .before .if3 .left), ne-eqb _ _ (c .before .before .if2 .left), le-ltb _ _ (c .before .before .before .if1 .left))
 
--- src/lib.rt:225:9
 returns-5 : tie.Need-returns-5
 unfolding misplacedBy
 returns-5 c = simp (eq-eqb _ _ (c .if5 .taken), le-ltb _ _ (c .before .if4 .left), le-ltb _ _ (c .before .before .if3 .left), ne-eqb _ _ (c .before .before .before .if2 .left), le-ltb _ _ (c .before .before .before .before .if1 .left))
 
--- src/lib.rt:209:1
 returns-6 : tie.Need-returns-6
 unfolding misplacedBy
 returns-6 c = simp (ne-eqb _ _ (c .if5 .left), le-ltb _ _ (c .before .if4 .left), le-ltb _ _ (c .before .before .if3 .left), ne-eqb _ _ (c .before .before .before .if2 .left), le-ltb _ _ (c .before .before .before .before .if1 .left))

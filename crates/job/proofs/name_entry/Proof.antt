@@ -3,61 +3,44 @@ use borrow.Author.Tests.{eq-eqb, ne-eqb}
 use borrow.Author.Needs.{needs}
 use Rattle.job.proofs.name_entry.Statement.{statement}
 use Rattle.job.proofs.name_entry.Tie as tie
-use Rattle.job.proofs.name_entry.Reads as reads
-use Rattle.job.proofs.name_entry.Lts as lts
-use Rattle.job.proofs.op8.Reads as op8-reads
-use Rattle.names.proofs.is_declared.Reads as is-declared-reads
-use Rattle.names.proofs.is_host_name.Reads as is-host-name-reads
 
--- src/lib.rt:483:9
 op8-requires : tie.Need-op8-requires
 op8-requires c κs = search needs
 
--- src/lib.rt:485:9
 returns : tie.Need-returns
 unfolding nameEntry
 returns c = simp (eq-eqb _ _ (c .if1 .taken), ← c .before .op8 .ensures)
 
--- src/lib.rt:487:8
 is-declared-requires : tie.Need-is-declared-requires
 is-declared-requires c κs = search needs
 
--- src/lib.rt:489:16
 is-host-name-requires : tie.Need-is-host-name-requires
 is-host-name-requires c κs = search needs
 
--- src/lib.rt:490:38
 cast-t10 : tie.Need-cast-t10
 cast-t10 c = search needs
 
--- src/lib.rt:490:37
 add-t11 : tie.Need-add-t11
 add-t11 c = search needs
 
--- src/lib.rt:490:17
 returns-2 : tie.Need-returns-2
 unfolding nameEntry
 returns-2 c = simp (c .if4 .taken, eq-eqb _ _ (c .before .before .if3 .taken), c .before .before .before .if2 .taken, ne-eqb _ _ (c .before .before .before .before .before .if1 .left), ← c .before .is-host-name .ensures, ← c .before .before .before .before .is-declared .ensures, ← c .before .before .before .before .before .before .op8 .ensures)
 
--- src/lib.rt:492:13
 returns-3 : tie.Need-returns-3
 unfolding nameEntry
 returns-3 c = simp (c .if4 .left, eq-eqb _ _ (c .before .before .if3 .taken), c .before .before .before .if2 .taken, ne-eqb _ _ (c .before .before .before .before .before .if1 .left), ← c .before .is-host-name .ensures, ← c .before .before .before .before .is-declared .ensures, ← c .before .before .before .before .before .before .op8 .ensures)
 
--- src/lib.rt:494:30
 cast-t12 : tie.Need-cast-t12
 cast-t12 c = search needs
 
--- src/lib.rt:494:29
 add-t13 : tie.Need-add-t13
 add-t13 c = search needs
 
--- src/lib.rt:494:9
 returns-4 : tie.Need-returns-4
 unfolding nameEntry
 returns-4 c = simp (ne-eqb _ _ (c .if3 .left), c .before .if2 .taken, ne-eqb _ _ (c .before .before .before .if1 .left), ← c .before .before .is-declared .ensures, ← c .before .before .before .before .op8 .ensures)
 
--- src/lib.rt:480:1
 returns-5 : tie.Need-returns-5
 unfolding nameEntry
 returns-5 c = simp (c .if2 .left, ne-eqb _ _ (c .before .before .if1 .left), ← c .before .is-declared .ensures, ← c .before .before .before .op8 .ensures)

@@ -3,34 +3,23 @@ use Rattle.names.specs.Ancestors.{namesIn}
 use borrow.Author.Needs.{needs}
 use Rattle.job.proofs.new_key_ok.Statement.{statement}
 use Rattle.job.proofs.new_key_ok.Tie as tie
-use Rattle.job.proofs.new_key_ok.Reads as reads
-use Rattle.job.proofs.new_key_ok.Lts as lts
-use Rattle.job.proofs.binds_ok.Reads as binds-ok-reads
-use Rattle.job.proofs.op8.Reads as op8-reads
-use Rattle.names.proofs.is_local_name.Reads as is-local-name-reads
 
--- src/lib.rt:633:20
 op8-requires : tie.Need-op8-requires
 op8-requires c κs = search needs
 
--- src/lib.rt:633:8
 binds-ok-requires : tie.Need-binds-ok-requires
 binds-ok-requires c κs = search needs
 
--- src/lib.rt:634:47
 op8-requires-2 : tie.Need-op8-requires-2
 op8-requires-2 c κs = search needs
 
--- src/lib.rt:634:9
 is-local-name-requires : tie.Need-is-local-name-requires
 is-local-name-requires c κs = search needs
 
--- src/lib.rt:634:9
 returns : tie.Need-returns
 unfolding namesIn newKeyOk
 returns c = simp (c .before .before .if1 .taken, ← c .before .op82 .ensures, ← c .before .before .before .binds-ok .ensures, ← c .before .before .before .before .op8 .ensures) (c .is-local-name .ensures)
 
--- src/lib.rt:630:1
 returns-2 : tie.Need-returns-2
 unfolding namesIn newKeyOk
 returns-2 c = simp (c .if1 .left, ← c .before .binds-ok .ensures, ← c .before .before .op8 .ensures)

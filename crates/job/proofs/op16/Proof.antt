@@ -4,36 +4,26 @@ use borrow.Author.Tests.{le-leb, lt-leb}
 use borrow.Author.Needs.{needs}
 use Rattle.job.proofs.op16.Statement.{statement}
 use Rattle.job.proofs.op16.Tie as tie
-use Rattle.job.proofs.op16.Reads as reads
-use Rattle.job.proofs.op16.Lts as lts
-use Rattle.job.proofs.low16.Reads as low16-reads
 
--- src/lib.rt:104:15
 add-end : tie.Need-add-end
 add-end c = search needs
 
--- src/lib.rt:106:22
 sub-low16 : tie.Need-sub-low16
 sub-low16 c = search needs
 
--- src/lib.rt:106:22
 part-low16-start : tie.Need-part-low16-start
 part-low16-start c = search needs
 
--- src/lib.rt:106:22
 part-low16-end : tie.Need-part-low16-end
 part-low16-end c = search needs
 
--- src/lib.rt:106:9
 low16-requires : tie.Need-low16-requires
 low16-requires c κs = search needs
 
--- src/lib.rt:106:9
 returns : tie.Need-returns
 unfolding fieldAt
 returns c = simp (set-past, part-width, fill-all, le-leb _ _ (c .before .before .if1 .taken), c .low16 .ensures)
 
--- src/lib.rt:100:1
 returns-2 : tie.Need-returns-2
 unfolding fieldAt
 returns-2 c = simp (lt-leb _ _ (c .if1 .left))

@@ -4,36 +4,26 @@ use borrow.Author.Tests.{le-leb, lt-leb}
 use borrow.Author.Needs.{needs}
 use Rattle.job.proofs.op64.Statement.{statement}
 use Rattle.job.proofs.op64.Tie as tie
-use Rattle.job.proofs.op64.Reads as reads
-use Rattle.job.proofs.op64.Lts as lts
-use Rattle.job.proofs.low64.Reads as low64-reads
 
--- src/lib.rt:126:15
 add-end : tie.Need-add-end
 add-end c = search needs
 
--- src/lib.rt:128:22
 sub-low64 : tie.Need-sub-low64
 sub-low64 c = search needs
 
--- src/lib.rt:128:22
 part-low64-start : tie.Need-part-low64-start
 part-low64-start c = search needs
 
--- src/lib.rt:128:22
 part-low64-end : tie.Need-part-low64-end
 part-low64-end c = search needs
 
--- src/lib.rt:128:9
 low64-requires : tie.Need-low64-requires
 low64-requires c κs = search needs
 
--- src/lib.rt:128:9
 returns : tie.Need-returns
 unfolding fieldAt
 returns c = simp (set-past, part-width, fill-all, le-leb _ _ (c .before .before .if1 .taken), c .low64 .ensures)
 
--- src/lib.rt:122:1
 returns-2 : tie.Need-returns-2
 unfolding fieldAt
 returns-2 c = simp (lt-leb _ _ (c .if1 .left))

@@ -4,36 +4,26 @@ use borrow.Author.Tests.{le-leb, lt-leb}
 use borrow.Author.Needs.{needs}
 use Rattle.job.proofs.op8.Statement.{statement}
 use Rattle.job.proofs.op8.Tie as tie
-use Rattle.job.proofs.op8.Reads as reads
-use Rattle.job.proofs.op8.Lts as lts
-use Rattle.job.proofs.low8.Reads as low8-reads
 
--- src/lib.rt:93:15
 add-end : tie.Need-add-end
 add-end c = search needs
 
--- src/lib.rt:95:21
 sub-low8 : tie.Need-sub-low8
 sub-low8 c = search needs
 
--- src/lib.rt:95:21
 part-low8-start : tie.Need-part-low8-start
 part-low8-start c = search needs
 
--- src/lib.rt:95:21
 part-low8-end : tie.Need-part-low8-end
 part-low8-end c = search needs
 
--- src/lib.rt:95:9
 low8-requires : tie.Need-low8-requires
 low8-requires c κs = search needs
 
--- src/lib.rt:95:9
 returns : tie.Need-returns
 unfolding fieldAt
 returns c = simp (set-past, part-width, fill-all, le-leb _ _ (c .before .before .if1 .taken), c .low8 .ensures)
 
--- src/lib.rt:89:1
 returns-2 : tie.Need-returns-2
 unfolding fieldAt
 returns-2 c = simp (lt-leb _ _ (c .if1 .left))

@@ -2,51 +2,37 @@ use Rattle.job.specs.Entries.{fiveAt}
 use borrow.Author.Needs.{needs}
 use Rattle.job.proofs.put_five.Statement.{statement}
 use Rattle.job.proofs.put_five.Tie as tie
-use Rattle.job.proofs.put_five.Reads as reads
-use Rattle.job.proofs.put_five.Lts as lts
-use Rattle.job.proofs.put16.Reads as put16-reads
 
--- src/lib.rt:470:5
 put16-requires : tie.Need-put16-requires
 put16-requires c κs = search needs
 
--- src/lib.rt:471:14
 add-put16 : tie.Need-add-put16
 add-put16 c = search needs
 
--- src/lib.rt:471:5
 put16-requires-2 : tie.Need-put16-requires-2
 put16-requires-2 c κs = search needs
 
--- src/lib.rt:472:14
 add-put16-2 : tie.Need-add-put16-2
 add-put16-2 c = search needs
 
--- src/lib.rt:472:5
 put16-requires-3 : tie.Need-put16-requires-3
 put16-requires-3 c κs = search needs
 
--- src/lib.rt:473:14
 add-put16-3 : tie.Need-add-put16-3
 add-put16-3 c = search needs
 
--- src/lib.rt:473:5
 put16-requires-4 : tie.Need-put16-requires-4
 put16-requires-4 c κs = search needs
 
--- src/lib.rt:474:14
 add-put16-4 : tie.Need-add-put16-4
 add-put16-4 c = search needs
 
--- src/lib.rt:474:5
 put16-requires-5 : tie.Need-put16-requires-5
 put16-requires-5 c κs = search needs
 
--- src/lib.rt:466:1
 same-length : tie.Need-same-length
 same-length c = search needs
 
--- src/lib.rt:466:1
 returns : tie.Need-returns
 unfolding fiveAt
 returns c = simp (c .before .before .put165 .ensures, c .before .before .before .before .before .before .put164 .ensures, c .before .before .before .before .before .before .before .before .before .before .put163 .ensures, c .before .before .before .before .before .before .before .before .before .before .before .before .before .before .put162 .ensures, c .before .before .before .before .before .before .before .before .before .before .before .before .before .before .before .before .before .before .put16 .ensures)

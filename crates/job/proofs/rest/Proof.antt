@@ -4,49 +4,35 @@ use Rattle.job.specs.Bytes.{restOf}
 use borrow.Author.Needs.{needs}
 use Rattle.job.proofs.rest.Statement.{statement}
 use Rattle.job.proofs.rest.Tie as tie
-use Rattle.job.proofs.rest.Reads as reads
-use Rattle.job.proofs.rest.Lts as lts
-use Rattle.job.proofs.first.Reads as first-reads
-use Rattle.job.proofs.width.Reads as width-reads
 
--- src/lib.rt:202:9
 first-requires : tie.Need-first-requires
 first-requires c κs = search needs
 
--- src/lib.rt:203:9
 width-requires : tie.Need-width-requires
 width-requires c κs = search needs
 
--- src/lib.rt:204:13
 cast-n : tie.Need-cast-n
 cast-n c = search needs
 
--- src/lib.rt:204:13
 add-n : tie.Need-add-n
 add-n c = search needs
 
--- src/lib.rt:205:25
 sub-result : tie.Need-sub-result
 sub-result c = search needs
 
--- src/lib.rt:205:25
 part-result-start : tie.Need-part-result-start
 part-result-start c = search needs
 
--- src/lib.rt:205:25
 part-result-end : tie.Need-part-result-end
 part-result-end c = search needs
 
--- src/lib.rt:205:44
 slice-aggregate-result : tie.Need-slice-aggregate-result
 slice-aggregate-result c = search needs
 
--- src/lib.rt:199:1
 returns : tie.Need-returns
 unfolding restOf
 returns c = let h0 = c .before .if1 .taken in simp (take-rest, set-past, fill-all, ← c .before .before .width .ensures, ← c .before .before .before .first .ensures)
 
--- src/lib.rt:199:1
 returns-2 : tie.Need-returns-2
 returns-2 c = rest-short _ _ _ (c .before .before .before .first .ensures) (c .before .before .width .ensures) (c .before .if1 .left)
 

@@ -3,25 +3,17 @@ use Rattle.names.specs.Ancestors.{namesIn}
 use borrow.Author.Needs.{needs}
 use Rattle.job.proofs.rights_entry.Statement.{statement}
 use Rattle.job.proofs.rights_entry.Tie as tie
-use Rattle.job.proofs.rights_entry.Reads as reads
-use Rattle.job.proofs.rights_entry.Lts as lts
-use Rattle.job.proofs.op64.Reads as op64-reads
-use Rattle.names.proofs.rights_ok.Reads as rights-ok-reads
 
--- src/lib.rt:670:9
 op64-requires : tie.Need-op64-requires
 op64-requires c κs = search needs
 
--- src/lib.rt:671:8
 rights-ok-requires : tie.Need-rights-ok-requires
 rights-ok-requires c κs = search needs
 
--- src/lib.rt:672:9
 returns : tie.Need-returns
 unfolding namesIn rightsEntry
 returns c = simp (c .if1 .taken, ← c .before .rights-ok .ensures, ← c .before .before .op64 .ensures)
 
--- src/lib.rt:667:1
 returns-2 : tie.Need-returns-2
 unfolding namesIn rightsEntry
 returns-2 c = simp (c .if1 .left, ← c .before .rights-ok .ensures, ← c .before .before .op64 .ensures)

@@ -2,35 +2,27 @@ use Rattle.job.specs.Bytes.{sectionByte}
 use borrow.Author.Tests.{eq-eqb, le-ltb, lt-ltb, ne-eqb}
 use Rattle.job.proofs.section.Statement.{statement}
 use Rattle.job.proofs.section.Tie as tie
-use Rattle.job.proofs.section.Reads as reads
-use Rattle.job.proofs.section.Lts as lts
 
--- src/lib.rt:181:9
 returns : tie.Need-returns
 unfolding sectionByte
 returns c = simp (lt-ltb _ _ (c .if1 .taken))
 
--- src/lib.rt:184:9
 returns-2 : tie.Need-returns-2
 unfolding sectionByte
 returns-2 c = simp (lt-ltb _ _ (c .if2 .taken), le-ltb _ _ (c .before .if1 .left))
 
--- src/lib.rt:187:9
 returns-3 : tie.Need-returns-3
 unfolding sectionByte
 returns-3 c = simp (eq-eqb _ _ (c .if3 .taken), le-ltb _ _ (c .before .if2 .left), le-ltb _ _ (c .before .before .if1 .left))
 
--- src/lib.rt:190:9
 returns-4 : tie.Need-returns-4
 unfolding sectionByte
 returns-4 c = simp (eq-eqb _ _ (c .if4 .taken), ne-eqb _ _ (c .before .if3 .left), le-ltb _ _ (c .before .before .if2 .left), le-ltb _ _ (c .before .before .before .if1 .left))
 
--- src/lib.rt:193:9
 returns-5 : tie.Need-returns-5
 unfolding sectionByte
 returns-5 c = simp (lt-ltb _ _ (c .if5 .taken), ne-eqb _ _ (c .before .if4 .left), ne-eqb _ _ (c .before .before .if3 .left), le-ltb _ _ (c .before .before .before .if2 .left), le-ltb _ _ (c .before .before .before .before .if1 .left))
 
--- src/lib.rt:177:1
 returns-6 : tie.Need-returns-6
 unfolding sectionByte
 returns-6 c = simp (le-ltb _ _ (c .if5 .left), ne-eqb _ _ (c .before .if4 .left), ne-eqb _ _ (c .before .before .if3 .left), le-ltb _ _ (c .before .before .before .if2 .left), le-ltb _ _ (c .before .before .before .before .if1 .left))

@@ -3,25 +3,17 @@ use borrow.Author.Tests.{eq-eqb, ne-eqb}
 use borrow.Author.Needs.{needs}
 use Rattle.job.proofs.slot.Statement.{statement}
 use Rattle.job.proofs.slot.Tie as tie
-use Rattle.job.proofs.slot.Reads as reads
-use Rattle.job.proofs.slot.Lts as lts
-use Rattle.job.proofs.offset.Reads as offset-reads
-use Rattle.job.proofs.op16.Reads as op16-reads
 
--- src/lib.rt:283:9
 offset-requires : tie.Need-offset-requires
 offset-requires c κs = search needs
 
--- src/lib.rt:285:9
 returns : tie.Need-returns
 unfolding slotOf
 returns c = simp (eq-eqb _ _ (c .if1 .taken), ← c .before .offset .ensures)
 
--- src/lib.rt:287:5
 op16-requires : tie.Need-op16-requires
 op16-requires c κs = search needs
 
--- src/lib.rt:279:1
 returns-2 : tie.Need-returns-2
 unfolding slotOf
 returns-2 c = simp (ne-eqb _ _ (c .before .if1 .left), ← c .before .before .offset .ensures) (c .op16 .ensures)

@@ -3,25 +3,18 @@ use borrow.Author.Tests.{eq-eqb, ne-eqb}
 use borrow.Author.Needs.{needs}
 use Rattle.job.proofs.slot_ok.Statement.{statement}
 use Rattle.job.proofs.slot_ok.Tie as tie
-use Rattle.job.proofs.slot_ok.Reads as reads
-use Rattle.job.proofs.slot_ok.Lts as lts
-use Rattle.job.proofs.earlier.Reads as earlier-reads
 
--- src/lib.rt:331:9
 earlier-requires : tie.Need-earlier-requires
 earlier-requires c κs = search needs
 
--- src/lib.rt:331:9
 returns : tie.Need-returns
 unfolding slotOk
 returns c = simp (eq-eqb _ _ (c .before .if1 .taken)) (c .earlier .ensures)
 
--- src/lib.rt:335:9
 returns-2 : tie.Need-returns-2
 unfolding slotOk
 returns-2 c = simp (eq-eqb _ _ (c .if2 .taken), ne-eqb _ _ (c .before .if1 .left))
 
--- src/lib.rt:327:1
 returns-3 : tie.Need-returns-3
 unfolding slotOk
 returns-3 c = simp (ne-eqb _ _ (c .if2 .left), ne-eqb _ _ (c .before .if1 .left))

@@ -3,106 +3,80 @@ use borrow.Author.Tests.{eq-eqb, ne-eqb}
 use borrow.Author.Needs.{needs}
 use Rattle.job.proofs.stopped.Statement.{statement}
 use Rattle.job.proofs.stopped.Tie as tie
-use Rattle.job.proofs.stopped.Reads as reads
-use Rattle.job.proofs.stopped.Lts as lts
-use Rattle.job.proofs.refused.Reads as refused-reads
 
--- src/lib.rt:753:23
 enum-known-e : tie.Need-enum-known-e
 enum-known-e c = search needs
 
--- src/lib.rt:753:29
 refused-requires : tie.Need-refused-requires
 refused-requires c κs = search needs
 
--- src/lib.rt:754:28
 enum-told : tie.Need-enum-told
 enum-told c = search needs
 
--- src/lib.rt:754:28
 refused-requires-2 : tie.Need-refused-requires-2
 refused-requires-2 c κs = search needs
 
--- src/lib.rt:755:34
 enum-told-2 : tie.Need-enum-told-2
 enum-told-2 c = search needs
 
--- src/lib.rt:755:34
 refused-requires-3 : tie.Need-refused-requires-3
 refused-requires-3 c κs = search needs
 
--- src/lib.rt:756:29
 enum-told-3 : tie.Need-enum-told-3
 enum-told-3 c = search needs
 
--- src/lib.rt:756:29
 refused-requires-4 : tie.Need-refused-requires-4
 refused-requires-4 c κs = search needs
 
--- src/lib.rt:757:29
 enum-told-4 : tie.Need-enum-told-4
 enum-told-4 c = search needs
 
--- src/lib.rt:757:29
 refused-requires-5 : tie.Need-refused-requires-5
 refused-requires-5 c κs = search needs
 
--- src/lib.rt:758:29
 enum-told-5 : tie.Need-enum-told-5
 enum-told-5 c = search needs
 
--- src/lib.rt:758:29
 refused-requires-6 : tie.Need-refused-requires-6
 refused-requires-6 c κs = search needs
 
--- src/lib.rt:760:16
 enum-told-6 : tie.Need-enum-told-6
 enum-told-6 c = search needs
 
--- src/lib.rt:761:17
 returns : tie.Need-returns
 unfolding stoppedOf
 returns c = simp (eq-eqb _ _ (c .if1 .taken), c .before .enum-told6 .given .1)
 
--- src/lib.rt:763:24
 add-refused : tie.Need-add-refused
 add-refused c = search needs
 
--- src/lib.rt:763:13
 refused-requires-7 : tie.Need-refused-requires-7
 refused-requires-7 c κs = search needs
 
--- src/lib.rt:748:1
 returns-2 : tie.Need-returns-2
 unfolding stoppedOf
 returns-2 c = simp (c .before .before .e .given .1) (c .refused .ensures)
 
--- src/lib.rt:748:1
 returns-3 : tie.Need-returns-3
 unfolding stoppedOf
 returns-3 c = simp (c .before .enum-told .given .1) (c .refused2 .ensures)
 
--- src/lib.rt:748:1
 returns-4 : tie.Need-returns-4
 unfolding stoppedOf
 returns-4 c = simp (c .before .enum-told2 .given .1) (c .refused3 .ensures)
 
--- src/lib.rt:748:1
 returns-5 : tie.Need-returns-5
 unfolding stoppedOf
 returns-5 c = simp (c .before .enum-told3 .given .1) (c .refused4 .ensures)
 
--- src/lib.rt:748:1
 returns-6 : tie.Need-returns-6
 unfolding stoppedOf
 returns-6 c = simp (c .before .enum-told4 .given .1) (c .refused5 .ensures)
 
--- src/lib.rt:748:1
 returns-7 : tie.Need-returns-7
 unfolding stoppedOf
 returns-7 c = simp (c .before .enum-told5 .given .1) (c .refused6 .ensures)
 
--- src/lib.rt:748:1
 returns-8 : tie.Need-returns-8
 unfolding stoppedOf
 returns-8 c = simp (ne-eqb _ _ (c .before .if1 .left), c .before .before .enum-told6 .given .1) (c .refused7 .ensures)

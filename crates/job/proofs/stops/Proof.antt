@@ -2,68 +2,52 @@ use Rattle.job.specs.Answer.{stopsOf}
 use borrow.Author.Needs.{needs}
 use Rattle.job.proofs.stops.Statement.{statement}
 use Rattle.job.proofs.stops.Tie as tie
-use Rattle.job.proofs.stops.Reads as reads
-use Rattle.job.proofs.stops.Lts as lts
 
--- src/lib.rt:731:29
 enum-told : tie.Need-enum-told
 enum-told c = search needs
 
--- src/lib.rt:732:28
 enum-told-2 : tie.Need-enum-told-2
 enum-told-2 c = search needs
 
--- src/lib.rt:733:34
 enum-told-3 : tie.Need-enum-told-3
 enum-told-3 c = search needs
 
--- src/lib.rt:734:29
 enum-told-4 : tie.Need-enum-told-4
 enum-told-4 c = search needs
 
--- src/lib.rt:735:29
 enum-told-5 : tie.Need-enum-told-5
 enum-told-5 c = search needs
 
--- src/lib.rt:736:29
 enum-told-6 : tie.Need-enum-told-6
 enum-told-6 c = search needs
 
--- src/lib.rt:737:24
 enum-told-7 : tie.Need-enum-told-7
 enum-told-7 c = search needs
 
--- src/lib.rt:727:1
 returns : tie.Need-returns
 unfolding stopsOf
 returns c = search needs
 
--- src/lib.rt:727:1
 returns-2 : tie.Need-returns-2
 unfolding stopsOf
 returns-2 c = search needs
 
--- src/lib.rt:727:1
 returns-3 : tie.Need-returns-3
 unfolding stopsOf
 returns-3 c = search needs
 
--- src/lib.rt:727:1
 returns-4 : tie.Need-returns-4
 unfolding stopsOf
 returns-4 c = search needs
 
--- src/lib.rt:727:1
 returns-5 : tie.Need-returns-5
 unfolding stopsOf
 returns-5 c = search needs
 
--- src/lib.rt:727:1
 returns-6 : tie.Need-returns-6
 unfolding stopsOf
 returns-6 c = search needs
 
--- src/lib.rt:727:1
 returns-7 : tie.Need-returns-7
 unfolding stopsOf
 returns-7 c = search needs

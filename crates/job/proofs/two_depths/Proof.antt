@@ -2,24 +2,16 @@ use Rattle.job.specs.Entries.{twoDepths}
 use borrow.Author.Needs.{needs}
 use Rattle.job.proofs.two_depths.Statement.{statement}
 use Rattle.job.proofs.two_depths.Tie as tie
-use Rattle.job.proofs.two_depths.Reads as reads
-use Rattle.job.proofs.two_depths.Lts as lts
-use Rattle.job.proofs.deeper.Reads as deeper-reads
-use Rattle.job.proofs.part_depth.Reads as part-depth-reads
 
--- src/lib.rt:526:12
 part-depth-requires : tie.Need-part-depth-requires
 part-depth-requires c κs = search needs
 
--- src/lib.rt:526:38
 part-depth-requires-2 : tie.Need-part-depth-requires-2
 part-depth-requires-2 c κs = search needs
 
--- src/lib.rt:526:5
 deeper-requires : tie.Need-deeper-requires
 deeper-requires c κs = search needs
 
--- src/lib.rt:523:1
 returns : tie.Need-returns
 unfolding twoDepths
 returns c = simp (← c .before .part-depth2 .ensures, ← c .before .before .part-depth .ensures) (c .deeper .ensures)

@@ -3,99 +3,68 @@ use borrow.Author.Tests.{eq-eqb, ne-eqb}
 use borrow.Author.Needs.{needs}
 use Rattle.job.proofs.type_by.Statement.{statement}
 use Rattle.job.proofs.type_by.Tie as tie
-use Rattle.job.proofs.type_by.Reads as reads
-use Rattle.job.proofs.type_by.Lts as lts
-use Rattle.job.proofs.function_type.Reads as function-type-reads
-use Rattle.job.proofs.key_type.Reads as key-type-reads
-use Rattle.job.proofs.op16.Reads as op16-reads
-use Rattle.job.proofs.op64.Reads as op64-reads
-use Rattle.job.proofs.op8.Reads as op8-reads
-use Rattle.job.proofs.part_depth.Reads as part-depth-reads
-use Rattle.job.proofs.two_depths.Reads as two-depths-reads
-use Rattle.job.proofs.type_bits.Reads as type-bits-reads
-use Rattle.job.proofs.typed.Reads as typed-reads
 
--- src/lib.rt:534:22
-type-bits-requires : tie.Need-type-bits-requires
-type-bits-requires c κs = search needs
+type-word-requires : tie.Need-type-word-requires
+type-word-requires c κs = search needs
 
--- src/lib.rt:534:9
 typed-requires : tie.Need-typed-requires
 typed-requires c κs = search needs
 
--- src/lib.rt:534:9
 returns : tie.Need-returns
 unfolding typeBy
-returns c = simp (eq-eqb _ _ (c .before .before .if1 .taken), ← c .before .type-bits .ensures) (c .typed .ensures)
+returns c = simp (eq-eqb _ _ (c .before .before .if1 .taken), ← c .before .type-word .ensures) (c .typed .ensures)
 
--- src/lib.rt:536:9
 op16-requires : tie.Need-op16-requires
 op16-requires c κs = search needs
 
--- src/lib.rt:537:9
 op16-requires-2 : tie.Need-op16-requires-2
 op16-requires-2 c κs = search needs
 
--- src/lib.rt:539:22
-type-bits-requires-2 : tie.Need-type-bits-requires-2
-type-bits-requires-2 c κs = search needs
+type-word-requires-2 : tie.Need-type-word-requires-2
+type-word-requires-2 c κs = search needs
 
--- src/lib.rt:539:49
 two-depths-requires : tie.Need-two-depths-requires
 two-depths-requires c κs = search needs
 
--- src/lib.rt:539:9
 typed-requires-2 : tie.Need-typed-requires-2
 typed-requires-2 c κs = search needs
 
--- src/lib.rt:539:9
 returns-2 : tie.Need-returns-2
 unfolding typeBy
-returns-2 c = simp (eq-eqb _ _ (c .before .before .before .if2 .taken), ne-eqb _ _ (c .before .before .before .before .before .before .if1 .left), ← c .before .two-depths .ensures, ← c .before .before .type-bits2 .ensures, ← c .before .before .before .before .op162 .ensures, ← c .before .before .before .before .before .op16 .ensures) (c .typed2 .ensures)
+returns-2 c = simp (eq-eqb _ _ (c .before .before .before .if2 .taken), ne-eqb _ _ (c .before .before .before .before .before .before .if1 .left), ← c .before .two-depths .ensures, ← c .before .before .type-word2 .ensures, ← c .before .before .before .before .op162 .ensures, ← c .before .before .before .before .before .op16 .ensures) (c .typed2 .ensures)
 
--- src/lib.rt:542:22
-type-bits-requires-3 : tie.Need-type-bits-requires-3
-type-bits-requires-3 c κs = search needs
+type-word-requires-3 : tie.Need-type-word-requires-3
+type-word-requires-3 c κs = search needs
 
--- src/lib.rt:542:49
 part-depth-requires : tie.Need-part-depth-requires
 part-depth-requires c κs = search needs
 
--- src/lib.rt:542:9
 typed-requires-3 : tie.Need-typed-requires-3
 typed-requires-3 c κs = search needs
 
--- src/lib.rt:542:9
 returns-3 : tie.Need-returns-3
 unfolding typeBy
-returns-3 c = simp (eq-eqb _ _ (c .before .before .before .if3 .taken), ne-eqb _ _ (c .before .before .before .before .if2 .left), ne-eqb _ _ (c .before .before .before .before .before .before .before .if1 .left), ← c .before .part-depth .ensures, ← c .before .before .type-bits3 .ensures, ← c .before .before .before .before .before .op162 .ensures, ← c .before .before .before .before .before .before .op16 .ensures) (c .typed3 .ensures)
+returns-3 c = simp (eq-eqb _ _ (c .before .before .before .if3 .taken), ne-eqb _ _ (c .before .before .before .before .if2 .left), ne-eqb _ _ (c .before .before .before .before .before .before .before .if1 .left), ← c .before .part-depth .ensures, ← c .before .before .type-word3 .ensures, ← c .before .before .before .before .before .op162 .ensures, ← c .before .before .before .before .before .before .op16 .ensures) (c .typed3 .ensures)
 
--- src/lib.rt:545:39
 op64-requires : tie.Need-op64-requires
 op64-requires c κs = search needs
 
--- src/lib.rt:545:53
 two-depths-requires-2 : tie.Need-two-depths-requires-2
 two-depths-requires-2 c κs = search needs
 
--- src/lib.rt:545:9
 function-type-requires : tie.Need-function-type-requires
 function-type-requires c κs = search needs
 
--- src/lib.rt:545:9
 returns-4 : tie.Need-returns-4
 unfolding typeBy
 returns-4 c = simp (eq-eqb _ _ (c .before .before .before .if4 .taken), ne-eqb _ _ (c .before .before .before .before .if3 .left), ne-eqb _ _ (c .before .before .before .before .before .if2 .left), ne-eqb _ _ (c .before .before .before .before .before .before .before .before .if1 .left), ← c .before .two-depths2 .ensures, ← c .before .before .op64 .ensures, ← c .before .before .before .before .before .before .op162 .ensures, ← c .before .before .before .before .before .before .before .op16 .ensures) (c .function-type .ensures)
 
--- src/lib.rt:547:21
 op8-requires : tie.Need-op8-requires
 op8-requires c κs = search needs
 
--- src/lib.rt:547:5
 key-type-requires : tie.Need-key-type-requires
 key-type-requires c κs = search needs
 
--- src/lib.rt:530:1
 returns-5 : tie.Need-returns-5
 unfolding typeBy
 returns-5 c = simp (ne-eqb _ _ (c .before .before .if4 .left), ne-eqb _ _ (c .before .before .before .if3 .left), ne-eqb _ _ (c .before .before .before .before .if2 .left), ne-eqb _ _ (c .before .before .before .before .before .before .before .if1 .left), ← c .before .op8 .ensures, ← c .before .before .before .before .before .op162 .ensures, ← c .before .before .before .before .before .before .op16 .ensures) (c .key-type .ensures)
@@ -104,16 +73,16 @@ pub type-by-spec : {M : Type 1} → statement M
 type-by-spec =
     tie.close
     (tie.spec
-    type-bits-requires
+    type-word-requires
     typed-requires
     returns
     op16-requires
     op16-requires-2
-    type-bits-requires-2
+    type-word-requires-2
     two-depths-requires
     typed-requires-2
     returns-2
-    type-bits-requires-3
+    type-word-requires-3
     part-depth-requires
     typed-requires-3
     returns-3

@@ -3,19 +3,14 @@ use borrow.Author.Tests.{le-ltb, lt-ltb}
 use borrow.Author.Needs.{needs}
 use Rattle.job.proofs.typed.Statement.{statement}
 use Rattle.job.proofs.typed.Tie as tie
-use Rattle.job.proofs.typed.Reads as reads
-use Rattle.job.proofs.typed.Lts as lts
 
--- src/lib.rt:414:35
 add-t5 : tie.Need-add-t5
 add-t5 c = search needs
 
--- src/lib.rt:414:9
 returns : tie.Need-returns
 unfolding typedOf
 returns c = simp (lt-ltb _ _ (c .if1 .taken))
 
--- src/lib.rt:410:1
 returns-2 : tie.Need-returns-2
 unfolding typedOf
 returns-2 c = simp (le-ltb _ _ (c .if1 .left))

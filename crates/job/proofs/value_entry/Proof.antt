@@ -4,68 +4,48 @@ use borrow.Author.Tests.{le-ltb, lt-ltb}
 use borrow.Author.Needs.{needs}
 use Rattle.job.proofs.value_entry.Statement.{statement}
 use Rattle.job.proofs.value_entry.Tie as tie
-use Rattle.job.proofs.value_entry.Reads as reads
-use Rattle.job.proofs.value_entry.Lts as lts
-use Rattle.job.proofs.host_word_ok.Reads as host-word-ok-reads
-use Rattle.job.proofs.op16.Reads as op16-reads
-use Rattle.job.proofs.op32.Reads as op32-reads
-use Rattle.names.proofs.at64.Reads as at64-reads
 
--- src/lib.rt:595:9
 op16-requires : tie.Need-op16-requires
 op16-requires c κs = search needs
 
--- src/lib.rt:596:9
 op32-requires : tie.Need-op32-requires
 op32-requires c κs = search needs
 
--- src/lib.rt:597:13
 cast-i : tie.Need-cast-i
 cast-i c = search needs
 
--- src/lib.rt:599:42
 at64-requires : tie.Need-at64-requires
 at64-requires c κs = search needs
 
--- src/lib.rt:599:12
 host-word-ok-requires : tie.Need-host-word-ok-requires
 host-word-ok-requires c κs = search needs
 
--- src/lib.rt:600:48
 cast-t12 : tie.Need-cast-t12
 cast-t12 c = search needs
 
--- src/lib.rt:600:41
 mul-t13 : tie.Need-mul-t13
 mul-t13 c = search needs
 
--- src/lib.rt:600:34
 add-t14 : tie.Need-add-t14
 add-t14 c = search needs
 
--- src/lib.rt:600:73
 cast-t15 : tie.Need-cast-t15
 cast-t15 c = search needs
 
--- src/lib.rt:600:61
 mul-t16 : tie.Need-mul-t16
 mul-t16 c = search needs
 
--- src/lib.rt:600:34
 add-t17 : tie.Need-add-t17
 add-t17 c = search needs
 
--- src/lib.rt:600:13
 returns : tie.Need-returns
 unfolding namesIn valueEntry
 returns c = simp (c .if2 .taken, lt-ltb _ _ (c .before .before .before .if1 .taken), ← c .before .host-word-ok .ensures, ← c .before .before .at64 .ensures, ← c .before .before .before .before .op32 .ensures, ← c .before .before .before .before .before .op16 .ensures)
 
--- src/lib.rt:592:1
 returns-2 : tie.Need-returns-2
 unfolding namesIn valueEntry
 returns-2 c = simp (c .if2 .left, lt-ltb _ _ (c .before .before .before .if1 .taken), ← c .before .host-word-ok .ensures, ← c .before .before .at64 .ensures, ← c .before .before .before .before .op32 .ensures, ← c .before .before .before .before .before .op16 .ensures)
 
--- src/lib.rt:592:1
 returns-3 : tie.Need-returns-3
 unfolding namesIn valueEntry
 returns-3 c = simp (le-ltb _ _ (c .if1 .left), ← c .before .op32 .ensures, ← c .before .before .op16 .ensures)

@@ -11,7 +11,7 @@ use Rattle.begin.proofs.built.Reads as built-reads
 use Rattle.lines.proofs.ended.Reads as ended-reads
 use Rattle.lines.proofs.type_sort.Reads as type-sort-reads
 use Rattle.machine.proofs.Machine.run.Reads as run-reads
-use Rattle.names.proofs.at64.Reads as at64-reads
+use Rattle.table.proofs.at64.Reads as at64-reads
 use Rattle.report.proofs.accepted.Reads as accepted-reads
 
 -- src/lib.rt:119:9

@@ -4,16 +4,16 @@ use borrow.Author.Needs.{needs}
 use Rattle.tree.proofs.bound_name.Statement.{statement}
 use Rattle.tree.proofs.bound_name.Tie as tie
 
-cast-result : tie.Need-cast-result
-cast-result c = search needs
+name-of-requires : tie.Need-name-of-requires
+name-of-requires c κs = search needs
 
 returns : tie.Need-returns
 unfolding boundName
-returns c = simp (eq-eqb _ _ (c .if1 .taken))
+returns c = simp (eq-eqb _ _ (c .before .if1 .taken)) (c .name-of .ensures)
 
 returns-2 : tie.Need-returns-2
 unfolding boundName
 returns-2 c = simp (ne-eqb _ _ (c .if1 .left))
 
 pub bound-name-spec : {M : Type 1} → statement M
-bound-name-spec = tie.close (tie.spec cast-result returns returns-2)
+bound-name-spec = tie.close (tie.spec name-of-requires returns returns-2)

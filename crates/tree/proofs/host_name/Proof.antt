@@ -4,16 +4,16 @@ use borrow.Author.Needs.{needs}
 use Rattle.tree.proofs.host_name.Statement.{statement}
 use Rattle.tree.proofs.host_name.Tie as tie
 
-one-requires : tie.Need-one-requires
-one-requires c κs = search needs
+single-requires : tie.Need-single-requires
+single-requires c κs = search needs
 
 returns : tie.Need-returns
 unfolding hostName
-returns c = simp (eq-eqb _ _ (c .before .if1 .taken)) (c .one .ensures)
+returns c = simp (eq-eqb _ _ (c .before .if1 .taken)) (c .single .ensures)
 
 returns-2 : tie.Need-returns-2
 unfolding hostName
 returns-2 c = simp (ne-eqb _ _ (c .if1 .left))
 
 pub host-name-spec : {M : Type 1} → statement M
-host-name-spec = tie.close (tie.spec one-requires returns returns-2)
+host-name-spec = tie.close (tie.spec single-requires returns returns-2)

@@ -17,8 +17,8 @@ element-copy-out-vars c = search needs
 bound-var-requires : tie.Need-bound-var-requires
 bound-var-requires c κs = search needs
 
-one-requires : tie.Need-one-requires
-one-requires c κs = search needs
+single-requires : tie.Need-single-requires
+single-requires c κs = search needs
 
 mul-vars-2 : tie.Need-mul-vars-2
 mul-vars-2 c = search needs
@@ -35,8 +35,8 @@ element-copy-out-locals c = search needs
 bound-name-requires : tie.Need-bound-name-requires
 bound-name-requires c κs = search needs
 
-one-requires-2 : tie.Need-one-requires-2
-one-requires-2 c κs = search needs
+single-requires-2 : tie.Need-single-requires-2
+single-requires-2 c κs = search needs
 
 mul-locals-2 : tie.Need-mul-locals-2
 mul-locals-2 c = search needs
@@ -46,7 +46,7 @@ element-write-locals c = search needs
 
 returns : tie.Need-returns
 unfolding inheritTo inheritedBy putIn boundOf
-returns c = (simp (lt-ltb _ _ (c .before .before .before .before .before .before .before .before .if1 .taken), ← c .before .before .before .before .before .before .before .is-body .ensures, c .before .before .before .before .before .before .if2 .taken, c .before .before .before .one .ensures, c .before .before .before .before .bound-var .ensures), simp (lt-ltb _ _ (c .before .before .before .before .before .before .before .before .if1 .taken), ← c .before .before .before .before .before .before .before .is-body .ensures, c .before .before .before .before .before .before .if2 .taken, c .one2 .ensures, c .before .bound-name .ensures))
+returns c = (simp (lt-ltb _ _ (c .before .before .before .before .before .before .before .before .if1 .taken), ← c .before .before .before .before .before .before .before .is-body .ensures, c .before .before .before .before .before .before .if2 .taken, c .before .before .before .single .ensures, c .before .before .before .before .bound-var .ensures), simp (lt-ltb _ _ (c .before .before .before .before .before .before .before .before .if1 .taken), ← c .before .before .before .before .before .before .before .is-body .ensures, c .before .before .before .before .before .before .if2 .taken, c .single2 .ensures, c .before .bound-name .ensures))
 
 mul-vars-3 : tie.Need-mul-vars-3
 mul-vars-3 c = search needs
@@ -88,13 +88,13 @@ inherit-spec =
     mul-vars
     element-copy-out-vars
     bound-var-requires
-    one-requires
+    single-requires
     mul-vars-2
     element-write-vars
     mul-locals
     element-copy-out-locals
     bound-name-requires
-    one-requires-2
+    single-requires-2
     mul-locals-2
     element-write-locals
     returns

@@ -46,14 +46,14 @@ returns c = search-hit (isNew _) _ _ 9 (c .before .before .before .before .befor
 bound-var-requires : tie.Need-bound-var-requires Inv-loop μ-loop
 bound-var-requires c κs = search needs
 
-one-requires : tie.Need-one-requires Inv-loop μ-loop
-one-requires c κs = search needs
+single-requires : tie.Need-single-requires Inv-loop μ-loop
+single-requires c κs = search needs
 
 bound-name-requires : tie.Need-bound-name-requires Inv-loop μ-loop
 bound-name-requires c κs = search needs
 
-one-requires-2 : tie.Need-one-requires-2 Inv-loop μ-loop
-one-requires-2 c κs = search needs
+single-requires-2 : tie.Need-single-requires-2 Inv-loop μ-loop
+single-requires-2 c κs = search needs
 
 add-e-2 : tie.Need-add-e-2 Inv-loop μ-loop
 add-e-2 c = omega arith
@@ -62,7 +62,7 @@ loop-less-2 : tie.Need-loop-less-2 Inv-loop μ-loop
 loop-less-2 c = omega arith
 
 loop-again-2 : tie.Need-loop-again-2 Inv-loop μ-loop
-loop-again-2 c = (omega arith, var-on _ _ (c .before .before .before .before .before .before .before .before .before .before .loop .inv .1) (c .before .before .before .before .before .before .before .before .at64 .ensures) (c .before .before .before .bound-var .ensures) (c .before .before .one .ensures), name-on _ _ (c .before .before .before .before .before .before .before .before .before .before .loop .inv .2) (c .before .before .before .before .before .before .before .before .at64 .ensures) (c .before .bound-name .ensures) (c .one2 .ensures), search-on (isNew _) _ _ (c .before .before .before .before .before .before .before .before .before .loop-test .taken) (new-is _ _ (c .before .before .before .before .before .before .before .before .before .before .loop .inv .1) (c .before .before .before .before .before .before .before .before .before .before .loop .inv .2) (c .before .before .before .before .before .before .before .before .at64 .ensures) (c .before .before .before .before .before .is-new .ensures) ∙ c .before .before .before .before .if2 .taken) (c .before .before .before .before .before .before .before .before .before .before .loop .inv .3))
+loop-again-2 c = (omega arith, var-on _ _ (c .before .before .before .before .before .before .before .before .before .before .loop .inv .1) (c .before .before .before .before .before .before .before .before .at64 .ensures) (c .before .before .before .bound-var .ensures) (c .before .before .single .ensures), name-on _ _ (c .before .before .before .before .before .before .before .before .before .before .loop .inv .2) (c .before .before .before .before .before .before .before .before .at64 .ensures) (c .before .bound-name .ensures) (c .single2 .ensures), search-on (isNew _) _ _ (c .before .before .before .before .before .before .before .before .before .loop-test .taken) (new-is _ _ (c .before .before .before .before .before .before .before .before .before .before .loop .inv .1) (c .before .before .before .before .before .before .before .before .before .before .loop .inv .2) (c .before .before .before .before .before .before .before .before .at64 .ensures) (c .before .before .before .before .before .is-new .ensures) ∙ c .before .before .before .before .if2 .taken) (c .before .before .before .before .before .before .before .before .before .before .loop .inv .3))
 
 returns-2 : tie.Need-returns-2 Inv-loop μ-loop
 returns-2 c = search-end (isNew _) _ _ 9 (c .loop-test .left) (c .before .loop .inv .3)
@@ -83,9 +83,9 @@ rebound-spec =
     cast-t10
     returns
     bound-var-requires
-    one-requires
+    single-requires
     bound-name-requires
-    one-requires-2
+    single-requires-2
     add-e-2
     loop-less-2
     loop-again-2

@@ -5,11 +5,11 @@ use mathlib.Core.Path.{_≡_, ap, _∙_}
 use mathlib.Core.List.{List, _++_}
 use Prim.Native.Nat.{ℕ, _≤_, _-_}
 use lib.ListN.{length, set, drop, replicate, length-append, length-replicate, length-drop, length-set}
-use Rattle.job.proofs.Leaves.{fill-all, fill-next}
-use Rattle.job.proofs.clear64.Statement.{statement}
-use Rattle.job.proofs.clear64.Tie as tie
-use Rattle.job.proofs.clear64.Reads as reads
-use Rattle.job.proofs.clear64.Lts as lts
+use Rattle.table.proofs.Filling.{fill-all, fill-next}
+use Rattle.table.proofs.clear16.Statement.{statement}
+use Rattle.table.proofs.clear16.Tie as tie
+use Rattle.table.proofs.clear16.Reads as reads
+use Rattle.table.proofs.clear16.Lts as lts
 
 abbrev Inv-loop : tie.InvT-loop
 Inv-loop s₀ i₀ s i = (i ≤ length s₀) × (s ≡ replicate i 0 ++ drop i s₀) × (length s ≡ length s₀)
@@ -17,40 +17,32 @@ Inv-loop s₀ i₀ s i = (i ≤ length s₀) × (s ≡ replicate i 0 ++ drop i s
 abbrev μ-loop : tie.MeasureT-loop
 μ-loop s₀ i₀ s i = length s₀ - i
 
--- src/lib.rt:434:5
 loop-holds : tie.Need-loop-holds Inv-loop μ-loop
 loop-holds c = (search needs, fill-none _ 0, search needs)
 
--- src/lib.rt:435:9
 mul-s : tie.Need-mul-s Inv-loop μ-loop
 mul-s c = search needs
 
--- src/lib.rt:435:9
 slice-write-s : tie.Need-slice-write-s Inv-loop μ-loop
 slice-write-s c = search needs
 
--- src/lib.rt:436:9
 add-i : tie.Need-add-i Inv-loop μ-loop
 add-i c = search needs
 
--- src/lib.rt:434:5
 loop-less : tie.Need-loop-less Inv-loop μ-loop
 loop-less c = search needs
 
--- src/lib.rt:434:5
 loop-again : tie.Need-loop-again Inv-loop μ-loop
 loop-again c = (search needs, fill-next _ _ _ (c .before .loop .inv .1) (search needs), simp length-set (c .before .loop .inv .2))
 
--- src/lib.rt:430:1
 same-length : tie.Need-same-length Inv-loop μ-loop
 same-length c = search needs
 
--- src/lib.rt:430:1
 returns : tie.Need-returns Inv-loop μ-loop
 returns c = fill-all _ _ _ (c .before .loop .inv .1) (c .before .loop .inv .0) (omega arith)
 
-pub clear64-spec : {M : Type 1} → statement M
-clear64-spec =
+pub clear16-spec : {M : Type 1} → statement M
+clear16-spec =
     tie.close
     (tie.spec
     Inv-loop
