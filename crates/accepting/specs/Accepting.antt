@@ -19,7 +19,7 @@ use Rattle.typing.specs.Verdict.{Verdict, accept, refuse, verdictOf}
 use Rattle.typing.specs.Tables.{Tables, short, layoutFor, filledBy, verdictWith, filledRead, keptOn, tablesAfter}
 use Rattle.semantics.specs.Calls.{Call}
 use Rattle.semantics.specs.Demand3.{exprOf, callsOf, Allowed, demand3}
-use Rattle.start.specs.Begun.{Holds}
+use Rattle.start.specs.Held.{Holds}
 use Rattle.start.specs.Held as held
 use Rattle.job.specs.declared.Shape.{Shape}
 use Rattle.job.specs.Answer.{shapeOf}
@@ -71,11 +71,11 @@ pub record Accepting (bytes : List ℕ) (g : Shape) (T : Ty) (e : Effect) (x : T
   pub ready : Ready job g (x .names) (x .types) (x .values)
   pub code : (i : ℕ) → codeIn (x .heads) (x .slots) i ≡ exprOf job i
 
-if-accepted : (b : Bool) (q : Refusal) (v : Verdict) (T : Ty) (e : Effect) → accept T e ≡ cond b (refuse q) v → (b ≡ false) × (v ≡ accept T e)
+pub if-accepted : (b : Bool) (q : Refusal) (v : Verdict) (T : Ty) (e : Effect) → accept T e ≡ cond b (refuse q) v → (b ≡ false) × (v ≡ accept T e)
 if-accepted true q v T e h = absurd (let z : _≡_ {A = ℕ} 0 1 = cc in omega arith)
 if-accepted false q v T e h = (refl, sym h)
 
-after-accept : (w : Tables) (bytes : List ℕ) (J : Job) {T : Ty} {e : Effect} → short w ≡ false → verdictOf bytes ≡ accept T e → reading bytes ≡ read J → tablesAfter w bytes ≡ filledBy J w
+pub after-accept : (w : Tables) (bytes : List ℕ) (J : Job) {T : Ty} {e : Effect} → short w ≡ false → verdictOf bytes ≡ accept T e → reading bytes ≡ read J → tablesAfter w bytes ≡ filledBy J w
 unfolding tablesAfter keptOn filledRead
 after-accept w bytes J a b c = rw (a, b, c)
 

@@ -1,12 +1,11 @@
 -- The machine of a job's start, from the tables that hold the job.
 use mathlib.Core.Path.{_≡_, sym, ap, _∙_}
-use Prim.Native.Nat.{ℕ, _-_, _≤_}
+use Prim.Native.Nat.{ℕ}
 use native.Mathlib.Omega.{arith}
 use mathlib.Core.List.{List, []}
-use lib.ListN.{length, length-map}
-use Rattle.syntax.specs.Job.{Job, Src, sourceOf}
+use lib.ListN.{length}
+use Rattle.syntax.specs.Job.{Job, Src}
 use Rattle.syntax.specs.Tree.{root}
-use Rattle.syntax.specs.Context.{past-minus}
 use Rattle.semantics.specs.Machine.{Value, Two, Closure, Link, Frame, Control, enter, Machine as Clean}
 use Rattle.semantics.specs.Start.{startOf, valued}
 use Rattle.store.specs.Tables.{listOf, stackOf}
@@ -15,16 +14,14 @@ use Rattle.store.proofs.Laws.{list-length}
 use Rattle.machine.specs.declared.Control.the-variants.{Enter}
 use Rattle.machine.specs.View.{view, tables}
 use Rattle.start.specs.declared.Started.{Started}
-use Rattle.start.specs.Begun.{Begins, Begun, Holds}
-use Rattle.start.specs.Held.{filled-holds}
+use Rattle.start.specs.Begun.{Begun}
+use Rattle.start.specs.Held.{Holds, filled-holds}
 use Rattle.start.proofs.Jobs.{capped-le}
 use Rattle.job.specs.declared.Shape.{Shape}
 use Rattle.job.specs.Answer.{shapeOf}
 use Rattle.tree.specs.Holds as tree
 use Rattle.tree.specs.Filled as tree-filled
-use Rattle.begin.specs.Starts.{Lent, Ready, Built}
-use Rattle.machine.specs.declared.Machine.{Machine}
-use Rattle.machine.specs.View.{seen}
+use Rattle.begin.specs.Starts.{Lent, Ready}
 
 -- a machine from its parts
 abbrev parts : Control → ℕ → ℕ → List Frame → List Value → List ℕ → List Two → List Closure → List Link → Clean
@@ -34,23 +31,19 @@ same-parts : (f : List Frame) (ps : List Two) (fs : List Closure) (e e' : ℕ) (
     → e ≡ e' → n ≡ n' → o ≡ o' → cs ≡ cs' → ks ≡ ks' → bs ≡ bs' → parts (enter e) n o f cs ks ps fs bs ≡ parts (enter e') n' o' f cs' ks' ps fs bs'
 same-parts f ps fs e e' n n' o o' cs cs' ks ks' bs bs' a b c d g h = cc
 
-pub started : (S : Src) (b : Started) → Begins S b → b .nkeys ≤ 128 → b .ncells ≤ 64 → b .nbindings ≤ 126 → (e : ℕ) → e ≡ root S → (fr pa fu : List ℕ)
+pub started : (S : Src) (b : Started) → Begun S b → (fr pa fu : List ℕ)
     → view
-    (record { now = record { control = Enter (record { 0 = e }); env = b .nbindings; on = b .on }; frames = 0; cells = b .ncells; keys = b .nkeys; pairs = 0; functions = 0; bindings = b .nbindings })
+    (record { now = record { control = Enter (record { 0 = b .root }); env = b .nbindings; on = b .on }; frames = 0; cells = b .ncells; keys = b .nkeys; pairs = 0; functions = 0; bindings = b .nbindings })
     (tables fr (b .cells) (b .keys) pa fu (b .bindings))
     ≡ startOf S
 unfolding view startOf listOf stackOf
-started S b g hk hc hb e he fr pa fu =
-    same-parts [] [] [] e (root S) (b .nbindings) (length (valued S .bindings)) _ _ _ _ _ _ _ _ he
+started S b g fr pa fu =
+    same-parts [] [] [] (b .root) (root S) (b .nbindings) (length (valued S .bindings)) _ _ _ _ _ _ _ _ (g .its-root)
     (sym (list-length linkIn (b .bindings) (b .nbindings)) ∙ ap length (g .bindings))
     (g .on)
-    (rw (capped-le (b .ncells) 256 (omega arith)) (g .cells))
-    (rw (capped-le (b .nkeys) 128 hk) (g .keys))
-    (rw (capped-le (b .nbindings) 1024 (omega arith)) (g .bindings))
-
-pub root-is : (S : Src) (cmds e : ℕ) → cmds ≡ length (S .cmds) → cmds ≤ 512 → (cmds ≤ 512 → e ≡ cmds - 1) → e ≡ root S
-unfolding root
-root-is S cmds e h k f = f k ∙ ap (λ (n : ℕ). n - 1) h ∙ past-minus (length (S .cmds))
+    (rw (capped-le (b .ncells) 256 (omega (arith, g .few-cells))) (g .cells))
+    (rw (capped-le (b .nkeys) 128 (g .few-keys)) (g .keys))
+    (rw (capped-le (b .nbindings) 1024 (omega (arith, g .few-bindings))) (g .bindings))
 
 pub start-holds : {J : Job} {g : Shape} {n t s v h p : List ℕ} {kn kt ks kv kh kp : ℕ} → Lent J g n t s v h p kn kt ks kv kh kp → Holds J n (g .names) t v (g .values) (g .rights)
 unfolding shapeOf
@@ -64,9 +57,3 @@ tree-holds {J} {kn = kn} {kt = kt} {ks = ks} {kh = kh} {kp = kp} l =
 
 pub ready : {J : Job} {g : Shape} {n t s v h p : List ℕ} {kn kt ks kv kh kp : ℕ} → Lent J g n t s v h p kn kt ks kv kh kp → Ready J g n t v
 ready l = record { ok = l .ok; shape = l .shape; holds = start-holds l }
-
-pub built : {J : Job} {g : Shape} {n t v : List ℕ} (b : Started) (m : Machine) → Begun n (g .names) t v (g .values) (g .rights) b → Built b (g .cmds) m → Ready J g n t v
-    → seen m ≡ startOf (sourceOf J)
-unfolding shapeOf sourceOf
-built {J} b m x y l =
-    y .starts (sourceOf J) (x .begins J (l .ok) (l .holds)) (x .few-keys) (x .few-cells) (x .few-bindings) (rw (l .shape) (l .ok .few-cmds)) (rw (l .shape) (sym (length-map (J .cmds) _)))

@@ -21,6 +21,7 @@ use Rattle.semantics.specs.Start.{startOf}
 use Rattle.semantics.specs.Starting.{Started, unless, startRead, starting, JobTables, short, startWith, cleared, filledBy, filledRead, keptOn, tablesAfterStart}
 use Rattle.machine.specs.declared.Machine.{Machine}
 use Rattle.machine.specs.View.{seen}
+use Rattle.start.specs.Empty.{emptyMachine, machineOf}
 use Rattle.job.specs.declared.Shape.{Shape}
 use Rattle.table.specs.declared.Refusal.{Refusal as Refused}
 use Rattle.job.specs.declared.Answer.{Answer}
@@ -132,25 +133,26 @@ module _ {bytes n t s v h p n' t' s' v' h' p' : List ℕ} {a : Answer} (x : Read
           }) in
           record {
             answer = w .answer ∙ sym (answer-read (jobTables n t s v h p) bytes J none-short (z .is));
+            machine = w .machine ∙ ap machineOf (sym (answer-read (jobTables n t s v h p) bytes J none-short (z .is)));
             tables = w .tables ∙ kept-read (treeRefusal (sourceOf J)) (startOf (sourceOf J)) J _ _ is same ∙ sym (tables-read (jobTables n t s v h p) bytes J none-short (z .is));
           }
 
   -- reading refuses
-  pub start-refused : (q : Refused) (m : Machine) → a ≡ answers.Refused q
+  pub start-refused : (q : Refused) (m : Machine) → a ≡ answers.Refused q → seen m ≡ emptyMachine
       → Starts bytes (record { told = told.Refused (q .number) (q .place); machine = m }) (jobTables n t s v h p) (jobTables n' t' s' v' h' p')
-  unfolding answerOf afterOf tableOf startWith starting startRead tablesAfterStart keptOn cleared zeros
-  start-refused q m e = go (longTables n t s v h p) (reading bytes) refl refl (sym e ∙ x .answer)
+  unfolding answerOf afterOf tableOf startWith starting startRead tablesAfterStart keptOn cleared zeros machineOf
+  start-refused q m e d = go (longTables n t s v h p) (reading bytes) refl refl (sym e ∙ x .answer)
     where
       go : (b : Bool) (R : Read) → longTables n t s v h p ≡ b → reading bytes ≡ R → answers.Refused q ≡ cond b (answerOf R) (refusedBy 1 0)
           → Starts bytes (record { told = told.Refused (q .number) (q .place); machine = m }) (jobTables n t s v h p) (jobTables n' t' s' v' h' p')
       go false R l i z =
           let y : q ≡ record { number = 1; place = 0 } = cc in
           let all-short : short (jobTables n t s v h p) ≡ true = short-is n t s v h p ∙ ap not l in
-          record { answer = rw (all-short, y); tables = rw all-short (read-to false R l i) }
+          record { answer = rw (all-short, y); machine = rw all-short d; tables = rw all-short (read-to false R l i) }
       go true (refused r) l i z =
           let y : q ≡ record { number = r .number; place = r .place } = cc in
           let none-short : short (jobTables n t s v h p) ≡ false = short-is n t s v h p ∙ ap not l in
-          record { answer = rw (none-short, i, y); tables = rw (none-short, i) (read-to true (refused r) l i) }
+          record { answer = rw (none-short, i, y); machine = rw (none-short, i) d; tables = rw (none-short, i) (read-to true (refused r) l i) }
       go true (read J) l i z = absurd (let z : _≡_ {A = ℕ} 0 1 = cc in omega arith)
 
 -- what the tree checks say of the job that the tables hold
@@ -162,14 +164,14 @@ module _ {J : Job} {g : Shape} {n t s v h p : List ℕ} {kn kt ks kv kh kp : ℕ
   says = f J (l .ok) (tree-holds l)
 
   pub judged-tree : a ≡ trees.Tree → seen m ≡ startOf (sourceOf J) → Judged J (record { told = told.Started; machine = m }) (jobTables n t s v h p) (jobTables n t s v h p)
-  unfolding unless clearedIf
+  unfolding unless clearedIf machineOf
   judged-tree e b =
       let z : none ≡ treeRefusal (sourceOf J) = sym (ap refusalOf e) ∙ says in
-      record { answer = rw (sym z, b); tables = rw (sym z) }
+      record { answer = rw (sym z, b); machine = rw (sym z) b; tables = rw (sym z) }
 
-  pub judged-refused : (k : ℕ) (x : Expr) (n' t' s' v' h' p' : List ℕ) → a ≡ trees.Refused k x → Zeroed n t s v h p n' t' s' v' h' p'
+  pub judged-refused : (k : ℕ) (x : Expr) (n' t' s' v' h' p' : List ℕ) → a ≡ trees.Refused k x → seen m ≡ emptyMachine → Zeroed n t s v h p n' t' s' v' h' p'
       → Judged J (record { told = told.Refused k (x .0); machine = m }) (jobTables n t s v h p) (jobTables n' t' s' v' h' p')
-  unfolding unless clearedIf cleared zeros
-  judged-refused k x n' t' s' v' h' p' e y =
+  unfolding unless clearedIf cleared zeros machineOf
+  judged-refused k x n' t' s' v' h' p' e d y =
       let z : some (record { number = k; place = x .0 }) ≡ treeRefusal (sourceOf J) = sym (ap refusalOf e) ∙ says in
-      record { answer = rw (sym z); tables = rw (sym z) (λ i. jobTables (y .names i) (y .types i) (y .sets i) (y .values i) (y .heads i) (y .slots i)) }
+      record { answer = rw (sym z); machine = rw (sym z) d; tables = rw (sym z) (λ i. jobTables (y .names i) (y .types i) (y .sets i) (y .values i) (y .heads i) (y .slots i)) }

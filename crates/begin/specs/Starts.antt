@@ -1,11 +1,10 @@
 -- Starting a job: "It starts any job free of 1 to 10 and answers those numbers otherwise. It never looks at types." What it answers and what it leaves in the lent tables
 -- is defined in `semantics/Starting`.
-use mathlib.Core.Path.{_≡_}
-use Prim.Native.Nat.{ℕ, _≤_}
+use mathlib.Core.Path.{_≡_, ap}
+use Prim.Native.Nat.{ℕ}
 use mathlib.Core.List.{List}
 use mathlib.Core.Option.{Option, none, some}
-use lib.ListN.{length}
-use Rattle.syntax.specs.Job.{Job, Src, sourceOf}
+use Rattle.syntax.specs.Job.{Job, sourceOf}
 use Rattle.syntax.specs.Reading.{Refusal}
 use Rattle.syntax.specs.ReadLaws.{JobOk}
 use Rattle.syntax.specs.WordLaws.{JobFits}
@@ -13,11 +12,11 @@ use Rattle.syntax.specs.Tree.{treeRefusal}
 use Rattle.semantics.specs.Machine.{Machine as Clean}
 use Rattle.semantics.specs.Start.{startOf}
 use Rattle.semantics.specs.Starting.{Started as Outcome, started, unstarted, unless, JobTables, startWith, cleared, tablesAfterStart}
-use Rattle.machine.specs.declared.Machine.{Machine}
 use Rattle.machine.specs.View.{seen}
-use Rattle.start.specs.declared.Started.{Started}
-use Rattle.start.specs.Begun.{Begins}
-use Rattle.start.specs.Begun as start
+use Rattle.start.specs.Empty.{machineOf}
+use Rattle.start.specs.Begun.{sourceIn}
+use Rattle.start.specs.Held as start
+use Rattle.start.specs.Held.{held-start}
 use Rattle.job.specs.declared.Shape.{Shape}
 use Rattle.job.specs.Answer.{shapeOf, Holds}
 use Rattle.begin.specs.declared.Told.{Told}
@@ -27,7 +26,7 @@ use Rattle.begin.specs.declared.Opened.{Opened}
 abbrev pub jobTables : List ℕ → List ℕ → List ℕ → List ℕ → List ℕ → List ℕ → JobTables
 jobTables n t s v h p = record { names = n; types = t; sets = s; values = v; heads = h; slots = p }
 
--- the machine that an answer stands for, or its refusal by number and place. The machine of a refusal is free.
+-- the machine that an answer stands for, or its refusal by number and place
 abbrev pub toldIn : Told → Clean → Outcome
 toldIn told.Started m = started m
 toldIn (told.Refused n p) m = unstarted (record { number = n; place = p })
@@ -35,9 +34,10 @@ toldIn (told.Refused n p) m = unstarted (record { number = n; place = p })
 abbrev pub startedIn : Opened → Outcome
 startedIn r = toldIn (r .told) (seen (r .machine))
 
--- starting `bytes` with the lent tables w, which are x afterwards
+-- starting `bytes` with the lent tables w, which are x afterwards; the machine of a refused start is the empty one
 pub record Starts (bytes : List ℕ) (r : Opened) (w x : JobTables) : Type 0 where
   pub answer : startedIn r ≡ startWith w bytes
+  pub machine : seen (r .machine) ≡ machineOf (startWith w bytes)
   pub tables : x ≡ tablesAfterStart w bytes
 
 unfoldable pub clearedIf : Option Refusal → JobTables → JobTables
@@ -47,6 +47,7 @@ clearedIf (some r) w = cleared w
 -- the same for a job that is read: its tree is judged
 pub record Judged (J : Job) (r : Opened) (w x : JobTables) : Type 0 where
   pub answer : startedIn r ≡ unless (treeRefusal (sourceOf J)) (startOf (sourceOf J))
+  pub machine : seen (r .machine) ≡ machineOf (unless (treeRefusal (sourceOf J)) (startOf (sourceOf J)))
   pub tables : x ≡ clearedIf (treeRefusal (sourceOf J)) w
 
 -- the tables hold the job that has so many entries
@@ -62,6 +63,11 @@ pub record Ready (J : Job) (g : Shape) (n t v : List ℕ) : Type 0 where
   pub shape : g ≡ shapeOf J
   pub holds : start.Holds J n (g .names) t v (g .values) (g .rights)
 
--- the machine of the tables of a start
-pub record Built (b : Started) (cmds : ℕ) (m : Machine) : Type 0 where
-  pub starts : (S : Src) → Begins S b → b .nkeys ≤ 128 → b .ncells ≤ 64 → b .nbindings ≤ 126 → cmds ≤ 512 → cmds ≡ length (S .cmds) → seen m ≡ startOf S
+-- the machine at the start of the job that words hold, with the counts and rights of g; the empty one where the counts are no job's
+unfoldable pub builtFrom : Shape → List ℕ → List ℕ → List ℕ → Clean
+builtFrom g n t v = startOf (sourceIn n (g .names) t v (g .values) (g .rights) (g .cmds))
+
+-- of tables that are ready it is the job's own
+pub ready-built : {J : Job} {g : Shape} {n t v : List ℕ} → Ready J g n t v → builtFrom g n t v ≡ startOf (sourceOf J)
+unfolding builtFrom shapeOf
+ready-built l = held-start (l .ok) (l .holds) (ap (λ (k : Shape). k .cmds) (l .shape))

@@ -6,15 +6,15 @@ use machine::Now;
 use machine::Thread;
 use start::Started;
 use store::Expr;
-use store::Keys;
 ghost use mathlib.Core.Path.{_≡_};
-ghost use Prim.Native.Nat.{ℕ, _≤_, _-_};
-ghost use mathlib.Core.List.{List};
-ghost use Rattle.syntax.specs.Job.{Job, sourceOf};
+ghost use Prim.Native.Nat.{ℕ};
+ghost use Rattle.syntax.specs.Job.{Job, Src};
 ghost use Rattle.semantics.specs.Start.{startOf};
 ghost use Rattle.machine.specs.View.{seen};
+ghost use Rattle.start.specs.Empty.{emptyMachine};
+ghost use Rattle.start.specs.Begun.{Begun};
 ghost use Rattle.job.specs.Answer.{Zeroed};
-ghost use Rattle.begin.specs.Starts.{jobTables, Starts, Judged, Lent, Ready, Built};
+ghost use Rattle.begin.specs.Starts.{jobTables, builtFrom, Starts, Judged, Lent};
 
 // The job is started, or refused with a number and a place.
 pub enum Told {
@@ -22,31 +22,18 @@ pub enum Told {
     Refused(u8, usize),
 }
 
-// What starting a job gives. The paper leaves the machine of a refused job free, and so does the contract.
+// What starting a job gives. The machine of a refused job is the empty one.
 pub struct Opened {
     pub told: Told,
     pub machine: Machine,
 }
 
-// The last of so many expressions.
-fn last(cmds: usize) -> u16
-    ensures { λ r. ⌜ (cmds ≤ 512 → r ≡ cmds - 1) ⌝ }
-{
-    if 512 < cmds {
-        return 0;
-    }
-    if cmds == 0 {
-        return 0;
-    }
-    (cmds - 1) as u16
-}
-
-// The machine that enters the last of so many expressions.
-fn machine_of(b: Started, cmds: usize) -> Machine
-    ensures { λ r. ⌜ Built b cmds r ⌝ }
+// The machine of the tables of a start: it enters the last expression.
+fn machine_of(b: Started) -> Machine
+    ensures { λ r. ⌜ ((S : Src) → Begun S b → seen r ≡ startOf S) ⌝ }
 {
     let on = b.on;
-    let e = last(cmds);
+    let e = b.root;
     let n = Now {
         control: Control::Enter(Expr(e)),
         env: b.nbindings,
@@ -75,26 +62,22 @@ fn machine_of(b: Started, cmds: usize) -> Machine
     }
 }
 
-// The machine of a refused job.
-fn empty() -> Machine {
-    let b = Started {
-        keys: [0u8; 128],
-        cells: [0u64; 256],
-        bindings: [0u64; 2048],
-        nkeys: 0,
-        ncells: 0,
-        nbindings: 0,
-        on: Keys(0, 0),
-    };
-    machine_of(b, 0)
+// The machine where no job is started: nothing is bound, nothing is enabled.
+pub fn empty() -> Machine
+    ensures { λ r. ⌜ seen r ≡ emptyMachine ⌝ }
+{
+    let names = [0u16; 1];
+    let words = [0u64; 1];
+    let b = start::begin(&names, 0, &words, &words, 0, 0, 0);
+    machine_of(b)
 }
 
-// The machine at the start of the job that the tables hold. For tables that hold none it is free.
+// The machine at the start of the job that the words hold; the empty one where the counts are no job's.
 pub fn built(g: Shape, names: &[u16], types: &[u64], values: &[u64]) -> Machine
-    ensures { λ r. ⌜ ((J : Job) → Ready J g (now (names .entry)) (now (types .entry)) (now (values .entry)) → seen r ≡ startOf (sourceOf J)) ⌝ }
+    ensures { λ r. ⌜ seen r ≡ builtFrom g (now (names .entry)) (now (types .entry)) (now (values .entry)) ⌝ }
 {
-    let b = start::begin(names, g.names, types, values, g.values, g.rights);
-    machine_of(b, g.cmds)
+    let b = start::begin(names, g.names, types, values, g.values, g.rights, g.cmds);
+    machine_of(b)
 }
 
 // All tables zero to their ends.

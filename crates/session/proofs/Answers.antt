@@ -1,5 +1,5 @@
 -- The cases of a session: too short answers, a refused job, an accepted job.
-use mathlib.Core.Path.{_≡_, refl, sym, ap, _∙_, fun-ext}
+use mathlib.Core.Path.{_≡_, refl, sym, ap, _∙_, subst, fun-ext}
 use Prim.Native.Nat.{ℕ, _*_, _/_, _≤_, _<_}
 use native.Mathlib.Omega.{arith}
 use mathlib.Core.Bool.{Bool, true, false}
@@ -19,7 +19,9 @@ use Rattle.semantics.specs.Machine.{Machine as Clean}
 use Rattle.semantics.specs.Start.{startOf}
 use Rattle.semantics.specs.Calls.{calls}
 use Rattle.semantics.specs.Demand3.{exprOf, callsOf}
-use Rattle.calls.specs.Words.{callsIn, resultWords, over}
+use Rattle.machine.specs.declared.Machine.{Machine}
+use Rattle.machine.specs.View.{seen}
+use Rattle.calls.specs.Words.{callsIn, resultWords, lastOf, over}
 use Rattle.calls.specs.Laws.{over-fits, result-length}
 use Rattle.calls.specs.Made.{Made}
 use Rattle.checker.specs.declared.Checked.{Checked}
@@ -28,15 +30,25 @@ use Rattle.checker.specs.declared.Verdict.the-variants as verdicts
 use Rattle.checker.specs.Answer.{verdictIn, lastIn, CheckTo}
 use Rattle.job.specs.declared.Shape.{Shape}
 use Rattle.job.specs.Answer.{shapeOf}
-use Rattle.begin.specs.Starts.{Ready}
+use Rattle.begin.specs.Starts.{builtFrom, ready-built}
 use Rattle.accepting.specs.Accepting.{Accepting, accepting}
-use Rattle.session.specs.Session.{roomFor, sessionVerdict, sessionTables, Answered, SessionTo}
+use Rattle.session.specs.declared.Held.{Held}
+use Rattle.session.specs.Session.{roomFor, sessionVerdict, sessionTables, Answered, RefusedWith, SessionTo}
 
-pub answered : (J : Job) (h p ws a b : List ℕ) (m last : Clean) → Made (codeIn h p) ws m a b last → m ≡ startOf (sourceOf J) → ((i : ℕ) → codeIn h p i ≡ exprOf J i)
+pub made-from : {code : ℕ → Cmd ℕ} {ws a b : List ℕ} {m n last : Clean} → m ≡ n → Made code ws m a b last → Made code ws n a b last
+made-from {code} {ws} {a} {b} {last = last} e x = subst (λ (z : Clean). Made code ws z a b last) e x
+
+-- the calls from the start of the job that the tables hold, with its expressions
+answers-are : (J : Job) (h p ws a b : List ℕ) (m last : Clean) → Made (codeIn h p) ws m a b last → m ≡ startOf (sourceOf J) → ((i : ℕ) → codeIn h p i ≡ exprOf J i)
     → b ≡ over a (resultWords (callsOf J (callsIn ws)))
-answered J h p ws a b m last x e c =
+answers-are J h p ws a b m last x e c =
     x .answers ∙ ap (λ z. over a (resultWords (calls (codeIn h p) (callsIn ws) z))) e
     ∙ ap (λ (z : ℕ → Cmd ℕ). over a (resultWords (calls z (callsIn ws) (startOf (sourceOf J))))) (fun-ext c)
+
+last-is : (J : Job) (h p ws a b : List ℕ) (m last : Clean) → Made (codeIn h p) ws m a b last → m ≡ startOf (sourceOf J) → ((i : ℕ) → codeIn h p i ≡ exprOf J i)
+    → last ≡ lastOf (exprOf J) (callsIn ws) (startOf (sourceOf J))
+last-is J h p ws a b m last x e c =
+    x .machine ∙ ap (λ z. lastOf (codeIn h p) (callsIn ws) z) e ∙ ap (λ (z : ℕ → Cmd ℕ). lastOf z (callsIn ws) (startOf (sourceOf J))) (fun-ext c)
 
 room-no : (ws a : List ℕ) → length a / 2 < length ws → roomFor ws a ≡ false
 unfolding roomFor
@@ -46,14 +58,14 @@ room-yes : (ws a : List ℕ) → length ws ≤ length a / 2 → roomFor ws a ≡
 unfolding roomFor
 room-yes ws a h = le-leb (2 * length ws) (length a) (omega arith)
 
-pub session-short : (bytes ws a : List ℕ) (w : Tables) → length a / 2 < length ws → SessionTo bytes ws (verdicts.Refused 1 0) w w a a
+pub session-short : (bytes ws a : List ℕ) (w : Tables) (o : Held) → length a / 2 < length ws → RefusedWith 1 0 o → SessionTo bytes ws o w w a a
 unfolding sessionVerdict sessionTables verdictIn
-session-short bytes ws a w h =
+session-short bytes ws a w o h f =
     record {
-      verdict = rw (room-no ws a h);
+      verdict = rw (f .verdict, room-no ws a h);
       tables = rw (room-no ws a h);
-      entry = λ i s e J q. absurd (let z : _≡_ {A = ℕ} 0 1 = cc in omega arith);
-      refused = λ q e. refl;
+      entry = λ i s e J q. absurd (let g : verdicts.Refused 1 0 ≡ verdicts.Accepted i s = sym (f .verdict) ∙ e in let z : _≡_ {A = ℕ} 0 1 = cc in omega arith);
+      refused = λ q e. record { written = refl; machine = f .machine };
       accepted = λ T s e. absurd (let f : refuse (record { number = 1; place = 0 }) ≡ accept T s = rw (room-no ws a h) at e in let z : _≡_ {A = ℕ} 0 1 = cc in omega arith);
     }
 
@@ -65,17 +77,17 @@ tables-room : (bytes ws a : List ℕ) (w : Tables) → length ws ≤ length a / 
 unfolding sessionTables
 tables-room bytes ws a w h = rw (room-yes ws a h)
 
-pub session-refused : (bytes ws a : List ℕ) (r : Checked) (w x : Tables) (n p : ℕ) → length ws ≤ length a / 2 → CheckTo bytes r w x → r .verdict ≡ verdicts.Refused n p
-    → SessionTo bytes ws (verdicts.Refused n p) w x a a
+pub session-refused : (bytes ws a : List ℕ) (r : Checked) (w x : Tables) (n p : ℕ) (o : Held) → length ws ≤ length a / 2 → CheckTo bytes r w x → r .verdict ≡ verdicts.Refused n p
+    → RefusedWith n p o → SessionTo bytes ws o w x a a
 unfolding verdictIn
-session-refused bytes ws a r w x n p h c v =
+session-refused bytes ws a r w x n p o h c v f =
     let e : refuse (record { number = n; place = p }) ≡ verdictWith w bytes = sym (ap (verdictIn (x .types) (x .sets)) v) ∙ c .verdict in
     let b = with-room bytes ws a w h in
     record {
-      verdict = e ∙ sym b;
+      verdict = ap (verdictIn (x .types) (x .sets)) (f .verdict) ∙ e ∙ sym b;
       tables = c .tables ∙ tables-room bytes ws a w h;
-      entry = λ i s k J q. absurd (let z : _≡_ {A = ℕ} 0 1 = cc in omega arith);
-      refused = λ q k. refl;
+      entry = λ i s k J q. absurd (let g : verdicts.Refused n p ≡ verdicts.Accepted i s = sym (f .verdict) ∙ k in let z : _≡_ {A = ℕ} 0 1 = cc in omega arith);
+      refused = λ q k. record { written = refl; machine = f .machine };
       accepted = λ T s k. absurd (let z : _≡_ {A = ℕ} 0 1 = cc in omega arith);
     }
 
@@ -93,16 +105,16 @@ counted : (l : List ℕ) (J K : Job) → read J ≡ read K → lastIn l (shapeOf
 unfolding shapeOf
 counted l J K e = let z : J ≡ K = cc in ap (λ (L : Job). lastIn l (length (L .cmds))) z
 
-pub session-accepted : (bytes ws a b : List ℕ) (r : Checked) (w x : Tables) (i s : ℕ) → length ws ≤ length a / 2 → CheckTo bytes r w x → r .verdict ≡ verdicts.Accepted i s
-    → ((J : Job) → Ready J (r .shape) (x .names) (x .types) (x .values) → ((k : ℕ) → codeIn (x .heads) (x .slots) k ≡ exprOf J k) → b ≡ over a (resultWords (callsOf J (callsIn ws))))
-    → Bytes bytes → SessionTo bytes ws (verdicts.Accepted i s) w x a b
-session-accepted bytes ws a b r w x i s h c v f by = go (accepting bytes by r w x i s c v)
+pub session-accepted : (bytes ws a b : List ℕ) (r : Checked) (w x : Tables) (i s : ℕ) (m : Machine) → length ws ≤ length a / 2 → CheckTo bytes r w x → r .verdict ≡ verdicts.Accepted i s
+    → Made (codeIn (x .heads) (x .slots)) ws (builtFrom (r .shape) (x .names) (x .types) (x .values)) a b (seen m)
+    → Bytes bytes → SessionTo bytes ws (record { verdict = verdicts.Accepted i s; machine = m }) w x a b
+session-accepted bytes ws a b r w x i s m h c v f by = go (accepting bytes by r w x i s c v)
   where
     number : Answer → ℕ
     number (verdicts.Accepted j t) = j
     number (verdicts.Refused j t) = 0
 
-    go : {T : Ty} → Accepting bytes (r .shape) T s x → SessionTo bytes ws (verdicts.Accepted i s) w x a b
+    go : {T : Ty} → Accepting bytes (r .shape) T s x → SessionTo bytes ws (record { verdict = verdicts.Accepted i s; machine = m }) w x a b
     go y =
         let e : verdictIn (x .types) (x .sets) (verdicts.Accepted i s) ≡ verdictWith w bytes = sym (ap (verdictIn (x .types) (x .sets)) v) ∙ c .verdict in
         record {
@@ -117,6 +129,7 @@ session-accepted bytes ws a b r w x i s h c v f by = go (accepting bytes by r w 
                 results = callsOf (y .job) (callsIn ws);
                 actual = refl;
                 allowed = y .allowed (callsIn ws);
-                written = f (y .job) (y .ready) (y .code) ∙ fits (y .job) ws a h;
+                written = answers-are (y .job) _ _ ws a b _ _ f (ready-built (y .ready)) (y .code) ∙ fits (y .job) ws a h;
+                machine = last-is (y .job) _ _ ws a b _ _ f (ready-built (y .ready)) (y .code);
               };
         }

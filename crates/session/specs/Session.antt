@@ -7,16 +7,20 @@ use lib.ListN.{length, drop}
 use lib.Dec.{leb}
 use Rattle.order.specs.Effects.{Effect}
 use Rattle.syntax.specs.Types.{Ty}
-use Rattle.syntax.specs.Job.{Job}
+use Rattle.syntax.specs.Job.{Job, sourceOf}
 use Rattle.syntax.specs.Reading.{Refusal, read, reading}
 use Rattle.typing.specs.Verdict.{Verdict, accept, refuse}
 use Rattle.typing.specs.Tables.{Tables, verdictWith, tablesAfter}
+use Rattle.semantics.specs.Machine.{Machine as Clean}
+use Rattle.semantics.specs.Start.{startOf}
 use Rattle.semantics.specs.Calls.{Ran}
-use Rattle.semantics.specs.Demand3.{callsOf, Allowed}
-use Rattle.calls.specs.Words.{callsIn, resultWords}
-use Rattle.checker.specs.declared.Verdict.{Verdict as Answer}
-use Rattle.checker.specs.declared.Verdict.the-variants.{Accepted}
+use Rattle.semantics.specs.Demand3.{exprOf, callsOf, Allowed}
+use Rattle.machine.specs.View.{seen}
+use Rattle.calls.specs.Words.{callsIn, resultWords, lastOf}
+use Rattle.start.specs.Empty.{emptyMachine}
+use Rattle.checker.specs.declared.Verdict.the-variants.{Accepted, Refused}
 use Rattle.checker.specs.Answer.{verdictIn, lastIn}
+use Rattle.session.specs.declared.Held.{Held}
 
 -- the answers have two places for each call
 unfoldable pub roomFor : List ℕ → List ℕ → Bool
@@ -32,19 +36,30 @@ sessionTables true w s = tablesAfter w s
 sessionTables false w s = w
 
 -- the job that the bytes are; the results of the calls, each made on the machine that the last one gave, from the machine that starting the job gives; they are
--- what demand 3 allows; and their answers and counts are what is written, the places after them being as before
-pub record Answered (bytes words before after : List ℕ) : Type 0 where
+-- what demand 3 allows; their answers and counts are what is written, the places after them being as before; and the machine is the one that the last call gave
+pub record Answered (bytes words before after : List ℕ) (last : Clean) : Type 0 where
   pub job : Job
   pub is : reading bytes ≡ read job
   pub results : List Ran
   pub actual : results ≡ callsOf job (callsIn words)
   pub allowed : Allowed job (callsIn words) results
   pub written : after ≡ resultWords results ++ drop (2 * length words) before
+  pub machine : last ≡ lastOf (exprOf job) (callsIn words) (startOf (sourceOf job))
 
-pub record SessionTo (bytes words : List ℕ) (r : Answer) (w x : Tables) (before after : List ℕ) : Type 0 where
-  pub verdict : verdictIn (x .types) (x .sets) r ≡ sessionVerdict (roomFor words before) w bytes
+-- no call is made, and there is no machine but the empty one
+pub record Unanswered (before after : List ℕ) (last : Clean) : Type 0 where
+  pub written : after ≡ before
+  pub machine : last ≡ emptyMachine
+
+-- a session that is refused with a number and a place
+pub record RefusedWith (n p : ℕ) (r : Held) : Type 0 where
+  pub verdict : r .verdict ≡ Refused n p
+  pub machine : seen (r .machine) ≡ emptyMachine
+
+pub record SessionTo (bytes words : List ℕ) (r : Held) (w x : Tables) (before after : List ℕ) : Type 0 where
+  pub verdict : verdictIn (x .types) (x .sets) (r .verdict) ≡ sessionVerdict (roomFor words before) w bytes
   pub tables : x ≡ sessionTables (roomFor words before) w bytes
   -- the entry that an acceptance names is that of the last expression
-  pub entry : (i s : ℕ) → r ≡ Accepted i s → (J : Job) → reading bytes ≡ read J → i ≡ lastIn (x .entries) (length (J .cmds))
-  pub refused : (q : Refusal) → sessionVerdict (roomFor words before) w bytes ≡ refuse q → after ≡ before
-  pub accepted : (T : Ty) (e : Effect) → sessionVerdict (roomFor words before) w bytes ≡ accept T e → Answered bytes words before after
+  pub entry : (i s : ℕ) → r .verdict ≡ Accepted i s → (J : Job) → reading bytes ≡ read J → i ≡ lastIn (x .entries) (length (J .cmds))
+  pub refused : (q : Refusal) → sessionVerdict (roomFor words before) w bytes ≡ refuse q → Unanswered before after (seen (r .machine))
+  pub accepted : (T : Ty) (e : Effect) → sessionVerdict (roomFor words before) w bytes ≡ accept T e → Answered bytes words before after (seen (r .machine))

@@ -1,17 +1,21 @@
 // A whole session on a job's bytes: it is checked and, if it is accepted, started and called.
 use checker::Verdict;
 use job::Shape;
-ghost use mathlib.Core.Path.{_≡_};
-ghost use Prim.Native.Nat.{ℕ};
-ghost use Rattle.syntax.specs.Job.{Job};
+use machine::Machine;
 ghost use Rattle.syntax.specs.Words.{codeIn};
-ghost use Rattle.semantics.specs.Demand3.{exprOf, callsOf};
-ghost use Rattle.calls.specs.Words.{callsIn, resultWords, over};
+ghost use Rattle.machine.specs.View.{seen};
+ghost use Rattle.calls.specs.Made.{Made};
 ghost use Rattle.checker.specs.Answer.{tables};
-ghost use Rattle.begin.specs.Starts.{Ready};
-ghost use Rattle.session.specs.Session.{SessionTo};
+ghost use Rattle.begin.specs.Starts.{builtFrom};
+ghost use Rattle.session.specs.Session.{RefusedWith, SessionTo};
 
-// The calls on the machine at the start of the job that the tables hold.
+// The verdict, and the machine that the last call gave. The machine of a refused session is the empty one.
+pub struct Held {
+    pub verdict: Verdict,
+    pub machine: Machine,
+}
+
+// The calls on the machine at the start of the job that the tables hold. Returns the machine that the last one gave.
 fn answer(
     g: Shape,
     names: &[u16],
@@ -21,11 +25,22 @@ fn answer(
     slots: &[u16],
     calls: &[u64],
     answers: &mut [u64],
-)
-    ensures { λ _. ⌜ ((J : Job) → Ready J g (now (names .entry)) (now (types .entry)) (now (values .entry)) → ((i : ℕ) → codeIn (now (heads .entry)) (now (slots .entry)) i ≡ exprOf J i) → now (answers .exit) ≡ over (now (answers .entry)) (resultWords (callsOf J (callsIn (now (calls .entry)))))) ⌝ }
+) -> Machine
+    ensures { λ r. ⌜ Made (codeIn (now (heads .entry)) (now (slots .entry))) (now (calls .entry)) (builtFrom g (now (names .entry)) (now (types .entry)) (now (values .entry))) (now (answers .entry)) (now (answers .exit)) (seen r) ⌝ }
 {
     let m = begin::built(g, names, types, values);
-    calls::make_calls(m, heads, slots, calls, answers);
+    calls::make_calls(m, heads, slots, calls, answers)
+}
+
+// A session that makes no call.
+fn refused(n: u8, p: usize) -> Held
+    ensures { λ r. ⌜ RefusedWith n p r ⌝ }
+{
+    let m = begin::empty();
+    Held {
+        verdict: Verdict::Refused(n, p),
+        machine: m,
+    }
 }
 
 // The bytes are checked with the lent tables. An accepted job is started, and the calls are made, each on the machine that the last one gave: 0 is a step,
@@ -43,11 +58,11 @@ pub fn session(
     effects: &mut [u64],
     calls: &[u64],
     answers: &mut [u64],
-) -> Verdict
+) -> Held
     ensures { λ r. ⌜ SessionTo (now (job .entry)) (now (calls .entry)) r (tables (now (names .entry)) (now (types .entry)) (now (sets .entry)) (now (values .entry)) (now (heads .entry)) (now (slots .entry)) (now (entries .entry)) (now (effects .entry))) (tables (now (names .exit)) (now (types .exit)) (now (sets .exit)) (now (values .exit)) (now (heads .exit)) (now (slots .exit)) (now (entries .exit)) (now (effects .exit))) (now (answers .entry)) (now (answers .exit)) ⌝ }
 {
     if answers.len() / 2 < calls.len() {
-        return Verdict::Refused(1, 0);
+        return refused(1, 0);
     }
     let c = checker::check(
         job,
@@ -63,10 +78,13 @@ pub fn session(
     let v = c.verdict;
     let g = c.shape;
     match v {
-        Verdict::Refused(n, p) => Verdict::Refused(n, p),
+        Verdict::Refused(n, p) => refused(n, p),
         Verdict::Accepted(i, s) => {
-            answer(g, names, types, values, heads, slots, calls, answers);
-            Verdict::Accepted(i, s)
+            let m = answer(g, names, types, values, heads, slots, calls, answers);
+            Held {
+                verdict: Verdict::Accepted(i, s),
+                machine: m,
+            }
         }
     }
 }

@@ -1,41 +1,45 @@
--- The start of a job that lent tables hold.
+-- The start of the job that words hold, for all words.
 use mathlib.Core.Path.{_≡_}
-use Prim.Native.Nat.{ℕ, _+_, _<_, _≤_}
+use Prim.Native.Nat.{ℕ, _≤_}
+use mathlib.Core.Bool.{Bool, cond}
 use mathlib.Core.List.{List, map}
-use mathlib.Core.Option.{some}
-use lib.ListN.{length, getD, getElem?}
+use lib.ListN.{replicate}
+use lib.Dec.{leb, ltb}
+use Rattle.order.specs.Bools.{_and_}
 use Rattle.order.specs.Sets.{setOf}
 use Rattle.order.specs.Effects as effects
-use Rattle.syntax.specs.Types.{TypeEntry}
-use Rattle.syntax.specs.Job.{Name, HostValue, Job, Src, sourceOf}
-use Rattle.syntax.specs.Words.{nameWord, typeWord, valueWord}
-use Rattle.syntax.specs.ReadLaws.{JobOk}
+use Rattle.syntax.specs.Commands.{c-top}
+use Rattle.syntax.specs.Job.{Src}
+use Rattle.syntax.specs.Tree.{root}
 use Rattle.semantics.specs.Start.{named, keyNamed, valued}
+use Rattle.names.specs.Ancestors.{namesIn}
 use Rattle.store.specs.Meaning.{keysIn}
 use Rattle.store.specs.Words.{upIn, cellIn, linkIn}
 use Rattle.store.specs.Tables.{listOf}
+use Rattle.start.specs.Entries.{valuesFrom}
+use Rattle.start.specs.Empty.{noJob}
 use Rattle.start.specs.declared.Started.{Started}
 
--- the tables hold the words of J; a host value's number is one of four bytes
-pub record Holds (J : Job) (names : List ℕ) (nnames : ℕ) (types values : List ℕ) (nvalues rights : ℕ) : Type 0 where
-  pub all-names : nnames ≡ length (J .names)
-  pub all-values : nvalues ≡ length (J .values)
-  pub its-rights : rights ≡ J .rights
-  pub name : (i : ℕ) (d : Name) → getElem? (J .names) i ≡ some d → getD names (2 + i) 0 ≡ nameWord d
-  pub type : (i : ℕ) (e : TypeEntry) → getElem? (J .types) i ≡ some e → getD types i 0 ≡ typeWord e
-  pub value : (i : ℕ) (h : HostValue ℕ) → getElem? (J .values) i ≡ some h → getD values i 0 ≡ valueWord h
-  pub number : (i : ℕ) (h : HostValue ℕ) → getElem? (J .values) i ≡ some h → h .init < 4294967296
+-- what the start looks at in a job, by its words: its names, its host values, its rights, and how many expressions it has; which they are is not looked at
+unfoldable pub wordSource : List ℕ → ℕ → List ℕ → List ℕ → ℕ → ℕ → ℕ → Src
+wordSource names nnames types values nvalues rights cmds =
+    record { names = namesIn names nnames; values = valuesFrom types values 0 nvalues; rights = rights; cmds = replicate cmds c-top }
 
--- the tables are those of the start of S
-pub record Begins (S : Src) (r : Started) : Type 0 where
+-- counts that a job can have
+unfoldable pub isJob : ℕ → ℕ → ℕ → Bool
+isJob nnames nvalues cmds = leb nnames 62 and leb nvalues 64 and ltb 0 cmds and leb cmds 512
+
+-- the job that the words hold; none where the counts are no job's
+unfoldable pub sourceIn : List ℕ → ℕ → List ℕ → List ℕ → ℕ → ℕ → ℕ → Src
+sourceIn names nnames types values nvalues rights cmds = cond (isJob nnames nvalues cmds) (wordSource names nnames types values nvalues rights cmds) noJob
+
+-- the tables are those of the start of S, and the counts are within the rooms
+pub record Begun (S : Src) (r : Started) : Type 0 where
   pub keys : listOf upIn (r .keys) (r .nkeys) ≡ named S .keys
   pub cells : listOf cellIn (r .cells) (r .ncells) ≡ valued S .cells
   pub bindings : listOf linkIn (r .bindings) (r .nbindings) ≡ valued S .bindings
   pub on : keysIn (r .on) ≡ setOf (map (keyNamed S) (effects.names (S .rights)))
-
--- what the start gives: counts within the rooms and, for a job that the tables hold, the tables of its start
-pub record Begun (names : List ℕ) (nnames : ℕ) (types values : List ℕ) (nvalues rights : ℕ) (r : Started) : Type 0 where
+  pub its-root : r .root ≡ root S
   pub few-keys : r .nkeys ≤ 128
   pub few-cells : r .ncells ≤ 64
   pub few-bindings : r .nbindings ≤ 126
-  pub begins : (J : Job) → JobOk J → Holds J names nnames types values nvalues rights → Begins (sourceOf J) r

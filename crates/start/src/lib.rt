@@ -4,14 +4,15 @@ ghost use mathlib.Core.List.{map};
 ghost use Prim.Native.Nat.{_<_, _≤_, _+_};
 ghost use Rattle.order.specs.Sets.{setOf};
 ghost use Rattle.order.specs.Effects as effects;
+ghost use Rattle.syntax.specs.Tree.{past};
 ghost use Rattle.semantics.specs.Machine.{unkeyed, k-num};
 ghost use Rattle.semantics.specs.Start.{hostValue};
 ghost use Rattle.names.specs.Ancestors.{namesIn};
 ghost use Rattle.store.specs.Meaning.{keysIn, valueIn};
 ghost use Rattle.store.specs.Words.{upIn, cellIn};
-ghost use Rattle.store.specs.Tables.{Stored, Wrote, capped};
+ghost use Rattle.store.specs.Tables.{Stored, Wrote};
 ghost use Rattle.start.specs.Entries.{keyIn, headOf, NameEntered, NamesEntered, ValueEntered, ValuesEntered, Within};
-ghost use Rattle.start.specs.Begun.{Begun};
+ghost use Rattle.start.specs.Begun.{wordSource, isJob, sourceIn, Begun};
 use store::Key;
 use store::Keys;
 use store::Kind;
@@ -25,13 +26,7 @@ pub struct Started {
     pub ncells: u16,
     pub nbindings: u16,
     pub on: Keys,
-}
-
-// The smaller of two counts.
-fn few(n: usize, most: usize) -> usize
-    ensures { λ r. ⌜ (r ≡ capped n most) × (r ≤ most) ⌝ }
-{
-    if n < most { n } else { most }
+    pub root: u16,
 }
 
 // The key of name q, of n names; 0 for a number that is no name.
@@ -215,8 +210,76 @@ fn enabled_keys(of: &[u8; 64], n: usize, nkeys: u16, rights: u64) -> Keys
     on
 }
 
-// The start of a job, by the words of its names, types and host values, and its rights.
-// For tables that hold no job the result is free, but that the counts are within the rooms.
+// The last of so many expressions.
+fn last(cmds: usize) -> u16
+    requires { ⌜ cmds ≤ 512 ⌝ }
+    ensures { λ r. ⌜ r ≡ past cmds ⌝ }
+{
+    if cmds == 0 {
+        return 0;
+    }
+    (cmds - 1) as u16
+}
+
+// The start by the words of so many names, types and host values, with counts within the limits.
+fn entered(
+    names: &[u16],
+    nnames: usize,
+    types: &[u64],
+    values: &[u64],
+    nvalues: usize,
+    rights: u64,
+    cmds: usize,
+) -> Started
+    requires { ⌜ (nnames ≤ 62) × (nvalues ≤ 64) × (cmds ≤ 512) ⌝ }
+    ensures { λ r. ⌜ Begun (wordSource (now (names .entry)) nnames (now (types .entry)) (now (values .entry)) nvalues rights cmds) r ⌝ }
+{
+    let mut keys = [0u8; 128];
+    let mut of = [0u8; 64];
+    let mut cells = [0u64; 256];
+    let mut bindings = [0u64; 2048];
+    let nkeys = enter_names(names, nnames, &mut keys, &mut of, &mut bindings);
+    let first = nkeys - 2;
+    let ncells = enter_values(
+        types,
+        values,
+        nvalues,
+        &of,
+        nnames + 2,
+        first,
+        &mut cells,
+        &mut bindings,
+    );
+    let on = enabled_keys(&of, nnames + 2, nkeys, rights);
+    Started {
+        keys: keys,
+        cells: cells,
+        bindings: bindings,
+        nkeys: nkeys,
+        ncells: ncells,
+        nbindings: first + (nvalues as u16),
+        on: on,
+        root: last(cmds),
+    }
+}
+
+// Whether so many names, host values and expressions can be those of a job.
+fn is_job(nnames: usize, nvalues: usize, cmds: usize) -> bool
+    ensures { λ r. ⌜ r ≡ isJob nnames nvalues cmds ⌝ }
+{
+    if 62 < nnames {
+        return false;
+    }
+    if 64 < nvalues {
+        return false;
+    }
+    if cmds == 0 {
+        return false;
+    }
+    cmds <= 512
+}
+
+// The start of the job that the words hold. Where the counts are no job's, nothing is entered and nothing is enabled.
 pub fn begin(
     names: &[u16],
     nnames: usize,
@@ -224,35 +287,12 @@ pub fn begin(
     values: &[u64],
     nvalues: usize,
     rights: u64,
+    cmds: usize,
 ) -> Started
-    ensures { λ r. ⌜ Begun (now (names .entry)) nnames (now (types .entry)) (now (values .entry)) nvalues rights r ⌝ }
+    ensures { λ r. ⌜ Begun (sourceIn (now (names .entry)) nnames (now (types .entry)) (now (values .entry)) nvalues rights cmds) r ⌝ }
 {
-    let n = few(nnames, 62);
-    let m = few(nvalues, 64);
-    let mut keys = [0u8; 128];
-    let mut of = [0u8; 64];
-    let mut cells = [0u64; 256];
-    let mut bindings = [0u64; 2048];
-    let nkeys = enter_names(names, n, &mut keys, &mut of, &mut bindings);
-    let first = nkeys - 2;
-    let ncells = enter_values(
-        types,
-        values,
-        m,
-        &of,
-        n + 2,
-        first,
-        &mut cells,
-        &mut bindings,
-    );
-    let on = enabled_keys(&of, n + 2, nkeys, rights);
-    Started {
-        keys: keys,
-        cells: cells,
-        bindings: bindings,
-        nkeys: nkeys,
-        ncells: ncells,
-        nbindings: first + (m as u16),
-        on: on,
+    if is_job(nnames, nvalues, cmds) {
+        return entered(names, nnames, types, values, nvalues, rights, cmds);
     }
+    entered(names, 0, types, values, 0, 0, 0)
 }

@@ -1,5 +1,7 @@
 use Rattle.begin.proofs.Building.{ready}
 use Rattle.begin.proofs.Tables.{judged-tree, judged-refused}
+use mathlib.Core.Path.{_∙_}
+use Rattle.begin.specs.Starts.{ready-built}
 use borrow.Author.Needs.{needs}
 use Rattle.begin.proofs.judged.Statement.{statement}
 use Rattle.begin.proofs.judged.Tie as tie
@@ -64,7 +66,7 @@ same-length-6 c = search needs
 
 -- src/lib.rt:120:1
 returns : tie.Need-returns
-returns c = λ J kn kt ks kv kh kp l. judged-tree _ _ l (c .before .before .before .before .before .before .tree .ensures .0) (c .before .before .before .before .enum-told .given .1) (c .built .ensures J (ready l))
+returns c = λ J kn kt ks kv kh kp l. judged-tree _ _ l (c .before .before .before .before .before .before .tree .ensures .0) (c .before .before .before .before .enum-told .given .1) (c .built .ensures ∙ ready-built (ready l))
 
 -- src/lib.rt:120:1
 same-length-7 : tie.Need-same-length-7
@@ -92,7 +94,7 @@ same-length-12 c = search needs
 
 -- src/lib.rt:120:1
 returns-2 : tie.Need-returns-2
-returns-2 c = λ J kn kt ks kv kh kp l. judged-refused _ _ l (c .before .before .before .before .before .before .before .before .before .before .before .before .before .before .before .before .before .before .before .before .before .before .before .before .tree .ensures .0) _ _ _ _ _ _ _ _ (c .before .before .before .before .before .before .before .before .before .before .before .before .before .before .before .before .before .before .before .before .before .before .a .given .1) (c .before .before .before .before .before .before .before .before .before .before .before .before .before .clear-all .ensures)
+returns-2 c = λ J kn kt ks kv kh kp l. judged-refused _ _ l (c .before .before .before .before .before .before .before .before .before .before .before .before .before .before .before .before .before .before .before .before .before .before .before .before .tree .ensures .0) _ _ _ _ _ _ _ _ (c .before .before .before .before .before .before .before .before .before .before .before .before .before .before .before .before .before .before .before .before .before .before .a .given .1) (c .empty .ensures) (c .before .before .before .before .before .before .before .before .before .before .before .before .before .clear-all .ensures)
 
 pub judged-spec : {M : Type 1} → statement M
 judged-spec =

@@ -88,7 +88,7 @@ same-length-12 c = search needs
 
 -- src/lib.rt:153:1
 returns-2 : tie.Need-returns-2
-returns-2 c = start-refused (c .before .before .before .before .before .before .before .before .before .before .before .before .before .before .before .before .read .ensures) _ _ (c .before .before .a2 .given .1)
+returns-2 c = start-refused (c .before .before .before .before .before .before .before .before .before .before .before .before .before .before .before .before .read .ensures) _ _ (c .before .before .a2 .given .1) (c .empty .ensures)
 
 pub start-spec : {M : Type 1} → statement M
 start-spec =

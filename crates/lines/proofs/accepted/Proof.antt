@@ -2,6 +2,7 @@ use mathlib.Core.Path.{ap, _∙_}
 use Rattle.checker.specs.Answer.{treeOf}
 use Rattle.report.specs.Text.{acceptedAs}
 use Rattle.lines.proofs.Prints.{sort-is, done-at-end, ran-line, accepted-ran}
+use Rattle.begin.specs.Starts.{ready-built}
 use borrow.Author.Needs.{needs}
 use Rattle.lines.proofs.accepted.Statement.{statement}
 use Rattle.lines.proofs.accepted.Tie as tie
@@ -45,7 +46,7 @@ returns c =
     (c .ended .ensures (treeOf (c .before .before .before .before .before .before .before .before .before .before .before .args .types .now) sets (c .before .before .before .before .before .before .before .before .before .before .before .args .i)) (c .before .before .before .before .before .before .before .before .before .before .before .args .s)
     (c .before .before .before .accepted .ensures ∙ ap (acceptedAs (c .before .before .before .before .before .before .before .before .before .before .before .args .s)) (sort-is (c .before .before .before .before .before .before .before .before .before .before .before .args .types .now) sets (c .before .before .before .before .before .before .before .before .before .before .before .args .i) _ _ (c .before .before .before .before .type-sort .ensures) (c .before .before .before .before .before .at64 .ensures)))
     (done-at-end _ _ _ _ _ (c .before .run .ensures)))
-    (ran-line J _ _ _ _ (c .before .run .ensures) (c .before .before .built .ensures J y) k)
+    (ran-line J _ _ _ _ (c .before .run .ensures) (c .before .before .built .ensures ∙ ready-built y) k)
 
 pub accepted-spec : {M : Type 1} → statement M
 accepted-spec =
