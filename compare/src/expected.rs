@@ -1,7 +1,6 @@
 //! What the second implementation gives, in the proved code's words.
 
-use second::machine::MachineWith;
-use second::{Answer, Outcome, Rooms};
+use second::{Answer, Machine, Outcome, Rooms};
 
 use crate::proved::STEP;
 
@@ -31,7 +30,7 @@ pub fn answer(answer: Answer) -> u64 {
 }
 
 /// Makes the calls, and gives an answer and the steps taken for each.
-pub fn run<const FAULT: u32>(machine: &mut MachineWith<FAULT>, calls: &[u64]) -> Vec<u64> {
+pub fn run(machine: &mut Machine, calls: &[u64]) -> Vec<u64> {
     let mut answers = Vec::with_capacity(2 * calls.len());
     for &call in calls {
         answers.extend(match call {

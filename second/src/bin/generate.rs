@@ -7,7 +7,6 @@
 use std::collections::BTreeMap;
 use std::process::ExitCode;
 
-use second::fault::NONE;
 use second::generate::job;
 use second::observe::observe;
 use second::{Expr, Outcome, desk, read, to_hex};
@@ -16,7 +15,7 @@ fn coverage(count: u64, seed: u64) -> ExitCode {
     let mut reached: BTreeMap<String, u64> = BTreeMap::new();
     for seed in seed..seed + count {
         let (source, job) = job(seed);
-        let seen = observe::<NONE>(&job, &[100_000]);
+        let seen = observe(&job, &[100_000]);
         let mut reach = |what: String| *reached.entry(what).or_default() += 1;
         let verdict = match &seen.verdict {
             Ok(accepted) => {
@@ -87,7 +86,7 @@ fn main() -> ExitCode {
             let steps = number(3, 1000);
             for seed in seed..seed + count {
                 let (_, job) = job(seed);
-                if let Ok(runs) = observe::<NONE>(&job, &[steps]).runs {
+                if let Ok(runs) = observe(&job, &[steps]).runs {
                     println!("{}\t{steps}\t{}", to_hex(&job), runs[0]);
                 }
             }

@@ -1,4 +1,6 @@
-//! The proved code against the second implementation with a fault.
+//! Compares the proved code with the second implementation with one fault after another.
+//!
+//! `faults [COUNT] [SEED]` fails if a fault makes no difference.
 
 use std::process::ExitCode;
 
@@ -6,10 +8,10 @@ use compare::expected;
 use compare::probe::probe;
 use compare::proved::{self, Tables, run_of};
 use compare::words::{kind, set_word, type_word};
-use second::fault::{ALL, NONE, observe};
 use second::generate::{Rng, job};
-use second::observe::Seen;
+use second::observe::{Seen, observe};
 use second::{Kind, read};
+use second_faults::ALL;
 
 /// What is seen of a job on either side.
 #[derive(PartialEq, Eq)]
@@ -93,7 +95,7 @@ fn cases(seed: u64, tables: &mut Tables, cases: &mut Vec<Case>) {
     let mut next = Some(job(seed).1);
     for _ in 0..3 {
         let Some(job) = next.take() else { return };
-        let whole = observe(NONE, &job, &[100_000]);
+        let whole = observe(&job, &[100_000]);
         let (mut taken, mut result) = (0, None);
         if let Ok(runs) = whole.runs {
             (taken, result) = (runs[0].steps, runs[0].result);
@@ -105,31 +107,44 @@ fn cases(seed: u64, tables: &mut Tables, cases: &mut Vec<Case>) {
     }
 }
 
+/// Whether what is seen of a job by the second implementation is not what the proved code does.
+fn differs(case: &Case, seen: Seen) -> bool {
+    second(&seen) != case.proved
+}
+
 /// Looks for a difference with each fault, on the jobs of so many seeds.
-pub fn all(count: u64, seed: u64) -> ExitCode {
+fn all(count: u64, seed: u64) -> ExitCode {
     let mut list = Vec::new();
     let mut tables = Tables::least();
     for seed in seed..seed.saturating_add(count) {
         cases(seed, &mut tables, &mut list);
     }
     list.sort_by_key(|case| case.job.len());
-    let differs = |fault: u32| {
-        move |case: &&Case| second(&observe(fault, &case.job, &case.steps)) != case.proved
-    };
-    if let Some(case) = list.iter().find(differs(NONE)) {
+    if let Some(case) = list.iter().find(|case| differs(case, observe(&case.job, &case.steps))) {
         println!("difference without a fault\njob: {}", second::to_hex(&case.job));
         return ExitCode::FAILURE;
     }
     let mut missed = 0;
-    for &(fault, text) in ALL {
-        match list.iter().find(differs(fault)) {
-            Some(case) => println!("caught {fault:3} by {:5} bytes: {text}", case.job.len()),
+    for fault in ALL {
+        let (number, text) = (fault.number, fault.text);
+        match list.iter().find(|case| differs(case, fault.observe(&case.job, &case.steps))) {
+            Some(case) => println!("caught {number:3} by {:5} bytes: {text}", case.job.len()),
             None => {
                 missed += 1;
-                println!("MISSED {fault:3}: {text}");
+                println!("MISSED {number:3}: {text}");
             }
         }
     }
     println!("{} caught, {missed} missed, with {} jobs", ALL.len() - missed, list.len());
     ExitCode::from((missed > 0) as u8)
+}
+
+fn main() -> ExitCode {
+    match compare::arguments() {
+        Some([count, seed]) => all(count.unwrap_or(10_000), seed.unwrap_or(1)),
+        None => {
+            eprintln!("usage: faults [COUNT] [SEED]");
+            ExitCode::from(2)
+        }
+    }
 }
