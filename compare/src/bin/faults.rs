@@ -6,10 +6,11 @@ use std::process::ExitCode;
 
 use compare::expected;
 use compare::probe::probe;
-use compare::proved::{self, Tables, run_of};
+use compare::proved::{self, Tables};
 use compare::words::{kind, set_word, type_word};
+use jobdesk::Call;
 use second::generate::{Rng, job};
-use second::observe::{Seen, observe};
+use second::observe::{Ran, Seen, observe};
 use second::{Kind, read};
 use second_faults::ALL;
 
@@ -51,11 +52,10 @@ fn proved(job: &[u8], steps: &[u64], tables: &mut Tables) -> Observed {
         }
         (number, [place, _]) => Verdict::Refused(number, place),
     };
-    let calls: Vec<u64> = steps.iter().map(|&steps| run_of(steps)).collect();
-    let mut answers = vec![0; 2 * calls.len()];
-    let runs = match proved::run(job, tables, &calls, &mut answers) {
-        (0, rooms) => Ok((answers, rooms)),
-        (number, rooms) => Err((number, rooms[0])),
+    let calls: Vec<Call> = steps.iter().map(|&steps| Call::Run(steps)).collect();
+    let runs = match proved::run(job, tables, &calls, 0) {
+        (0, answers, rooms) => Ok((answers, rooms)),
+        (number, _, rooms) => Err((number, rooms[0])),
     };
     Observed { verdict, runs }
 }
@@ -74,8 +74,8 @@ fn second(seen: &Seen) -> Observed {
     };
     let runs = match &seen.runs {
         Ok(runs) => {
-            let answers =
-                runs.iter().flat_map(|run| [expected::outcome(run.outcome), run.steps]).collect();
+            let answer = |run: &Ran| [expected::outcome(run.outcome).number(), run.steps];
+            let answers = runs.iter().flat_map(answer).collect();
             Ok((answers, runs.last().map_or([0; 6], |run| expected::rooms(run.rooms))))
         }
         Err(refusal) => Err((refusal.number as u64, refusal.place as u64)),
