@@ -44,37 +44,43 @@ fn medium() -> Job {
         types.push(Type::unkeyed(Shape::Function(0, 0, 1 << (2 + turn % 8 / 2))));
     }
     let hosts = (1..17).map(|ty| HostValue { ty, number: 0 }).collect();
-    let mut exprs: Vec<Expr> = Vec::new();
+    let mut exprs = vec![Expr::Number(1)];
+    let mut sum = 0;
+    for number in 0..TURNS {
+        sum = turn(&mut exprs, number, functions + number as u16, sum);
+    }
+    Job { names, types, hosts, rights: 1 << 2, exprs, ..Job::default() }
+}
+
+/// One turn of the medium job, after a sum of the last one; gives the new sum. The type is that of
+/// the function that it puts into a cell.
+fn turn(exprs: &mut Vec<Expr>, turn: u8, function: u16, sum: u16) -> u16 {
     let mut add = |expr| {
         exprs.push(expr);
         exprs.len() as u16 - 1
     };
-    let mut sum = add(Expr::Number(1));
-    for turn in 0..TURNS {
-        let name = turn % 8;
-        // A limit around the read of a keyed cell.
-        let key = add(Expr::Variable(2 * name + 1));
-        let cell = add(Expr::Variable(2 * name));
-        let read = add(Expr::Read(cell));
-        let limited = add(Expr::Limit(1, [key, UNUSED, UNUSED, UNUSED], read));
-        // A cell that holds a function with less effect than its type allows, read and called.
-        let variable = 16 + turn;
-        let own = add(Expr::Variable(variable));
-        let host = add(Expr::Variable(2 * name));
-        let assigned = add(Expr::Assign(host, own));
-        let made = add(Expr::Function(variable, 0, assigned));
-        let held = add(Expr::NewCell(functions + turn as u16, made));
-        let found = add(Expr::Read(held));
-        let called = add(Expr::Apply(found, limited));
-        // A pair and its part, and a test.
-        let pair = add(Expr::Pair(called, sum));
-        let part = add(Expr::Part(pair, 2));
-        let (yes, no) = (add(Expr::Number(2)), add(Expr::Number(3)));
-        let tested = add(Expr::Test(part, yes, no, 0));
-        let one = add(Expr::Number(1));
-        sum = add(Expr::Difference(tested, one));
-    }
-    Job { names, types, hosts, rights: 1 << 2, exprs, ..Job::default() }
+    let name = turn % 8;
+    // A limit around the read of a keyed cell.
+    let key = add(Expr::Variable(2 * name + 1));
+    let cell = add(Expr::Variable(2 * name));
+    let read = add(Expr::Read(cell));
+    let limited = add(Expr::Limit(1, [key, UNUSED, UNUSED, UNUSED], read));
+    // A cell that holds a function with less effect than its type allows, read and called.
+    let variable = 16 + turn;
+    let own = add(Expr::Variable(variable));
+    let host = add(Expr::Variable(2 * name));
+    let assigned = add(Expr::Assign(host, own));
+    let made = add(Expr::Function(variable, 0, assigned));
+    let held = add(Expr::NewCell(function, made));
+    let found = add(Expr::Read(held));
+    let called = add(Expr::Apply(found, limited));
+    // A pair and its part, and a test.
+    let pair = add(Expr::Pair(called, sum));
+    let part = add(Expr::Part(pair, 2));
+    let (yes, no) = (add(Expr::Number(2)), add(Expr::Number(3)));
+    let tested = add(Expr::Test(part, yes, no, 0));
+    let one = add(Expr::Number(1));
+    add(Expr::Difference(tested, one))
 }
 
 /// Every section full of the longest commands that can stand there together.

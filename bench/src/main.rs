@@ -10,7 +10,7 @@ use std::hint::black_box;
 use std::process::ExitCode;
 use std::time::Instant;
 
-use compare::proved::{self, Tables, run_of};
+use jobdesk::{Call, Tables};
 use second::Machine;
 
 /// The steps of a run.
@@ -38,14 +38,16 @@ struct Work {
 
 impl Work {
     fn new(what: What, job: Vec<u8>) -> Self {
-        Work { what, job, tables: Tables::least() }
+        Work { what, job, tables: Tables::new() }
     }
 
     /// Does it once. The result is the same for both: a refusal's number, and the steps taken.
     fn once(&mut self, who: Who) -> (u64, u64) {
         let job = black_box(&self.job[..]);
         match (who, self.what) {
-            (Who::Proved, What::Check) => (proved::check(job, &mut self.tables).0, 0),
+            (Who::Proved, What::Check) => {
+                (self.tables.check(job).map_or_else(|refusal| refusal.number as u64, |_| 0), 0)
+            }
             (Who::Second, What::Check) => {
                 // The tables are part of the result.
                 let verdict = black_box(second::check(job));
@@ -54,10 +56,11 @@ impl Work {
             (Who::Proved, What::Run(steps)) => {
                 let mut answers = [0; 2];
                 let count = (steps > 0) as usize;
-                let calls = &[run_of(steps)][..count];
-                let answers = &mut answers[..2 * count];
-                let (number, _) = proved::run(job, &mut self.tables, calls, answers);
-                (number, answers.get(1).copied().unwrap_or(0))
+                let calls = &[Call::Run(steps).word()][..count];
+                match self.tables.run_words(job, calls, &mut answers[..2 * count]) {
+                    Ok(_) => (0, answers[1]),
+                    Err(refusal) => (refusal.number as u64, 0),
+                }
             }
             (Who::Second, What::Run(steps)) => match Machine::start(job) {
                 Ok(mut machine) => {

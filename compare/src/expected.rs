@@ -1,49 +1,45 @@
 //! What the second implementation gives, in the proved code's words.
 
-use second::machine::MachineWith;
-use second::{Answer, Outcome, Rooms};
+use jobdesk::{Answer, Call};
+use second::{Machine, Outcome, Rooms};
 
-use crate::proved::STEP;
-
-/// The word for each answer, by its number.
-pub const ANSWERS: [&str; 6] = ["taken", "done", "spent", "no room", "stuck", "denied"];
-
-/// The number of an outcome.
-pub fn outcome(outcome: Outcome) -> u64 {
+/// The answer that an outcome of a run is.
+pub fn outcome(outcome: Outcome) -> Answer {
     match outcome {
-        Outcome::Done => 1,
-        Outcome::Spent => 2,
-        Outcome::NoRoom => 3,
-        Outcome::Stuck => 4,
-        Outcome::Denied => 5,
+        Outcome::Done => Answer::Done,
+        Outcome::Spent => Answer::Spent,
+        Outcome::NoRoom => Answer::NoRoom,
+        Outcome::Stuck => Answer::Stuck,
+        Outcome::Denied => Answer::Denied,
     }
 }
 
-/// The number of a step's answer.
-pub fn answer(answer: Answer) -> u64 {
+/// The answer that a step's answer is.
+fn answer(answer: second::Answer) -> Answer {
     match answer {
-        Answer::Taken => 0,
-        Answer::Done => 1,
-        Answer::NoRoom => 3,
-        Answer::Stuck => 4,
-        Answer::Denied => 5,
+        second::Answer::Taken => Answer::Taken,
+        second::Answer::Done => Answer::Done,
+        second::Answer::NoRoom => Answer::NoRoom,
+        second::Answer::Stuck => Answer::Stuck,
+        second::Answer::Denied => Answer::Denied,
     }
 }
 
 /// Makes the calls, and gives an answer and the steps taken for each.
-pub fn run<const FAULT: u32>(machine: &mut MachineWith<FAULT>, calls: &[u64]) -> Vec<u64> {
+pub fn run(machine: &mut Machine, calls: &[Call]) -> Vec<u64> {
     let mut answers = Vec::with_capacity(2 * calls.len());
     for &call in calls {
-        answers.extend(match call {
-            STEP => {
+        let (answer, steps) = match call {
+            Call::Step => {
                 let answer = answer(machine.step());
-                [answer, (answer == 0) as u64]
+                (answer, (answer == Answer::Taken) as u64)
             }
-            _ => {
-                let (ended, taken) = machine.run(call - 1);
-                [outcome(ended), taken]
+            Call::Run(steps) => {
+                let (ended, taken) = machine.run(steps);
+                (outcome(ended), taken)
             }
-        });
+        };
+        answers.extend([answer.number(), steps]);
     }
     answers
 }

@@ -3,10 +3,11 @@
 use std::collections::BTreeMap;
 use std::process::ExitCode;
 
-use compare::expected::{self, ANSWERS};
+use compare::expected;
 use compare::probe::probe;
-use compare::proved::{self, LENGTHS, RUN_TABLES, STEP, Tables, run_of};
+use compare::proved::{self, RUN_TABLES, Tables};
 use compare::words::{Words, kind, words};
+use jobdesk::{Answer, Call, LENGTHS};
 use second::generate::{Rng, job};
 use second::{Machine, Refusal, check, read, to_hex, tree};
 
@@ -67,14 +68,12 @@ fn wanted() -> Vec<String> {
     for kind in ["number", "pair", "cell", "function", "limit", "grant"] {
         wanted.push(format!("accepted as {kind}"));
     }
-    for answer in ANSWERS {
-        match answer {
-            "taken" => {}
-            _ => wanted.push(format!("run answers {answer}")),
+    for answer in Answer::ALL {
+        if answer != Answer::Taken {
+            wanted.push(format!("run answers {}", answer.words()));
         }
-        match answer {
-            "spent" => {}
-            _ => wanted.push(format!("step answers {answer}")),
+        if answer != Answer::Spent {
+            wanted.push(format!("step answers {}", answer.words()));
         }
     }
     for room in ["cells", "keys", "pairs", "functions", "frames", "bindings"] {
@@ -155,9 +154,9 @@ fn compare_short(job: &[u8], rng: &mut Rng, met: &mut Met) -> Result<(), String>
             same("check with a short table", verdict, (1, [0, 0]))?;
             met.meet("refused  1".to_string());
         } else {
-            let mut answers = [0; 2];
-            let (number, rooms) = proved::run(job, &mut tables, &[STEP], &mut answers);
+            let (number, answers, rooms) = proved::run(job, &mut tables, &[Call::Step], 7);
             same("run with a short table", (number, rooms[0]), (1, 0))?;
+            same("no answers with a short table", answers, vec![7; 2])?;
             met.meet("not started  1".to_string());
         }
         same_tables(what, tables.differs(&before, &Words::default(), 0))?;
@@ -166,34 +165,25 @@ fn compare_short(job: &[u8], rng: &mut Rng, met: &mut Met) -> Result<(), String>
 }
 
 /// Some calls for a machine that ends, or is left, after so many steps.
-fn calls(rng: &mut Rng, taken: u64, ended: bool) -> Vec<u64> {
+fn calls(rng: &mut Rng, taken: u64, ended: bool) -> Vec<Call> {
+    use Call::{Run, Step};
     let half = taken / 2;
     match rng.below(6) {
         0 => {
             // An ended machine can be asked for any number of steps.
             let many = if ended { rng.pick(&[taken + 1, 1 << 32, u64::MAX - 1]) } else { taken };
-            vec![run_of(many), STEP, run_of(0), run_of(5), STEP]
+            vec![Run(many), Step, Run(0), Run(5), Step]
         }
-        1 => vec![
-            run_of(0),
-            run_of(half),
-            STEP,
-            STEP,
-            run_of(taken - half),
-            run_of(0),
-            STEP,
-            run_of(2),
-            STEP,
-        ],
-        2 => vec![run_of(taken), run_of(0), STEP, run_of(1), STEP],
-        3 => vec![run_of(taken.saturating_sub(1)), run_of(0), STEP, STEP, run_of(3)],
-        4 if taken <= 300 => vec![STEP; taken as usize + 2],
+        1 => vec![Run(0), Run(half), Step, Step, Run(taken - half), Run(0), Step, Run(2), Step],
+        2 => vec![Run(taken), Run(0), Step, Run(1), Step],
+        3 => vec![Run(taken.saturating_sub(1)), Run(0), Step, Step, Run(3)],
+        4 if taken <= 300 => vec![Step; taken as usize + 2],
         _ => (0..1 + rng.below(40))
             .map(|_| match rng.below(4) {
-                0 => STEP,
-                1 => run_of(rng.below(4) as u64),
-                2 => run_of(rng.below(taken as usize + 2) as u64),
-                _ => run_of(rng.below(40) as u64),
+                0 => Step,
+                1 => Run(rng.below(4) as u64),
+                2 => Run(rng.below(taken as usize + 2) as u64),
+                _ => Run(rng.below(40) as u64),
             })
             .collect(),
     }
@@ -208,46 +198,66 @@ fn compare_run(
 ) -> Result<Option<Vec<u8>>, String> {
     let mut tables = Tables::dirty(long_enough(rng), rng);
     let before = tables.clone();
-    let started = read(job).and_then(|job| tree(&job).map(|()| job));
-    let read = match started {
+    let read = match read(job).and_then(|job| tree(&job).map(|()| job)) {
         Ok(read) => read,
-        Err(Refusal { number, place }) => {
-            let mut answers = [0; 4];
-            let (proved, rooms) = proved::run(job, &mut tables, &[STEP, STEP], &mut answers);
-            same("start", (proved, rooms[0]), (number as u64, place as u64))?;
-            met.meet(format!("not started {number:2}"));
-            let words = Words::default();
-            same_tables("after no start", tables.differs(&before, &words, RUN_TABLES))?;
+        Err(refusal) => {
+            compare_refused_run(job, refusal, &mut tables, met)?;
             return Ok(None);
         }
     };
-    let start = Machine::of(&read);
-    let mut whole = start.clone();
+    let mut machine = Machine::of(&read);
+    let mut whole = machine.clone();
     let most = if rng.chance(6) { MORE_STEPS } else { STEPS };
     let (_, taken) = whole.run(most);
     let calls = calls(rng, taken, taken < most);
-    let mut machine = start;
     let second = expected::run(&mut machine, &calls);
-    let mut answers = vec![0xDEAD; second.len()];
-    let (proved, rooms) = proved::run(job, &mut tables, &calls, &mut answers);
+    let (proved, answers, rooms) = proved::run(job, &mut tables, &calls, 0xDEAD);
     same("start", proved, 0)?;
     same(&format!("answers to calls {calls:?}"), &answers, &second)?;
     same(&format!("rooms after calls {calls:?}"), rooms, expected::rooms(machine.rooms()))?;
     let words = words(&read, &read.types, &[]);
     same_tables("after a run", tables.differs(&before, &words, RUN_TABLES))?;
-    for (call, answer) in calls.iter().zip(answers.chunks(2)) {
-        let call = if *call == STEP { "step" } else { "run" };
-        met.steps += answer[1];
-        let answer = ANSWERS[answer[0] as usize];
-        met.meet(format!("{call} answers {answer}"));
-        if accepted && matches!(answer, "stuck" | "denied") {
-            return Err(format!("an accepted job is {answer}"));
-        }
-    }
-    if answers[answers.len() - 2] == 3
+    let last = meet_answers(&calls, &answers, accepted, met)?;
+    if last == Some(Answer::NoRoom)
         && let [room] = machine.rooms().full()[..]
     {
         met.meet(format!("no room in {room} alone"));
     }
     Ok(whole.result().and_then(|value| probe(&read, value, rng)))
+}
+
+/// A run of a job that is not started.
+fn compare_refused_run(
+    job: &[u8],
+    Refusal { number, place }: Refusal,
+    tables: &mut Tables,
+    met: &mut Met,
+) -> Result<(), String> {
+    let before = tables.clone();
+    let (proved, answers, rooms) = proved::run(job, tables, &[Call::Step, Call::Step], 7);
+    same("start", (proved, rooms[0]), (number as u64, place as u64))?;
+    same("no answers without a start", answers, vec![7; 4])?;
+    met.meet(format!("not started {number:2}"));
+    same_tables("after no start", tables.differs(&before, &Words::default(), RUN_TABLES))
+}
+
+/// Counts the answers, of which an accepted job never gives stuck or denied; the last one.
+fn meet_answers(
+    calls: &[Call],
+    answers: &[u64],
+    accepted: bool,
+    met: &mut Met,
+) -> Result<Option<Answer>, String> {
+    let mut last = None;
+    for (call, words) in calls.iter().zip(answers.chunks(2)) {
+        let call = if *call == Call::Step { "step" } else { "run" };
+        let answer = Answer::ALL[words[0] as usize];
+        met.steps += words[1];
+        met.meet(format!("{call} answers {}", answer.words()));
+        if accepted && matches!(answer, Answer::Stuck | Answer::Denied) {
+            return Err(format!("an accepted job is {}", answer.words()));
+        }
+        last = Some(answer);
+    }
+    Ok(last)
 }

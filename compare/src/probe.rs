@@ -23,33 +23,37 @@ pub fn probe(job: &Job, value: Value, rng: &mut Rng) -> Option<Vec<u8>> {
         exprs.len() as u16 - 1
     };
     match value.kind() {
-        Kind::Number => {
-            let same = add(Expr::Number(value.data()));
-            let rest = add(Expr::Difference(last, same));
-            let content = add(Expr::Number(0));
-            let cell = add(Expr::NewCell(number, content));
-            let other = add(Expr::Read(cell));
-            let equal = add(Expr::Number(1));
-            add(Expr::Test(rest, other, equal, number));
-        }
-        Kind::Pair => {
-            add(Expr::Part(last, 1 + rng.below(2) as u8));
-        }
-        Kind::Cell => {
-            add(Expr::Read(last));
-        }
+        Kind::Number => compare_number(&mut add, last, value.data(), number),
+        Kind::Pair => add(Expr::Part(last, 1 + rng.below(2) as u8)),
+        Kind::Cell => add(Expr::Read(last)),
         Kind::Function => {
             let argument = add(Expr::Number(3));
-            add(Expr::Apply(last, argument));
+            add(Expr::Apply(last, argument))
         }
         Kind::Limit => {
             let body = add(Expr::Number(4));
-            add(Expr::Limit(1, [last, UNUSED, UNUSED, UNUSED], body));
+            add(Expr::Limit(1, [last, UNUSED, UNUSED, UNUSED], body))
         }
         Kind::Grant => {
             let body = add(Expr::Number(5));
-            add(Expr::Grant(last, body));
+            add(Expr::Grant(last, body))
         }
-    }
+    };
     Some(write(&job))
+}
+
+/// Takes more steps if the value is not this number. `number` is the type of numbers.
+fn compare_number(
+    add: &mut impl FnMut(Expr) -> u16,
+    value: u16,
+    expected: u32,
+    number: u16,
+) -> u16 {
+    let same = add(Expr::Number(expected));
+    let rest = add(Expr::Difference(value, same));
+    let content = add(Expr::Number(0));
+    let cell = add(Expr::NewCell(number, content));
+    let other = add(Expr::Read(cell));
+    let equal = add(Expr::Number(1));
+    add(Expr::Test(rest, other, equal, number))
 }

@@ -12,10 +12,12 @@ use crate::read::write;
 pub struct Rng(u64);
 
 impl Rng {
+    /// The generator of a seed.
     pub fn new(seed: u64) -> Self {
         Rng(seed)
     }
 
+    /// The next word.
     pub fn word(&mut self) -> u64 {
         self.0 = self.0.wrapping_add(0x9E37_79B9_7F4A_7C15);
         let mut z = self.0;

@@ -16,12 +16,15 @@ pub const UNUSED: u16 = 0xFFFF;
 /// Why and where a job is refused.
 #[derive(Clone, Copy, Debug, PartialEq, Eq)]
 pub struct Refusal {
+    /// 2 to 14.
     pub number: u32,
+    /// 2 to 7: an offset in the job's bytes; 8 to 14: the number of an expression.
     pub place: u32,
 }
 
 impl Refusal {
-    pub(crate) fn at(number: u32, place: usize) -> Self {
+    /// The refusal of a number at a place.
+    pub fn at(number: u32, place: usize) -> Self {
         Refusal { number, place: place as u32 }
     }
 }
@@ -29,12 +32,18 @@ impl Refusal {
 /// The kinds of types and of values.
 #[derive(Clone, Copy, Debug, Default, PartialEq, Eq)]
 pub enum Kind {
+    /// A number of 32 bits.
     #[default]
     Number,
+    /// Two values.
     Pair,
+    /// A cell that holds a value.
     Cell,
+    /// A function of one argument.
     Function,
+    /// A limit key: it limits, lies above new keys, and is given to values.
     Limit,
+    /// A grant key: it enables what its name stands for.
     Grant,
 }
 
@@ -55,19 +64,26 @@ impl Kind {
 /// A type: the name of its key, and what it is apart from that.
 #[derive(Clone, Copy, Debug, PartialEq, Eq, Hash)]
 pub struct Type {
+    /// The name of the key that its values carry; 0 is none.
     pub key: u8,
+    /// What it is apart from that.
     pub shape: Shape,
 }
 
 /// A type without its key. Parts are entries of the type table.
 #[derive(Clone, Copy, Debug, PartialEq, Eq, Hash)]
 pub enum Shape {
+    /// 10: a number.
     Number,
+    /// 11: first and second part.
     Pair(u16, u16),
+    /// 12: what the cell holds.
     Cell(u16),
-    /// From, to, effect.
+    /// 13: from, to, effect.
     Function(u16, u16, u64),
+    /// 14: a limit key of a name.
     Limit(u8),
+    /// 15: a grant key of a name.
     Grant(u8),
 }
 
@@ -77,6 +93,7 @@ impl Type {
         Type { key: 0, shape }
     }
 
+    /// The kind of its values.
     pub fn kind(self) -> Kind {
         match self.shape {
             Shape::Number => Kind::Number,
@@ -92,41 +109,59 @@ impl Type {
 /// A value that the host lends: variable 0, 1, and so on.
 #[derive(Clone, Copy, Debug, PartialEq, Eq)]
 pub struct HostValue {
+    /// Its declared type: a cell of unkeyed numbers, a limit key or a grant key.
     pub ty: u16,
+    /// The number in a cell at the start; 0 of a key.
     pub number: u32,
 }
 
 /// An expression. Operands stand in the order of the job's bytes.
 #[derive(Clone, Copy, Debug, PartialEq, Eq)]
 pub enum Expr {
+    /// 30: a number.
     Number(u32),
+    /// 31: the limit key of name 1, the top.
     Top,
+    /// 32: a variable.
     Variable(u8),
+    /// 33: a pair of two values.
     Pair(u16, u16),
+    /// 34: part 1 or 2 of a pair.
     Part(u16, u8),
-    /// Variable, its type, body.
+    /// 35: a function; variable, its type, body.
     Function(u8, u16, u16),
+    /// 36: a function applied to an argument.
     Apply(u16, u16),
+    /// 37: a new cell; the type of what it holds, the first content.
     NewCell(u16, u16),
+    /// 38: a cell gets a value.
     Assign(u16, u16),
+    /// 39: what a cell holds.
     Read(u16),
+    /// 3A 00: the sum of two numbers.
     Sum(u16, u16),
+    /// 3A 01: the first number less the second.
     Difference(u16, u16),
-    /// Tested number, branch if not zero, branch if zero, type.
+    /// 3B: tested number, branch if not zero, branch if zero, type.
     Test(u16, u16, u16, u16),
-    /// Number of keys, the keys, body.
+    /// 3C: a limit; number of keys, the keys, body.
     Limit(u8, [u16; 4], u16),
+    /// 3D: a grant; key, body.
     Grant(u16, u16),
-    /// Variable, local name, limit key above, body, type.
+    /// 3E: a new key; variable, local name, limit key above, body, type.
     NewKey(u8, u8, u16, u16, u16),
+    /// 3F: a value gets the key of a limit key.
     Associate(u16, u16),
 }
 
 /// What an expression binds, and where.
 #[derive(Clone, Copy, Debug)]
 pub struct Binder {
+    /// The variable.
     pub variable: u8,
+    /// The local name, of a new key.
     pub name: Option<u8>,
+    /// The expression in which they are bound.
     pub body: u16,
 }
 
@@ -211,14 +246,19 @@ impl Expr {
 /// A job as read: free of refusals 2 to 7.
 #[derive(Clone, Debug, Default, PartialEq, Eq)]
 pub struct Job {
+    /// The names, with their tree.
     pub names: Names,
+    /// The declared types.
     pub types: Vec<Type>,
     /// For each declared type, every name in it down to its leaves.
     pub type_names: Vec<u64>,
     /// For each declared type, its depth.
     pub depths: Vec<u8>,
+    /// The values that the host lends.
     pub hosts: Vec<HostValue>,
+    /// The job's rights, as a set of names.
     pub rights: u64,
+    /// The expressions; the last one is the job's.
     pub exprs: Vec<Expr>,
 }
 

@@ -1,8 +1,15 @@
 //! The job desk: a reader, a checker and a machine for keyed jobs.
+//!
+//! ```
+//! let job = second::from_hex("21 0000000000000000 30 05000000 FF").unwrap();
+//! assert_eq!(second::desk(&job), "accepted 0000000000000000 number\ndone 1 number 5\n");
+//! ```
+#![forbid(unsafe_code)]
+#![warn(missing_docs)]
 
 pub mod check;
+pub mod code;
 pub mod desk;
-pub mod fault;
 pub mod generate;
 pub mod job;
 pub mod machine;
@@ -10,13 +17,17 @@ pub mod names;
 pub mod observe;
 pub mod read;
 pub mod tree;
+pub mod value;
+pub mod verdict;
 
-pub use check::{Accepted, Typed, check};
+pub use check::{check, check_job};
 pub use desk::desk;
 pub use job::{Expr, Job, Kind, Refusal, Shape, Type};
-pub use machine::{Answer, Machine, Outcome, Rooms, Value};
+pub use machine::Machine;
 pub use read::{read, write};
 pub use tree::tree;
+pub use value::{Answer, Outcome, Rooms, Value};
+pub use verdict::{Accepted, Typed};
 
 /// Bytes from hexadecimal digits; blanks are passed over.
 pub fn from_hex(text: &str) -> Option<Vec<u8>> {

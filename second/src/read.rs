@@ -1,6 +1,5 @@
 //! Reading: bytes to tables, refusals 2 to 7.
 
-use crate::fault;
 use crate::job::*;
 
 /// The sections of a job, in order.
@@ -12,6 +11,19 @@ enum Section {
     Rights,
     Expressions,
     End,
+}
+
+impl Section {
+    /// Whether a command of this section may come after one of another.
+    #[inline(always)]
+    fn follows(self, last: Section) -> bool {
+        match self {
+            Section::Names | Section::Types | Section::Hosts => last <= self,
+            Section::Rights => last < self,
+            Section::Expressions => last >= Section::Rights,
+            Section::End => last == Section::Expressions,
+        }
+    }
 }
 
 /// A command's section and the width of its operands.
@@ -44,13 +56,8 @@ pub fn width(byte: u8) -> Option<usize> {
 }
 
 /// Reads a job.
-pub fn read(job: &[u8]) -> Result<Job, Refusal> {
-    read_with::<{ fault::NONE }>(job)
-}
-
-/// Reads a job with a fault.
-pub fn read_with<const FAULT: u32>(bytes: &[u8]) -> Result<Job, Refusal> {
-    let mut reader = Reader::<FAULT>(Job::default());
+pub fn read(bytes: &[u8]) -> Result<Job, Refusal> {
+    let mut reader = Reader(Job::default());
     let mut section = Section::Names;
     let mut at = 0;
     loop {
@@ -62,34 +69,17 @@ pub fn read_with<const FAULT: u32>(bytes: &[u8]) -> Result<Job, Refusal> {
             return refused(2);
         };
         let end = at + 1 + width;
-        let admitted = match own {
-            Section::Names | Section::Types | Section::Hosts => section <= own,
-            Section::Rights => section < own || FAULT == fault::SECOND_RIGHTS && section == own,
-            Section::Expressions => section >= Section::Rights,
-            Section::End => section == Section::Expressions,
-        };
-        if FAULT == fault::CUT_BEFORE_SECTION && end > bytes.len() {
-            return refused(4);
-        }
-        if !admitted {
+        if !own.follows(section) {
             return refused(3);
-        }
-        if FAULT == fault::LIMIT_BEFORE_CUT && reader.is_full(own) {
-            return refused(5);
         }
         let Some(operands) = bytes.get(at + 1..end) else {
             return refused(4);
         };
         if own == Section::End {
-            return match bytes.len() {
-                length if length > end && FAULT != fault::TRAILING => Err(Refusal::at(7, end)),
-                _ => Ok(reader.0),
-            };
+            return if end < bytes.len() { Err(Refusal::at(7, end)) } else { Ok(reader.0) };
         }
         if reader.is_full(own) {
-            let swapped = FAULT == fault::OPERAND_BEFORE_LIMIT && own == Section::Types;
-            let bad = swapped && reader.take(byte, Operands(operands)).is_none();
-            return refused(if bad { 6 } else { 5 });
+            return refused(5);
         }
         if reader.take(byte, Operands(operands)).is_none() {
             return refused(6);
@@ -126,18 +116,17 @@ impl Operands<'_> {
     }
 }
 
-struct Reader<const FAULT: u32>(Job);
+/// The job as far as it is read.
+struct Reader(Job);
 
 /// Each method gives nothing where refusal 6 is due.
-impl<const FAULT: u32> Reader<FAULT> {
+impl Reader {
     fn is_full(&self, section: Section) -> bool {
         match section {
             Section::Names => self.0.names.is_full(),
             Section::Types => self.0.types.len() == TYPES,
             Section::Hosts => self.0.hosts.len() == VARIABLES,
-            Section::Expressions => {
-                self.0.exprs.len() == EXPRESSIONS + (FAULT == fault::EXPRESSION_513) as usize
-            }
+            Section::Expressions => self.0.exprs.len() == EXPRESSIONS,
             Section::Rights | Section::End => false,
         }
     }
@@ -156,7 +145,7 @@ impl<const FAULT: u32> Reader<FAULT> {
         let upper = self.some_name(operands.byte())?;
         let names = &mut self.0.names;
         let open = names.host() | 1 << 1;
-        if host && open >> upper & 1 == 0 && FAULT != fault::HOST_UNDER_LOCAL {
+        if host && open >> upper & 1 == 0 {
             return None;
         }
         names.declare(upper, host);
@@ -174,28 +163,19 @@ impl<const FAULT: u32> Reader<FAULT> {
                 self.ty(operands.reference())?,
                 self.set(operands.set())?,
             ),
-            0x14 => Shape::Limit(self.key_name(operands.byte())?),
-            _ => Shape::Grant(self.key_name(operands.byte())?),
+            0x14 => Shape::Limit(self.some_name(operands.byte())?),
+            _ => Shape::Grant(self.some_name(operands.byte())?),
         };
         let job = &mut self.0;
-        let part = |entry: u16| {
-            let names = match FAULT {
-                fault::PARTS_OUT_OF_SCOPE => 0,
-                _ => job.type_names[entry as usize],
-            };
-            (job.depths[entry as usize], names)
-        };
+        let part = |entry: u16| (job.depths[entry as usize], job.type_names[entry as usize]);
         let (below, names) = match shape {
             Shape::Number => (0, 0),
             Shape::Limit(name) | Shape::Grant(name) => (0, 1 << name),
             Shape::Cell(content) => part(content),
             Shape::Pair(first, second) => join(part(first), part(second)),
-            Shape::Function(from, to, effect) => {
-                let effect = if FAULT == fault::SETS_OUT_OF_SCOPE { 0 } else { effect };
-                join((0, effect), join(part(from), part(to)))
-            }
+            Shape::Function(from, to, effect) => join((0, effect), join(part(from), part(to))),
         };
-        if below >= DEPTH + (FAULT == fault::DEPTH_17) as u8 {
+        if below >= DEPTH {
             return None;
         }
         job.types.push(Type { key, shape });
@@ -210,16 +190,12 @@ impl<const FAULT: u32> Reader<FAULT> {
         let job = &mut self.0;
         let unkeyed = Type::unkeyed(Shape::Number);
         let lent = match job.types[ty as usize].shape {
-            Shape::Cell(content) => {
-                let content = job.types[content as usize];
-                content == unkeyed
-                    || FAULT == fault::HOST_CELL_KEYED && content.shape == Shape::Number
-            }
-            Shape::Limit(_) | Shape::Grant(_) => number == 0 || FAULT == fault::KEY_WITH_NUMBER,
+            Shape::Cell(content) => job.types[content as usize] == unkeyed,
+            Shape::Limit(_) | Shape::Grant(_) => number == 0,
             _ => false,
         };
         let known = job.type_names[ty as usize] & job.names.local() == 0;
-        if !lent || !known && FAULT != fault::HOST_OF_LOCAL {
+        if !lent || !known {
             return None;
         }
         job.hosts.push(HostValue { ty, number });
@@ -228,7 +204,7 @@ impl<const FAULT: u32> Reader<FAULT> {
 
     fn set_rights(&mut self, mut operands: Operands) -> Option<()> {
         let rights = self.set(operands.set())?;
-        if rights & self.0.names.local() != 0 && FAULT != fault::LOCAL_RIGHTS {
+        if rights & self.0.names.local() != 0 {
             return None;
         }
         self.0.rights = rights;
@@ -258,15 +234,7 @@ impl<const FAULT: u32> Reader<FAULT> {
             }
             0x3C => {
                 let count = Some(o.byte()).filter(|&count| count <= 4)?;
-                let mut keys = [UNUSED; 4];
-                for (place, key) in keys.iter_mut().enumerate() {
-                    if place < count as usize {
-                        *key = self.expr(o)?;
-                    } else if o.reference() != UNUSED && FAULT != fault::UNUSED_KEYS {
-                        return None;
-                    }
-                }
-                Expr::Limit(count, keys, self.expr(o)?)
+                Expr::Limit(count, self.keys(count, o)?, self.expr(o)?)
             }
             0x3D => Expr::Grant(self.expr(o)?, self.expr(o)?),
             0x3E => Expr::NewKey(
@@ -282,6 +250,20 @@ impl<const FAULT: u32> Reader<FAULT> {
         Some(())
     }
 
+    /// Four places for the keys of a limit, of which the first so many are used.
+    #[inline(always)]
+    fn keys(&self, count: u8, operands: &mut Operands) -> Option<[u16; 4]> {
+        let mut keys = [UNUSED; 4];
+        for (place, key) in keys.iter_mut().enumerate() {
+            if place < count as usize {
+                *key = self.expr(operands)?;
+            } else if operands.reference() != UNUSED {
+                return None;
+            }
+        }
+        Some(keys)
+    }
+
     /// A declared name, or 0 or 1.
     fn name(&self, name: u8) -> Option<u8> {
         ((name as usize) < self.0.names.count()).then_some(name)
@@ -292,29 +274,24 @@ impl<const FAULT: u32> Reader<FAULT> {
         self.name(name).filter(|&name| name != 0)
     }
 
-    fn key_name(&self, name: u8) -> Option<u8> {
-        match FAULT {
-            fault::KEY_OF_NONE => self.name(name),
-            _ => self.some_name(name),
-        }
-    }
-
+    /// A local name.
     fn local(&self, name: u8) -> Option<u8> {
-        let free = FAULT == fault::BINDER_OF_HOST_NAME && name > 1;
-        self.name(name).filter(|&name| free || self.0.names.local() >> name & 1 == 1)
+        self.name(name).filter(|&name| self.0.names.local() >> name & 1 == 1)
     }
 
+    /// A reduced set of declared names, without 0.
     fn set(&self, set: u64) -> Option<u64> {
         let names = &self.0.names;
-        let allowed = names.all() | (FAULT == fault::BIT_0) as u64;
-        let reduced = names.reduce(set) == set & !1 || FAULT == fault::UNREDUCED;
-        (set & !allowed == 0 && reduced).then_some(set & !1)
+        (set & !names.all() == 0 && names.reduce(set) == set).then_some(set)
     }
 
+    /// A declared type.
     fn ty(&self, ty: u16) -> Option<u16> {
         ((ty as usize) < self.0.types.len()).then_some(ty)
     }
 
+    /// An earlier expression.
+    #[inline(always)]
     fn expr(&self, operands: &mut Operands) -> Option<u16> {
         let expr = operands.reference();
         ((expr as usize) < self.0.exprs.len()).then_some(expr)
@@ -322,8 +299,7 @@ impl<const FAULT: u32> Reader<FAULT> {
 
     /// A variable that an expression may bind.
     fn bound(&self, v: u8) -> Option<u8> {
-        let free = FAULT == fault::BINDER_OF_HOST;
-        variable(v).filter(|&v| free || v as usize >= self.0.hosts.len())
+        variable(v).filter(|&v| v as usize >= self.0.hosts.len())
     }
 }
 

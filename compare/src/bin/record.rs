@@ -79,66 +79,93 @@ fn case(job: &[u8]) -> Option<Vec<u8>> {
     Some(case)
 }
 
+/// A generated job and what it shows.
+type Shown = (Vec<u8>, Vec<String>);
+
+/// The generated jobs, the shortest first, each once.
+fn jobs() -> Vec<Shown> {
+    let mut jobs: Vec<Vec<u8>> = SEEDS.map(|seed| job(seed).1).collect();
+    jobs.sort_by(|a, b| (a.len(), a).cmp(&(b.len(), b)));
+    jobs.dedup();
+    let shown = |job: Vec<u8>| {
+        let words = shows(&job);
+        (job, words)
+    };
+    jobs.into_iter().map(shown).collect()
+}
+
+/// The cases that were chosen, and how often each word came up.
+struct Chosen {
+    out: Vec<u8>,
+    cases: usize,
+    shown: HashMap<String, usize>,
+}
+
+impl Chosen {
+    /// The printed example, with the right that it needs and without.
+    fn new() -> Self {
+        let out = [4, 0].into_iter().filter_map(|rights| case(&example(rights))).flatten();
+        Chosen { out: out.collect(), cases: 2, shown: HashMap::new() }
+    }
+
+    /// Whether a word may bring in one more case in a round.
+    fn few(&self, word: &str, round: usize) -> bool {
+        self.shown.get(word).copied().unwrap_or(0) < most(word, round)
+    }
+
+    /// Takes a job in if it shows something that came up seldom; whether it is to be tried again.
+    fn consider(&mut self, (job, words): &Shown, round: usize) -> bool {
+        // A long run comes in for its end alone.
+        let end = |word: &&String| *word == "spent" || word.starts_with("no room");
+        let long = words.iter().any(|word| end(&word));
+        let mut counted = words.iter().filter(|word| !long || end(word));
+        if !counted.any(|word| self.few(word, round)) || self.cases == CASES {
+            return true;
+        }
+        let Some(case) = case(job).filter(|case| self.out.len() + case.len() + 2 <= BYTES) else {
+            return false;
+        };
+        for word in words {
+            *self.shown.entry(word.clone()).or_default() += 1;
+        }
+        self.out.extend(case);
+        self.cases += 1;
+        false
+    }
+
+    /// Prints what came up; the words that must have, and have not.
+    fn report(&self) -> Vec<String> {
+        let mut report: Vec<_> = self.shown.iter().collect();
+        report.sort();
+        for (word, times) in &report {
+            println!("{times:5} {word}");
+        }
+        println!("{} cases, {} bytes", self.cases, self.out.len());
+        let mut must: Vec<String> = (2..=14).map(|number| format!("refused {number}")).collect();
+        must.extend(["done", "spent", "no room"].map(str::to_string));
+        must.retain(|word| !self.shown.contains_key(word));
+        must
+    }
+}
+
 fn main() -> ExitCode {
     let Some(path) = std::env::args().nth(1) else {
         eprintln!("usage: record FILE");
         return ExitCode::from(2);
     };
-    let mut jobs: Vec<Vec<u8>> = SEEDS.map(|seed| job(seed).1).collect();
-    jobs.sort_by(|a, b| (a.len(), a).cmp(&(b.len(), b)));
-    jobs.dedup();
-    let mut jobs: Vec<(Vec<u8>, Vec<String>)> = jobs
-        .into_iter()
-        .map(|job| {
-            let words = shows(&job);
-            (job, words)
-        })
-        .collect();
-    // The printed example, with the right that it needs and without.
-    let mut out: Vec<u8> =
-        [4, 0].into_iter().filter_map(|rights| case(&example(rights))).flatten().collect();
-    let mut cases = 2;
-    let mut shown: HashMap<String, usize> = HashMap::new();
+    let mut jobs = jobs();
+    let mut chosen = Chosen::new();
     // In each round every word may come up some times more.
     for round in 1..=20 {
-        jobs.retain(|(job, words)| {
-            let few = |word: &String| shown.get(word).copied().unwrap_or(0) < most(word, round);
-            // A long run comes in for its end alone.
-            let end = |word: &&String| *word == "spent" || word.starts_with("no room");
-            let new = match words.iter().any(|word| end(&word)) {
-                true => words.iter().filter(end).any(few),
-                false => words.iter().any(few),
-            };
-            if !new || cases == CASES {
-                return true;
-            }
-            let Some(case) = case(job).filter(|case| out.len() + case.len() + 2 <= BYTES) else {
-                return false;
-            };
-            for word in words {
-                *shown.entry(word.clone()).or_default() += 1;
-            }
-            out.extend(case);
-            cases += 1;
-            false
-        });
+        jobs.retain(|job| chosen.consider(job, round));
     }
-    out.extend(END.to_le_bytes());
-    let mut report: Vec<_> = shown.into_iter().collect();
-    report.sort();
-    for (word, times) in &report {
-        println!("{times:5} {word}");
-    }
-    println!("{cases} cases, {} bytes", out.len());
-    let mut must: Vec<String> = (2..=14).map(|number| format!("refused {number}")).collect();
-    must.extend(["done", "spent", "no room"].map(str::to_string));
-    let missing: Vec<_> =
-        must.iter().filter(|word| !report.iter().any(|(shown, _)| shown == *word)).collect();
+    chosen.out.extend(END.to_le_bytes());
+    let missing = chosen.report();
     if !missing.is_empty() {
         eprintln!("not met: {missing:?}");
         return ExitCode::FAILURE;
     }
-    match std::fs::write(&path, out) {
+    match std::fs::write(&path, chosen.out) {
         Ok(()) => ExitCode::SUCCESS,
         Err(error) => {
             eprintln!("{path}: {error}");

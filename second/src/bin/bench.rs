@@ -16,52 +16,55 @@ fn time(count: u64, mut work: impl FnMut()) -> f64 {
     least.min().unwrap_or_default().as_nanos() as f64 / count as f64
 }
 
-fn main() {
+/// The steps of a run.
+const STEPS: u64 = 100_000;
+
+/// Times a step of a run of sums, and the start of that job.
+fn sums() {
     let heavy = write(&heavy(40));
     let fresh = Machine::start(&heavy).expect("a job that starts");
-    let steps = 100_000;
     let mut machine = fresh.clone();
-    println!(
-        "step of a run of sums:    {:8.2} ns",
-        time(steps, || {
-            machine.clone_from(&fresh);
-            black_box(machine.run(black_box(steps)));
-        })
-    );
-    // Runs of all kinds, restarted until there are steps enough.
+    let step = time(STEPS, || {
+        machine.clone_from(&fresh);
+        black_box(machine.run(black_box(STEPS)));
+    });
+    println!("step of a run of sums:    {step:8.2} ns");
+    let start = time(100, || {
+        for _ in 0..100 {
+            black_box(Machine::start(black_box(&heavy)).is_ok());
+        }
+    });
+    println!("start:                    {start:8.0} ns");
+}
+
+/// Times a step of runs of all kinds.
+fn mixed() {
     let mut rng = Rng::new(7);
     let loops: Vec<Machine> =
         (0..200).filter_map(|_| Machine::start(&write(&looped(&mut rng))).ok()).collect();
-    let mut taken = 0;
-    for start in &loops {
-        taken += start.clone().run(steps).1;
-    }
-    println!(
-        "step of mixed runs:       {:8.2} ns",
-        time(taken, || {
-            for start in &loops {
-                machine.clone_from(start);
-                black_box(machine.run(black_box(steps)));
-            }
-        })
-    );
-    println!(
-        "start:                    {:8.0} ns",
-        time(100, || {
-            for _ in 0..100 {
-                black_box(Machine::start(black_box(&heavy)).is_ok());
-            }
-        })
-    );
-    let checks = |what: &str, jobs: &[Vec<u8>]| {
-        let bytes: usize = jobs.iter().map(Vec::len).sum();
-        let each = time(jobs.len() as u64, || {
-            for job in jobs {
-                black_box(check(black_box(job)).is_ok());
-            }
-        });
-        println!("check of {what:17}{each:8.0} ns, {} bytes each", bytes / jobs.len());
-    };
+    let taken = loops.iter().map(|start| start.clone().run(STEPS).1).sum();
+    let step = time(taken, || {
+        for start in &loops {
+            black_box(start.clone().run(black_box(STEPS)));
+        }
+    });
+    println!("step of mixed runs:       {step:8.2} ns");
+}
+
+/// Times the check of some jobs.
+fn checks(what: &str, jobs: &[Vec<u8>]) {
+    let bytes: usize = jobs.iter().map(Vec::len).sum();
+    let each = time(jobs.len() as u64, || {
+        for job in jobs {
+            black_box(check(black_box(job)).is_ok());
+        }
+    });
+    println!("check of {what:17}{each:8.0} ns, {} bytes each", bytes / jobs.len());
+}
+
+fn main() {
+    sums();
+    mixed();
     let mut rng = Rng::new(8);
     let large: Vec<Vec<u8>> = std::iter::repeat_with(|| write(&typed(&mut rng)))
         .filter(|job| job.len() > 800)
@@ -70,10 +73,8 @@ fn main() {
     checks("all kinds of jobs", &(1..2000).map(|seed| job(seed).1).collect::<Vec<_>>());
     checks("large typed jobs", &large);
     checks("512 expressions", &[write(&tower(512))]);
-    for shape in 0..3 {
-        checks(
-            ["ladder of pairs", "ladder of functions", "ladder of cells"][shape],
-            &[write(&ladder(16, 120, shape))],
-        );
+    let shapes = ["ladder of pairs", "ladder of functions", "ladder of cells"];
+    for (shape, what) in shapes.into_iter().enumerate() {
+        checks(what, &[write(&ladder(16, 120, shape))]);
     }
 }

@@ -4,54 +4,51 @@
 //! it fails if one is not. `generate COUNT SEED desk` prints each job and the desk's lines instead,
 //! and `generate COUNT SEED machine STEPS` each job that starts and its run.
 
-use std::collections::BTreeMap;
+use std::collections::{BTreeMap, BTreeSet};
 use std::process::ExitCode;
 
-use second::fault::NONE;
 use second::generate::job;
 use second::observe::observe;
 use second::{Expr, Outcome, desk, read, to_hex};
 
-fn coverage(count: u64, seed: u64) -> ExitCode {
-    let mut reached: BTreeMap<String, u64> = BTreeMap::new();
-    for seed in seed..seed + count {
-        let (source, job) = job(seed);
-        let seen = observe::<NONE>(&job, &[100_000]);
-        let mut reach = |what: String| *reached.entry(what).or_default() += 1;
-        let verdict = match &seen.verdict {
-            Ok(accepted) => {
-                reach(format!("accepted as {}", accepted.kind.word()));
-                "accepted".to_string()
-            }
-            Err(refusal) => format!("refused {:2}", refusal.number),
-        };
-        reach(format!("verdict {verdict}"));
-        reach(format!("source {source:?} {verdict}"));
-        if seen.verdict.is_ok()
-            && let Ok(job) = read(&job)
+/// How often each thing was reached.
+type Reached = BTreeMap<String, u64>;
+
+/// Counts what a job reaches.
+fn reach(seed: u64, reached: &mut Reached) {
+    let (source, job) = job(seed);
+    let seen = observe(&job, &[100_000]);
+    let mut reach = |what: String| *reached.entry(what).or_default() += 1;
+    let verdict = match &seen.verdict {
+        Ok(accepted) => {
+            reach(format!("accepted as {}", accepted.kind.word()));
+            "accepted".to_string()
+        }
+        Err(refusal) => format!("refused {:2}", refusal.number),
+    };
+    reach(format!("verdict {verdict}"));
+    reach(format!("source {source:?} {verdict}"));
+    if seen.verdict.is_ok()
+        && let Ok(job) = read(&job)
+    {
+        let commands: BTreeSet<String> = job.exprs.iter().map(Expr::label).collect();
+        commands.into_iter().for_each(|c| reach(format!("accepted with {c}")));
+        let kinds: BTreeSet<&str> = job.types.iter().map(|ty| ty.kind().word()).collect();
+        kinds.into_iter().for_each(|kind| reach(format!("accepted with type {kind}")));
+    }
+    for run in seen.runs.iter().flatten() {
+        let accepted = if seen.verdict.is_ok() { "accepted" } else { "refused" };
+        reach(format!("outcome of {accepted} {}", run.outcome.words()));
+        if run.outcome == Outcome::NoRoom
+            && let [room] = run.rooms.full()[..]
         {
-            let mut commands: Vec<String> = job.exprs.iter().map(Expr::label).collect();
-            commands.sort();
-            commands.dedup();
-            commands.into_iter().for_each(|c| reach(format!("accepted with {c}")));
-            let mut kinds: Vec<_> = job.types.iter().map(|ty| ty.kind().word()).collect();
-            kinds.sort();
-            kinds.dedup();
-            kinds.into_iter().for_each(|kind| reach(format!("accepted with type {kind}")));
-        }
-        for run in seen.runs.iter().flatten() {
-            let accepted = if seen.verdict.is_ok() { "accepted" } else { "refused" };
-            reach(format!("outcome of {accepted} {}", run.outcome.words()));
-            if run.outcome == Outcome::NoRoom
-                && let [room] = run.rooms.full()[..]
-            {
-                reach(format!("no room in {room} alone"));
-            }
+            reach(format!("no room in {room} alone"));
         }
     }
-    for (what, times) in &reached {
-        println!("{times:8} {what}");
-    }
+}
+
+/// What must be reached.
+fn wanted() -> Vec<String> {
     let mut wanted: Vec<String> = (2..=14).map(|n| format!("verdict refused {n:2}")).collect();
     wanted.extend(["done", "spent", "no room"].map(|w| format!("outcome of accepted {w}")));
     wanted.extend(["stuck", "denied"].map(|w| format!("outcome of refused {w}")));
@@ -59,7 +56,18 @@ fn coverage(count: u64, seed: u64) -> ExitCode {
         ["cells", "keys", "pairs", "functions", "frames", "bindings"]
             .map(|room| format!("no room in {room} alone")),
     );
-    let missing: Vec<_> = wanted.iter().filter(|what| !reached.contains_key(*what)).collect();
+    wanted
+}
+
+fn coverage(count: u64, seed: u64) -> ExitCode {
+    let mut reached = Reached::new();
+    for seed in seed..seed + count {
+        reach(seed, &mut reached);
+    }
+    for (what, times) in &reached {
+        println!("{times:8} {what}");
+    }
+    let missing: Vec<_> = wanted().into_iter().filter(|what| !reached.contains_key(what)).collect();
     missing.iter().for_each(|what| println!("not reached: {what}"));
     for never in ["stuck", "denied"].map(|w| format!("outcome of accepted {w}")) {
         if reached.contains_key(&never) {
@@ -87,7 +95,7 @@ fn main() -> ExitCode {
             let steps = number(3, 1000);
             for seed in seed..seed + count {
                 let (_, job) = job(seed);
-                if let Ok(runs) = observe::<NONE>(&job, &[steps]).runs {
+                if let Ok(runs) = observe(&job, &[steps]).runs {
                     println!("{}\t{steps}\t{}", to_hex(&job), runs[0]);
                 }
             }

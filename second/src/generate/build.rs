@@ -35,6 +35,18 @@ struct Builder<'r> {
     lax: bool,
 }
 
+/// What a turn of a loop is made of: the counter and the variable of the loop's cell, a load, the
+/// value at the end and its type, and whether the call is the last thing done.
+#[derive(Clone, Copy)]
+struct Turn {
+    n: u8,
+    c: u8,
+    load: Node,
+    base: Node,
+    result: Ty,
+    tail: bool,
+}
+
 /// Builds a job; the rights are mostly those it needs.
 pub fn job(rng: &mut Rng, looped: bool) -> Job {
     loop {
@@ -233,6 +245,7 @@ impl<'r> Builder<'r> {
         Some(self.nodes.len() as Node - 1)
     }
 
+    /// Type and effect of an expression whose operands have the right types.
     fn typed(&mut self, expr: Expr) -> Option<(Ty, u64)> {
         Some(match expr {
             Expr::Number(_) => (self.number(), 0),
@@ -251,24 +264,9 @@ impl<'r> Builder<'r> {
                 let shape = Shape::Function(from, self.of(body).ty, self.of(body).effect);
                 (self.ty(0, shape), 0)
             }
-            Expr::Apply(a, b) => match self.shape(a) {
-                Shape::Function(from, to, latent) if self.subtype(self.of(b).ty, from) => {
-                    (to, self.touched(a) | self.of(b).effect | latent)
-                }
-                _ => return None,
-            },
-            Expr::NewCell(ty, a) => {
-                if !self.subtype(self.of(a).ty, ty) {
-                    return None;
-                }
-                (self.ty(0, Shape::Cell(ty)), self.of(a).effect)
+            Expr::Apply(..) | Expr::NewCell(..) | Expr::Assign(..) | Expr::Test(..) => {
+                return self.typed_by_subtype(expr);
             }
-            Expr::Assign(a, b) => match self.shape(a) {
-                Shape::Cell(content) if self.subtype(self.of(b).ty, content) => {
-                    (content, self.touched(a) | self.of(b).effect)
-                }
-                _ => return None,
-            },
             Expr::Read(a) => match self.shape(a) {
                 Shape::Cell(content) => (content, self.touched(a)),
                 _ => return None,
@@ -276,6 +274,28 @@ impl<'r> Builder<'r> {
             Expr::Sum(a, b) | Expr::Difference(a, b) => match (self.shape(a), self.shape(b)) {
                 (Shape::Number, Shape::Number) => {
                     (self.number(), self.touched(a) | self.touched(b))
+                }
+                _ => return None,
+            },
+            _ => return self.typed_by_keys(expr),
+        })
+    }
+
+    /// The same of an expression that compares types.
+    fn typed_by_subtype(&mut self, expr: Expr) -> Option<(Ty, u64)> {
+        Some(match expr {
+            Expr::Apply(a, b) => match self.shape(a) {
+                Shape::Function(from, to, latent) if self.subtype(self.of(b).ty, from) => {
+                    (to, self.touched(a) | self.of(b).effect | latent)
+                }
+                _ => return None,
+            },
+            Expr::NewCell(ty, a) if self.subtype(self.of(a).ty, ty) => {
+                (self.ty(0, Shape::Cell(ty)), self.of(a).effect)
+            }
+            Expr::Assign(a, b) => match self.shape(a) {
+                Shape::Cell(content) if self.subtype(self.of(b).ty, content) => {
+                    (content, self.touched(a) | self.of(b).effect)
                 }
                 _ => return None,
             },
@@ -288,6 +308,13 @@ impl<'r> Builder<'r> {
                 }
                 (ty, self.touched(a) | self.of(b).effect | self.of(c).effect)
             }
+            _ => return None,
+        })
+    }
+
+    /// The same of an expression with keys.
+    fn typed_by_keys(&mut self, expr: Expr) -> Option<(Ty, u64)> {
+        Some(match expr {
             Expr::Limit(count, keys, body) => {
                 let (mut effect, mut allowed) = (0, 0);
                 for &key in &keys[..count as usize] {
@@ -302,13 +329,11 @@ impl<'r> Builder<'r> {
                 }
                 (self.of(body).ty, effect | self.of(body).effect)
             }
-            Expr::Grant(key, body) => match self.shape(key) {
-                Shape::Grant(name) => {
-                    let left = self.names.without(self.of(body).effect, name);
-                    (self.of(body).ty, self.touched(key) | left)
-                }
-                _ => return None,
-            },
+            Expr::Grant(key, body) => {
+                let Shape::Grant(name) = self.shape(key) else { return None };
+                let left = self.names.without(self.of(body).effect, name);
+                (self.of(body).ty, self.touched(key) | left)
+            }
             Expr::NewKey(_, name, key, body, ty) => {
                 let fits = self.shape(key) == Shape::Limit(self.names.upper(name))
                     && self.subtype(self.of(body).ty, ty);
@@ -317,13 +342,12 @@ impl<'r> Builder<'r> {
                 }
                 (ty, self.touched(key) | self.names.raise(self.of(body).effect, name))
             }
-            Expr::Associate(value, key) => match self.shape(key) {
-                Shape::Limit(name) => {
-                    let shape = self.shape(value);
-                    (self.ty(name, shape), self.touched(value) | self.touched(key))
-                }
-                _ => return None,
-            },
+            Expr::Associate(value, key) => {
+                let Shape::Limit(name) = self.shape(key) else { return None };
+                let shape = self.shape(value);
+                (self.ty(name, shape), self.touched(value) | self.touched(key))
+            }
+            _ => return None,
         })
     }
 
@@ -482,6 +506,7 @@ impl<'r> Builder<'r> {
         }
     }
 
+    /// An expression of a command drawn by lot.
     fn grown(&mut self, fuel: usize) -> Option<Node> {
         if self.nodes.len() > 700 {
             return None;
@@ -497,27 +522,9 @@ impl<'r> Builder<'r> {
                 self.add(Expr::Part(pair, part))
             }
             2 => self.function(fuel),
-            3 | 4 => {
-                let function = self.of_kind(Kind::Function, fuel)?;
-                let Shape::Function(from, ..) = self.shape(function) else {
-                    return None;
-                };
-                let argument = self.of_type(from, fuel)?;
-                self.add(Expr::Apply(function, argument))
-            }
-            5 => {
-                let content = self.any(fuel);
-                let ty = self.widen(self.of(content).ty, 0, true)?;
-                self.add(Expr::NewCell(ty, content))
-            }
-            6 | 7 => {
-                let cell = self.of_kind(Kind::Cell, fuel)?;
-                let Shape::Cell(content) = self.shape(cell) else {
-                    return None;
-                };
-                let value = self.of_type(content, fuel)?;
-                self.add(Expr::Assign(cell, value))
-            }
+            3 | 4 => self.applied(fuel),
+            5 => self.new_cell(fuel),
+            6 | 7 => self.assigned(fuel),
             8 => {
                 let cell = self.of_kind(Kind::Cell, fuel)?;
                 self.add(Expr::Read(cell))
@@ -527,24 +534,42 @@ impl<'r> Builder<'r> {
                 let sum = self.rng.chance(50);
                 self.add(if sum { Expr::Sum(a, b) } else { Expr::Difference(a, b) })
             }
-            11 => {
-                let node = self.any(fuel);
-                self.test(node, fuel)
-            }
-            12 => {
-                let node = self.keyed(fuel);
-                self.limit(node)
-            }
-            13 => {
-                let node = self.keyed(fuel);
-                self.grant(node)
-            }
             14..17 => self.new_key(fuel),
-            _ => {
-                let node = self.any(fuel);
-                self.associate(node)
+            around => {
+                let keyed = matches!(around, 12 | 13);
+                let node = if keyed { self.keyed(fuel) } else { self.any(fuel) };
+                match around {
+                    11 => self.test(node, fuel),
+                    12 => self.limit(node),
+                    13 => self.grant(node),
+                    _ => self.associate(node),
+                }
             }
         }
+    }
+
+    fn applied(&mut self, fuel: usize) -> Option<Node> {
+        let function = self.of_kind(Kind::Function, fuel)?;
+        let Shape::Function(from, ..) = self.shape(function) else {
+            return None;
+        };
+        let argument = self.of_type(from, fuel)?;
+        self.add(Expr::Apply(function, argument))
+    }
+
+    fn new_cell(&mut self, fuel: usize) -> Option<Node> {
+        let content = self.any(fuel);
+        let ty = self.widen(self.of(content).ty, 0, true)?;
+        self.add(Expr::NewCell(ty, content))
+    }
+
+    fn assigned(&mut self, fuel: usize) -> Option<Node> {
+        let cell = self.of_kind(Kind::Cell, fuel)?;
+        let Shape::Cell(content) = self.shape(cell) else {
+            return None;
+        };
+        let value = self.of_type(content, fuel)?;
+        self.add(Expr::Assign(cell, value))
     }
 
     /// An expression that mostly has an effect.
@@ -581,11 +606,7 @@ impl<'r> Builder<'r> {
                 let (a, b) = (self.any(less), self.any(less));
                 self.add(Expr::Pair(a, b))?
             }
-            Kind::Cell => {
-                let content = self.any(less);
-                let ty = self.widen(self.of(content).ty, 0, true)?;
-                self.add(Expr::NewCell(ty, content))?
-            }
+            Kind::Cell => self.new_cell(less)?,
             Kind::Function => self.function(less)?,
             Kind::Limit | Kind::Grant => {
                 let name = self.some_name();
@@ -604,36 +625,7 @@ impl<'r> Builder<'r> {
         }
         let less = fuel.saturating_sub(1);
         let Type { key, shape } = self.at(ty);
-        let node = match shape {
-            Shape::Number if fuel > 0 => self.of_kind(Kind::Number, less)?,
-            Shape::Number => self.some_number(),
-            Shape::Pair(a, b) => {
-                let (a, b) = (self.of_type(a, less)?, self.of_type(b, less)?);
-                self.add(Expr::Pair(a, b))?
-            }
-            Shape::Cell(mut content) => {
-                if self.lax {
-                    let up = self.rng.chance(50);
-                    content = self.widen(content, 0, up)?;
-                }
-                let value = self.of_type(content, less)?;
-                self.add(Expr::NewCell(content, value))?
-            }
-            Shape::Function(from, to, effect) => {
-                let up = !self.lax || self.rng.chance(50);
-                let from = self.widen(from, 0, up)?;
-                let v = self.new_variable()?;
-                let mut body = self.under(v, from, |b| b.of_type(to, less))?;
-                if !self.names.set_below(self.of(body).effect, effect) {
-                    body = self.under(v, from, |b| b.of_type(to, 0))?;
-                }
-                self.add(Expr::Function(v, from, body))?
-            }
-            Shape::Limit(name) | Shape::Grant(name) => {
-                let name = if self.lax { self.some_name() } else { name };
-                self.key(name, matches!(shape, Shape::Grant(_)))?
-            }
-        };
+        let node = self.of_shape(shape, fuel)?;
         let node = if fuel > 0 { self.wrapped(node, less) } else { node };
         if self.subtype(self.of(node).ty, ty) {
             if key > 1
@@ -647,6 +639,41 @@ impl<'r> Builder<'r> {
         }
         // What was wrapped around it may have given it a higher type.
         if fuel > 0 { self.of_type(ty, 0) } else { None }
+    }
+
+    /// An expression of a shape, or where subtypes are not taken strictly, of one near it.
+    fn of_shape(&mut self, shape: Shape, fuel: usize) -> Option<Node> {
+        let less = fuel.saturating_sub(1);
+        match shape {
+            Shape::Number if fuel > 0 => self.of_kind(Kind::Number, less),
+            Shape::Number => Some(self.some_number()),
+            Shape::Pair(a, b) => {
+                let (a, b) = (self.of_type(a, less)?, self.of_type(b, less)?);
+                self.add(Expr::Pair(a, b))
+            }
+            Shape::Cell(mut content) => {
+                if self.lax {
+                    let up = self.rng.chance(50);
+                    content = self.widen(content, 0, up)?;
+                }
+                let value = self.of_type(content, less)?;
+                self.add(Expr::NewCell(content, value))
+            }
+            Shape::Function(from, to, effect) => {
+                let up = !self.lax || self.rng.chance(50);
+                let from = self.widen(from, 0, up)?;
+                let v = self.new_variable()?;
+                let mut body = self.under(v, from, |b| b.of_type(to, less))?;
+                if !self.names.set_below(self.of(body).effect, effect) {
+                    body = self.under(v, from, |b| b.of_type(to, 0))?;
+                }
+                self.add(Expr::Function(v, from, body))
+            }
+            Shape::Limit(name) | Shape::Grant(name) => {
+                let name = if self.lax { self.some_name() } else { name };
+                self.key(name, matches!(shape, Shape::Grant(_)))
+            }
+        }
     }
 
     /// The expression with something around it that keeps its kind.
@@ -839,40 +866,57 @@ impl<'r> Builder<'r> {
             1 => self.rng.below(300) as u32,
             _ => 5000,
         };
-        let around = self.under(c, cell, |b| {
-            let body = b.under(n, number, |b| {
-                let one = b.literal(1);
-                let also_one = b.literal(1);
-                let step = b.add(Expr::Test(load, one, also_one, number))?;
-                let counter = b.add(Expr::Variable(n))?;
-                let less = b.add(Expr::Difference(counter, step))?;
-                let held = b.add(Expr::Variable(c))?;
-                let itself = b.add(Expr::Read(held))?;
-                let mut again = b.add(Expr::Apply(itself, less))?;
-                if !tail {
-                    let one = b.literal(1);
-                    again = b.add(Expr::Sum(again, one))?;
-                }
-                let tested = b.add(Expr::Variable(n))?;
-                b.add(Expr::Test(tested, again, base, result))
-            })?;
-            let looped = b.add(Expr::Function(n, number, body))?;
-            let held = b.add(Expr::Variable(c))?;
-            let assigned = b.add(Expr::Assign(held, looped))?;
-            let count = b.literal(count);
-            b.add(Expr::Apply(assigned, count))
-        })?;
-        let v = self.new_variable()?;
-        let nothing = self.under(v, number, |b| b.of_type(result, 0))?;
-        let first = self.add(Expr::Function(v, number, nothing))?;
-        let mut made = self.add(Expr::NewCell(function, first))?;
-        if cell_key != 0 {
-            let limit = self.key(cell_key, false)?;
-            made = self.add(Expr::Associate(made, limit))?;
-        }
+        let turn = Turn { n, c, load, base, result, tail };
+        let around = self.under(c, cell, |b| b.run_loop(turn, count))?;
+        let made = self.loop_cell(function, cell_key, result)?;
         let outer = self.add(Expr::Function(c, cell, around))?;
         let node = self.add(Expr::Apply(outer, made))?;
         Some(self.wrapped(node, 2))
+    }
+
+    /// Puts the function of a loop into its cell, and calls it with a count.
+    fn run_loop(&mut self, turn: Turn, count: u32) -> Option<Node> {
+        let number = self.number();
+        let body = self.under(turn.n, number, |b| b.loop_body(turn))?;
+        let looped = self.add(Expr::Function(turn.n, number, body))?;
+        let held = self.add(Expr::Variable(turn.c))?;
+        let assigned = self.add(Expr::Assign(held, looped))?;
+        let count = self.literal(count);
+        self.add(Expr::Apply(assigned, count))
+    }
+
+    /// One turn: the load, and where the counter is not zero a call with one less.
+    fn loop_body(&mut self, turn: Turn) -> Option<Node> {
+        let Turn { n, c, load, base, result, tail } = turn;
+        let number = self.number();
+        let one = self.literal(1);
+        let also_one = self.literal(1);
+        let step = self.add(Expr::Test(load, one, also_one, number))?;
+        let counter = self.add(Expr::Variable(n))?;
+        let less = self.add(Expr::Difference(counter, step))?;
+        let held = self.add(Expr::Variable(c))?;
+        let itself = self.add(Expr::Read(held))?;
+        let mut again = self.add(Expr::Apply(itself, less))?;
+        if !tail {
+            let one = self.literal(1);
+            again = self.add(Expr::Sum(again, one))?;
+        }
+        let tested = self.add(Expr::Variable(n))?;
+        self.add(Expr::Test(tested, again, base, result))
+    }
+
+    /// The cell of a loop, with a function that does nothing.
+    fn loop_cell(&mut self, function: Ty, key: u8, result: Ty) -> Option<Node> {
+        let number = self.number();
+        let v = self.new_variable()?;
+        let nothing = self.under(v, number, |b| b.of_type(result, 0))?;
+        let first = self.add(Expr::Function(v, number, nothing))?;
+        let made = self.add(Expr::NewCell(function, first))?;
+        if key == 0 {
+            return Some(made);
+        }
+        let limit = self.key(key, false)?;
+        self.add(Expr::Associate(made, limit))
     }
 
     /// A number worked out in each turn of a loop; it mostly uses up one kind of room.
@@ -890,26 +934,8 @@ impl<'r> Builder<'r> {
                 let pair = self.add(Expr::Pair(a, b))?;
                 self.add(Expr::Part(pair, 1))
             }
-            3 => {
-                let (x, y) = (self.new_variable()?, self.new_variable()?);
-                let inner = self.under(y, number, |b| b.add(Expr::Variable(y)))?;
-                let inner = self.add(Expr::Function(y, number, inner))?;
-                let ty = self.of(inner).ty;
-                let body = self.some_number();
-                let outer = self.add(Expr::Function(x, ty, body))?;
-                self.add(Expr::Apply(outer, inner))
-            }
-            4 | 5 => {
-                let number = self.key_around(|b| Some(b.keyed_body(1)))?;
-                match self.shape(number) {
-                    Shape::Number => Some(number),
-                    _ => {
-                        let both = self.some_number();
-                        let pair = self.add(Expr::Pair(number, both))?;
-                        self.add(Expr::Part(pair, 2))
-                    }
-                }
-            }
+            3 => self.function_load(),
+            4 | 5 => self.key_load(),
             6 => {
                 let mut sum = self.some_number();
                 for _ in 0..20 + self.rng.below(80) {
@@ -922,17 +948,40 @@ impl<'r> Builder<'r> {
         }
     }
 
+    /// A load that makes functions.
+    fn function_load(&mut self) -> Option<Node> {
+        let number = self.number();
+        let (x, y) = (self.new_variable()?, self.new_variable()?);
+        let inner = self.under(y, number, |b| b.add(Expr::Variable(y)))?;
+        let inner = self.add(Expr::Function(y, number, inner))?;
+        let ty = self.of(inner).ty;
+        let body = self.some_number();
+        let outer = self.add(Expr::Function(x, ty, body))?;
+        self.add(Expr::Apply(outer, inner))
+    }
+
+    /// A load that makes a key.
+    fn key_load(&mut self) -> Option<Node> {
+        let number = self.key_around(|b| Some(b.keyed_body(1)))?;
+        match self.shape(number) {
+            Shape::Number => Some(number),
+            _ => {
+                let both = self.some_number();
+                let pair = self.add(Expr::Pair(number, both))?;
+                self.add(Expr::Part(pair, 2))
+            }
+        }
+    }
+
     // The end.
 
+    /// The job whose last expression is the root, if there is room for it.
     fn finish(mut self, root: Node) -> Option<Job> {
         let order = self.order(root);
         if order.len() > EXPRESSIONS {
             return None;
         }
-        let mut places = HashMap::new();
-        for (place, &node) in order.iter().enumerate() {
-            places.insert(node, place as u16);
-        }
+        let places: HashMap<Node, u16> = order.iter().copied().zip(0..).collect();
         let mut job = Job { names: self.names.clone(), ..Job::default() };
         let mut declared = HashMap::new();
         for index in 0..self.hosts.len() {
@@ -940,12 +989,7 @@ impl<'r> Builder<'r> {
             let ty = self.declare(&mut job, &mut declared, ty)?;
             job.hosts.push(HostValue { ty, number });
         }
-        let mut free: Vec<u8> = (job.hosts.len() as u8..VARIABLES as u8).collect();
-        if self.rng.chance(50) {
-            for place in (1..free.len()).rev() {
-                free.swap(place, self.rng.below(place + 1));
-            }
-        }
+        let free = self.free_variables(job.hosts.len());
         for &node in &order {
             let mut expr = self.of(node).expr;
             expr.each_operand_mut(|operand| *operand = places[operand]);
@@ -965,6 +1009,17 @@ impl<'r> Builder<'r> {
         }
         job.rights = self.rights(self.of(root).effect);
         Some(job)
+    }
+
+    /// The variables that are left beside so many host values, in order or in none.
+    fn free_variables(&mut self, hosts: usize) -> Vec<u8> {
+        let mut free: Vec<u8> = (hosts as u8..VARIABLES as u8).collect();
+        if self.rng.chance(50) {
+            for place in (1..free.len()).rev() {
+                free.swap(place, self.rng.below(place + 1));
+            }
+        }
+        free
     }
 
     /// The expressions below a root, operands before their users.

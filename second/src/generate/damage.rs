@@ -17,32 +17,13 @@ pub fn tables(rng: &mut Rng, job: &mut Job) {
                 ty.key = name;
             }
         }
-        3 => {
-            if let Some(ty) = some(rng, &mut job.types) {
-                match &mut ty.shape {
-                    Shape::Limit(own) | Shape::Grant(own) => *own = name.max(1),
-                    Shape::Function(_, _, effect) => {
-                        *effect = job.names.reduce(*effect ^ 1 << name.max(1));
-                    }
-                    _ => ty.key = 0,
-                }
-            }
-        }
+        3 => other_name(rng, job, name),
         4 => {
             let open = job.names.host() | 2;
             job.rights = job.names.reduce(rng.word() & rng.word() & open);
         }
         5 => job.rights = 0,
-        6 => {
-            let ty = rng.below(job.types.len().max(1)) as u16;
-            match &mut job.exprs[expr] {
-                Expr::Function(_, own, _)
-                | Expr::NewCell(own, _)
-                | Expr::Test(_, _, _, own)
-                | Expr::NewKey(_, _, _, _, own) => *own = ty,
-                _ => {}
-            }
-        }
+        6 => other_type(rng, job, expr),
         7 => {
             let (a, b) = (rng.below(64) as u8, rng.below(names.max(3)) as u8);
             let only_name = rng.chance(50);
@@ -53,56 +34,89 @@ pub fn tables(rng: &mut Rng, job: &mut Job) {
             }
         }
         8 => job.exprs[expr] = other_command(rng, job.exprs[expr]),
-        9 => {
-            // One binder takes over what another binds.
-            let binders: Vec<usize> =
-                (0..job.exprs.len()).filter(|&e| job.exprs[e].binder().is_some()).collect();
-            if !binders.is_empty() {
-                let (from, to) = (rng.pick(&binders), rng.pick(&binders));
-                let Some(binder) = job.exprs[from].binder() else {
-                    return;
-                };
-                match &mut job.exprs[to] {
-                    Expr::NewKey(_, name, ..) if binder.name.is_some() && rng.chance(60) => {
-                        *name = binder.name.unwrap_or(*name);
-                    }
-                    Expr::Function(v, ..) | Expr::NewKey(v, ..) => *v = binder.variable,
-                    _ => {}
-                }
-            }
-        }
+        9 => take_over_binder(rng, job),
         10 => job.names = other_upper(rng, &job.names),
-        11 => {
-            // A variable for another one, often of another kind.
-            let v = variables(job);
-            if !v.is_empty() {
-                let (a, b) = (rng.pick(&v), rng.pick(&v));
-                job.exprs[a] = job.exprs[b];
+        11 => other_variable(rng, job),
+        12 => match &mut job.exprs[expr] {
+            Expr::Part(_, part) => *part = 3 - *part,
+            number @ Expr::Number(_) => *number = Expr::Top,
+            _ => {}
+        },
+        13 => share_operand(rng, job, expr),
+        _ => other_parts(rng, job),
+    }
+}
+
+/// Another name in a key type or in a function's effect.
+fn other_name(rng: &mut Rng, job: &mut Job, name: u8) {
+    if let Some(ty) = some(rng, &mut job.types) {
+        match &mut ty.shape {
+            Shape::Limit(own) | Shape::Grant(own) => *own = name.max(1),
+            Shape::Function(_, _, effect) => {
+                *effect = job.names.reduce(*effect ^ 1 << name.max(1));
             }
+            _ => ty.key = 0,
         }
-        12 => {
-            if let Expr::Number(_) = job.exprs[expr] {
-                job.exprs[expr] = Expr::Top;
-            } else if let Expr::Part(_, part) = &mut job.exprs[expr] {
-                *part = 3 - *part;
-            }
+    }
+}
+
+/// Another type operand.
+fn other_type(rng: &mut Rng, job: &mut Job, expr: usize) {
+    let ty = rng.below(job.types.len().max(1)) as u16;
+    match &mut job.exprs[expr] {
+        Expr::Function(_, own, _)
+        | Expr::NewCell(own, _)
+        | Expr::Test(_, _, _, own)
+        | Expr::NewKey(_, _, _, _, own) => *own = ty,
+        _ => {}
+    }
+}
+
+/// One binder takes over what another binds.
+fn take_over_binder(rng: &mut Rng, job: &mut Job) {
+    let binders: Vec<usize> =
+        (0..job.exprs.len()).filter(|&e| job.exprs[e].binder().is_some()).collect();
+    if binders.is_empty() {
+        return;
+    }
+    let (from, to) = (rng.pick(&binders), rng.pick(&binders));
+    let Some(binder) = job.exprs[from].binder() else {
+        return;
+    };
+    match &mut job.exprs[to] {
+        Expr::NewKey(_, name, ..) if binder.name.is_some() && rng.chance(60) => {
+            *name = binder.name.unwrap_or(*name);
         }
-        13 => {
-            // An operand that another expression may use too.
-            if let Some(operand) = some(rng, &mut references(&mut job.exprs[expr])) {
-                **operand = rng.below(expr) as u16;
-            }
-        }
-        _ => {
-            let count = job.types.len();
-            if let Some(ty) = some(rng, &mut job.types) {
-                let other = rng.below(count) as u16;
-                match &mut ty.shape {
-                    Shape::Pair(a, b) | Shape::Function(a, b, _) => std::mem::swap(a, b),
-                    Shape::Cell(a) if other < *a => *a = other,
-                    _ => {}
-                }
-            }
+        Expr::Function(v, ..) | Expr::NewKey(v, ..) => *v = binder.variable,
+        _ => {}
+    }
+}
+
+/// A variable for another one, often of another kind.
+fn other_variable(rng: &mut Rng, job: &mut Job) {
+    let v = variables(job);
+    if !v.is_empty() {
+        let (a, b) = (rng.pick(&v), rng.pick(&v));
+        job.exprs[a] = job.exprs[b];
+    }
+}
+
+/// An operand that another expression may use too.
+fn share_operand(rng: &mut Rng, job: &mut Job, expr: usize) {
+    if let Some(operand) = some(rng, &mut references(&mut job.exprs[expr])) {
+        **operand = rng.below(expr) as u16;
+    }
+}
+
+/// The parts of a type in the other order, or another part.
+fn other_parts(rng: &mut Rng, job: &mut Job) {
+    let count = job.types.len();
+    if let Some(ty) = some(rng, &mut job.types) {
+        let other = rng.below(count) as u16;
+        match &mut ty.shape {
+            Shape::Pair(a, b) | Shape::Function(a, b, _) => std::mem::swap(a, b),
+            Shape::Cell(a) if other < *a => *a = other,
+            _ => {}
         }
     }
 }
@@ -193,18 +207,8 @@ pub fn bytes(rng: &mut Rng, bytes: &mut Vec<u8>) {
         return bytes.push(rng.word() as u8);
     }
     let at = rng.below(commands.len());
-    let edges = [0, 1, 2, 3, 4, 5, 63, 64, 0xFE, 0xFF];
     match rng.below(12) {
-        0..4 => {
-            let command = &mut commands[at];
-            let place = rng.below(command.len()).max(command.len().min(2) - 1);
-            command[place] = match rng.below(4) {
-                0 => rng.pick(&edges),
-                1 => command[place].wrapping_add(1),
-                2 => command[place] ^ 1 << rng.below(8),
-                _ => rng.word() as u8,
-            };
-        }
+        0..4 => change_byte(rng, &mut commands[at]),
         4 => commands[at][0] = rng.word() as u8,
         5 => {
             let other = rng.below(commands.len());
@@ -232,19 +236,33 @@ pub fn bytes(rng: &mut Rng, bytes: &mut Vec<u8>) {
             let cut = rng.below(commands.len());
             commands[..].rotate_left(cut);
         }
-        _ => {
-            // One command until its limit is passed.
-            let limit = match commands[at][0] {
-                0x01 | 0x02 => 63,
-                0x10..=0x15 => 257,
-                0x20 => 65,
-                _ => 513,
-            };
-            let again = commands[at].clone();
-            commands.splice(at..at, std::iter::repeat_n(again, limit));
-        }
+        _ => repeat(&mut commands, at),
     }
     *bytes = commands.concat();
+}
+
+/// Changes one byte of a command, mostly of its operands.
+fn change_byte(rng: &mut Rng, command: &mut [u8]) {
+    let edges = [0, 1, 2, 3, 4, 5, 63, 64, 0xFE, 0xFF];
+    let place = rng.below(command.len()).max(command.len().min(2) - 1);
+    command[place] = match rng.below(4) {
+        0 => rng.pick(&edges),
+        1 => command[place].wrapping_add(1),
+        2 => command[place] ^ 1 << rng.below(8),
+        _ => rng.word() as u8,
+    };
+}
+
+/// Repeats a command until its limit is passed.
+fn repeat(commands: &mut Vec<Vec<u8>>, at: usize) {
+    let limit = match commands[at][0] {
+        0x01 | 0x02 => 63,
+        0x10..=0x15 => 257,
+        0x20 => 65,
+        _ => 513,
+    };
+    let again = commands[at].clone();
+    commands.splice(at..at, std::iter::repeat_n(again, limit));
 }
 
 /// The commands of a job; a rest that is none is one piece.

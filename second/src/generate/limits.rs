@@ -205,7 +205,25 @@ fn brink(rng: &mut Rng) -> Job {
     types.push(Type { key: 2, shape: Shape::Limit(2) });
     let mut e = Exprs(Vec::new());
     let room = rng.below(5);
-    let (load, turns) = match room {
+    let (load, turns) = filling(&mut e, room);
+    let short = rng.pick(&[0, 0, 0, 1, 2]);
+    let run = looped(&mut e, load, turns - short);
+    let needed = if rng.chance(60) { room } else { rng.below(5) };
+    let act = needing(&mut e, needed);
+    e.add(Expr::Sum(run, act));
+    Job {
+        names,
+        types,
+        hosts: vec![HostValue { ty: 3, number: 0 }],
+        rights: rng.pick(&[0, 2, 2, 4]),
+        exprs: e.0,
+        ..Job::default()
+    }
+}
+
+/// A load that uses up a kind of room, and the turns that fill it.
+fn filling(e: &mut Exprs, room: usize) -> (u16, u32) {
+    match room {
         0 => (e.number(0), 1020),
         1 => {
             let content = e.number(1);
@@ -227,10 +245,12 @@ fn brink(rng: &mut Rng) -> Job {
             let (top, body) = (e.add(Expr::Top), e.number(1));
             (e.add(Expr::NewKey(5, 3, top, body, 0)), 125)
         }
-    };
-    let short = rng.pick(&[0, 0, 0, 1, 2]);
-    let run = looped(&mut e, load, turns - short);
-    let act = match if rng.chance(60) { room } else { rng.below(5) } {
+    }
+}
+
+/// An act that needs a kind of room.
+fn needing(e: &mut Exprs, room: usize) -> u16 {
+    match room {
         1 => {
             let content = e.number(1);
             let cell = e.add(Expr::NewCell(0, content));
@@ -253,15 +273,6 @@ fn brink(rng: &mut Rng) -> Job {
             let (key, body) = (e.variable(0), e.number(1));
             e.add(Expr::NewKey(7, 4, key, body, 0))
         }
-    };
-    e.add(Expr::Sum(run, act));
-    Job {
-        names,
-        types,
-        hosts: vec![HostValue { ty: 3, number: 0 }],
-        rights: rng.pick(&[0, 2, 2, 4]),
-        exprs: e.0,
-        ..Job::default()
     }
 }
 
@@ -304,18 +315,23 @@ fn full(rng: &mut Rng) -> Vec<u8> {
     let mut types = vec![number(0)];
     while types.len() < TYPES {
         let key = rng.below(64) as u8;
-        types.push(Type {
-            key,
-            shape: match rng.below(3) {
-                0 => Shape::Cell(0),
-                1 => Shape::Limit(key.max(1)),
-                _ => Shape::Grant(key.max(1)),
-            },
-        });
+        let shape = match rng.below(3) {
+            0 => Shape::Cell(0),
+            1 => Shape::Limit(key.max(1)),
+            _ => Shape::Grant(key.max(1)),
+        };
+        types.push(Type { key, shape });
     }
     let hosts: Vec<HostValue> = (0..VARIABLES)
         .map(|_| HostValue { ty: 1 + rng.below(TYPES - 1) as u16, number: 0 })
         .collect();
+    let exprs = full_of_uses(rng, &types, &hosts);
+    let rights = if rng.chance(60) { 2 } else { 4 };
+    write(&Job { names, types, hosts, rights, exprs, ..Job::default() })
+}
+
+/// As many expressions as there may be, or nearly, that use host values.
+fn full_of_uses(rng: &mut Rng, types: &[Type], hosts: &[HostValue]) -> Vec<Expr> {
     let mut e = Exprs(Vec::new());
     let mut body = e.number(1);
     while e.0.len() < EXPRESSIONS - 6 {
@@ -333,62 +349,56 @@ fn full(rng: &mut Rng) -> Vec<u8> {
             _ => e.add(Expr::Grant(one, body)),
         };
     }
-    let job = Job {
-        names,
-        types,
-        hosts,
-        rights: if rng.chance(60) { 2 } else { 4 },
-        exprs: e.0,
-        ..Job::default()
-    };
-    write(&job)
+    e.0
 }
 
-/// A job of most commands with one byte on the edge of a condition.
+/// A job of most commands.
+const MOST: [&[u8]; 25] = [
+    &[0x01, 1],
+    &[0x02, 2],
+    &[0x10, 0],
+    &[0x12, 2, 0, 0],
+    &[0x14, 0, 2],
+    &[0x15, 0, 2],
+    &[0x11, 0, 0, 0, 0, 0],
+    &[0x13, 0, 0, 0, 0, 0, 4, 0, 0, 0, 0, 0, 0, 0],
+    &[0x20, 1, 0, 7, 0, 0, 0],
+    &[0x20, 2, 0, 0, 0, 0, 0],
+    &[0x20, 3, 0, 0, 0, 0, 0],
+    &[0x21, 4, 0, 0, 0, 0, 0, 0, 0],
+    &[0x32, 1],
+    &[0x30, 5, 0, 0, 0],
+    &[0x3E, 10, 3, 0, 0, 1, 0, 0, 0],
+    &[0x32, 1],
+    &[0x31],
+    &[0x3C, 2, 3, 0, 4, 0, 0xFF, 0xFF, 0xFF, 0xFF, 2, 0],
+    &[0x30, 6, 0, 0, 0],
+    &[0x3A, 0, 5, 0, 6, 0],
+    &[0x31],
+    &[0x33, 7, 0, 8, 0],
+    &[0x34, 9, 0, 1],
+    &[0x35, 11, 0, 0, 10, 0],
+    &[0xFF],
+];
+
+/// Bytes of it on the edge of a condition: command, byte, value.
+#[rustfmt::skip]
+const EDGES: [(usize, usize, u8); 72] = [
+    (0, 1, 0), (0, 1, 2), (1, 1, 0), (1, 1, 3), (1, 0, 1), (2, 1, 4), (2, 1, 3), (3, 1, 0),
+    (3, 1, 3), (3, 2, 1), (4, 2, 0), (4, 2, 3), (4, 2, 4), (5, 2, 0), (5, 2, 1), (6, 2, 4),
+    (6, 3, 1), (7, 4, 5), (7, 6, 1), (7, 6, 2), (7, 6, 6), (7, 6, 12), (7, 6, 8), (7, 6, 16),
+    (7, 13, 128), (8, 1, 0), (8, 1, 4), (8, 1, 6), (9, 3, 1), (10, 6, 1), (11, 1, 0),
+    (11, 1, 1), (11, 1, 2), (11, 1, 5), (11, 1, 6), (11, 1, 8), (11, 1, 16), (12, 1, 0),
+    (12, 1, 2), (12, 1, 10), (12, 1, 63), (12, 1, 64), (14, 1, 2), (14, 1, 3), (14, 1, 11),
+    (14, 1, 63), (14, 1, 64), (14, 2, 2), (14, 2, 1), (14, 2, 4), (14, 3, 2), (14, 7, 6),
+    (17, 1, 0), (17, 1, 1), (17, 1, 3), (17, 1, 4), (17, 1, 5), (17, 2, 5), (17, 6, 0),
+    (17, 7, 0), (17, 9, 0xFE), (19, 1, 1), (19, 1, 2), (19, 2, 7), (22, 3, 0), (22, 3, 2),
+    (22, 3, 3), (23, 1, 2), (23, 1, 10), (23, 1, 64), (23, 2, 1), (24, 0, 0xFE),
+];
+
+/// A job of most commands with one byte on the edge of a condition, or a command more.
 fn edited(rng: &mut Rng) -> Vec<u8> {
-    let mut commands: Vec<Vec<u8>> = [
-        &[0x01, 1][..],
-        &[0x02, 2],
-        &[0x10, 0],
-        &[0x12, 2, 0, 0],
-        &[0x14, 0, 2],
-        &[0x15, 0, 2],
-        &[0x11, 0, 0, 0, 0, 0],
-        &[0x13, 0, 0, 0, 0, 0, 4, 0, 0, 0, 0, 0, 0, 0],
-        &[0x20, 1, 0, 7, 0, 0, 0],
-        &[0x20, 2, 0, 0, 0, 0, 0],
-        &[0x20, 3, 0, 0, 0, 0, 0],
-        &[0x21, 4, 0, 0, 0, 0, 0, 0, 0],
-        &[0x32, 1],
-        &[0x30, 5, 0, 0, 0],
-        &[0x3E, 10, 3, 0, 0, 1, 0, 0, 0],
-        &[0x32, 1],
-        &[0x31],
-        &[0x3C, 2, 3, 0, 4, 0, 0xFF, 0xFF, 0xFF, 0xFF, 2, 0],
-        &[0x30, 6, 0, 0, 0],
-        &[0x3A, 0, 5, 0, 6, 0],
-        &[0x31],
-        &[0x33, 7, 0, 8, 0],
-        &[0x34, 9, 0, 1],
-        &[0x35, 11, 0, 0, 10, 0],
-        &[0xFF],
-    ]
-    .map(<[u8]>::to_vec)
-    .into();
-    // Command, byte, value.
-    #[rustfmt::skip]
-    let edits = [
-        (0, 1, 0), (0, 1, 2), (1, 1, 0), (1, 1, 3), (1, 0, 1), (2, 1, 4), (2, 1, 3), (3, 1, 0),
-        (3, 1, 3), (3, 2, 1), (4, 2, 0), (4, 2, 3), (4, 2, 4), (5, 2, 0), (5, 2, 1), (6, 2, 4),
-        (6, 3, 1), (7, 4, 5), (7, 6, 1), (7, 6, 2), (7, 6, 6), (7, 6, 12), (7, 6, 8), (7, 6, 16),
-        (7, 13, 128), (8, 1, 0), (8, 1, 4), (8, 1, 6), (9, 3, 1), (10, 6, 1), (11, 1, 0),
-        (11, 1, 1), (11, 1, 2), (11, 1, 5), (11, 1, 6), (11, 1, 8), (11, 1, 16), (12, 1, 0),
-        (12, 1, 2), (12, 1, 10), (12, 1, 63), (12, 1, 64), (14, 1, 2), (14, 1, 3), (14, 1, 11),
-        (14, 1, 63), (14, 1, 64), (14, 2, 2), (14, 2, 1), (14, 2, 4), (14, 3, 2), (14, 7, 6),
-        (17, 1, 0), (17, 1, 1), (17, 1, 3), (17, 1, 4), (17, 1, 5), (17, 2, 5), (17, 6, 0),
-        (17, 7, 0), (17, 9, 0xFE), (19, 1, 1), (19, 1, 2), (19, 2, 7), (22, 3, 0), (22, 3, 2),
-        (22, 3, 3), (23, 1, 2), (23, 1, 10), (23, 1, 64), (23, 2, 1), (24, 0, 0xFE),
-    ];
+    let mut commands: Vec<Vec<u8>> = MOST.map(<[u8]>::to_vec).into();
     match rng.below(10) {
         0 => {
             let (at, again) = (rng.below(25), rng.below(25));
@@ -401,7 +411,7 @@ fn edited(rng: &mut Rng) -> Vec<u8> {
             commands.insert(11, again);
         }
         _ => {
-            let (command, byte, value) = rng.pick(&edits);
+            let (command, byte, value) = rng.pick(&EDGES);
             commands[command][byte] = value;
         }
     }
@@ -440,37 +450,43 @@ fn scopes(rng: &mut Rng) -> Job {
         number(3),
     ];
     let mut e = Exprs(Vec::new());
-    let mut next = 2u8;
-    let mut beside = |rng: &mut Rng, e: &mut Exprs, inner: u16, plain: usize| {
-        let ty = if rng.chance(plain) { 0 } else { rng.below(7) as u16 };
-        let body = match rng.below(4) {
-            0 => e.variable(rng.below(3) as u8),
-            _ => e.number(1),
-        };
-        if rng.chance(85) {
-            next += 1;
-        }
-        let function = e.add(Expr::Function(next, ty, body));
-        let pair = e.add(Expr::Pair(function, inner));
-        e.add(Expr::Part(pair, 2))
-    };
+    let mut next = 2;
     let twice = rng.chance(40);
     let mut sum = None;
     for turn in 0..1 + twice as u8 {
-        let top = e.add(Expr::Top);
-        let key = beside(rng, &mut e, top, 60);
-        let one = e.number(1);
-        let body = beside(rng, &mut e, one, 30);
-        let own = if rng.chance(60) { 0 } else { rng.below(7) as u16 };
-        let name = if rng.chance(80) { 2 + turn } else { 2 };
-        let mut made = e.add(Expr::NewKey(turn, name, key, body, own));
-        if rng.chance(40) {
-            made = beside(rng, &mut e, made, 50);
-        }
+        let made = scoped_key(rng, &mut e, &mut next, turn);
         sum = Some(match sum {
             Some(sum) => e.add(Expr::Sum(sum, made)),
             None => made,
         });
     }
     Job { names, types, rights: 2, exprs: e.0, ..Job::default() }
+}
+
+/// A new key, with functions beside its operands whose types may name it.
+fn scoped_key(rng: &mut Rng, e: &mut Exprs, next: &mut u8, turn: u8) -> u16 {
+    let top = e.add(Expr::Top);
+    let key = beside(rng, e, next, top, 60);
+    let one = e.number(1);
+    let body = beside(rng, e, next, one, 30);
+    let own = if rng.chance(60) { 0 } else { rng.below(7) as u16 };
+    let name = if rng.chance(80) { 2 + turn } else { 2 };
+    let made = e.add(Expr::NewKey(turn, name, key, body, own));
+    if rng.chance(40) { beside(rng, e, next, made, 50) } else { made }
+}
+
+/// An expression, with a function beside it that is dropped. `next` is the last variable bound; the
+/// type is that of numbers `plain` times in a hundred.
+fn beside(rng: &mut Rng, e: &mut Exprs, next: &mut u8, inner: u16, plain: usize) -> u16 {
+    let ty = if rng.chance(plain) { 0 } else { rng.below(7) as u16 };
+    let body = match rng.below(4) {
+        0 => e.variable(rng.below(3) as u8),
+        _ => e.number(1),
+    };
+    if rng.chance(85) {
+        *next += 1;
+    }
+    let function = e.add(Expr::Function(*next, ty, body));
+    let pair = e.add(Expr::Pair(function, inner));
+    e.add(Expr::Part(pair, 2))
 }

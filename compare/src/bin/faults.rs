@@ -1,15 +1,18 @@
-//! The proved code against the second implementation with a fault.
+//! Compares the proved code with the second implementation with one fault after another.
+//!
+//! `faults [COUNT] [SEED]` fails if a fault makes no difference.
 
 use std::process::ExitCode;
 
 use compare::expected;
 use compare::probe::probe;
-use compare::proved::{self, Tables, run_of};
+use compare::proved::{self, Tables};
 use compare::words::{kind, set_word, type_word};
-use second::fault::{ALL, NONE, observe};
+use jobdesk::Call;
 use second::generate::{Rng, job};
-use second::observe::Seen;
+use second::observe::{Ran, Seen, observe};
 use second::{Kind, read};
+use second_faults::ALL;
 
 /// What is seen of a job on either side.
 #[derive(PartialEq, Eq)]
@@ -49,11 +52,10 @@ fn proved(job: &[u8], steps: &[u64], tables: &mut Tables) -> Observed {
         }
         (number, [place, _]) => Verdict::Refused(number, place),
     };
-    let calls: Vec<u64> = steps.iter().map(|&steps| run_of(steps)).collect();
-    let mut answers = vec![0; 2 * calls.len()];
-    let runs = match proved::run(job, tables, &calls, &mut answers) {
-        (0, rooms) => Ok((answers, rooms)),
-        (number, rooms) => Err((number, rooms[0])),
+    let calls: Vec<Call> = steps.iter().map(|&steps| Call::Run(steps)).collect();
+    let runs = match proved::run(job, tables, &calls, 0) {
+        (0, answers, rooms) => Ok((answers, rooms)),
+        (number, _, rooms) => Err((number, rooms[0])),
     };
     Observed { verdict, runs }
 }
@@ -72,8 +74,8 @@ fn second(seen: &Seen) -> Observed {
     };
     let runs = match &seen.runs {
         Ok(runs) => {
-            let answers =
-                runs.iter().flat_map(|run| [expected::outcome(run.outcome), run.steps]).collect();
+            let answer = |run: &Ran| [expected::outcome(run.outcome).number(), run.steps];
+            let answers = runs.iter().flat_map(answer).collect();
             Ok((answers, runs.last().map_or([0; 6], |run| expected::rooms(run.rooms))))
         }
         Err(refusal) => Err((refusal.number as u64, refusal.place as u64)),
@@ -93,7 +95,7 @@ fn cases(seed: u64, tables: &mut Tables, cases: &mut Vec<Case>) {
     let mut next = Some(job(seed).1);
     for _ in 0..3 {
         let Some(job) = next.take() else { return };
-        let whole = observe(NONE, &job, &[100_000]);
+        let whole = observe(&job, &[100_000]);
         let (mut taken, mut result) = (0, None);
         if let Ok(runs) = whole.runs {
             (taken, result) = (runs[0].steps, runs[0].result);
@@ -105,31 +107,44 @@ fn cases(seed: u64, tables: &mut Tables, cases: &mut Vec<Case>) {
     }
 }
 
+/// Whether what is seen of a job by the second implementation is not what the proved code does.
+fn differs(case: &Case, seen: Seen) -> bool {
+    second(&seen) != case.proved
+}
+
 /// Looks for a difference with each fault, on the jobs of so many seeds.
-pub fn all(count: u64, seed: u64) -> ExitCode {
+fn all(count: u64, seed: u64) -> ExitCode {
     let mut list = Vec::new();
     let mut tables = Tables::least();
     for seed in seed..seed.saturating_add(count) {
         cases(seed, &mut tables, &mut list);
     }
     list.sort_by_key(|case| case.job.len());
-    let differs = |fault: u32| {
-        move |case: &&Case| second(&observe(fault, &case.job, &case.steps)) != case.proved
-    };
-    if let Some(case) = list.iter().find(differs(NONE)) {
+    if let Some(case) = list.iter().find(|case| differs(case, observe(&case.job, &case.steps))) {
         println!("difference without a fault\njob: {}", second::to_hex(&case.job));
         return ExitCode::FAILURE;
     }
     let mut missed = 0;
-    for &(fault, text) in ALL {
-        match list.iter().find(differs(fault)) {
-            Some(case) => println!("caught {fault:3} by {:5} bytes: {text}", case.job.len()),
+    for fault in ALL {
+        let (number, text) = (fault.number, fault.text);
+        match list.iter().find(|case| differs(case, fault.observe(&case.job, &case.steps))) {
+            Some(case) => println!("caught {number:3} by {:5} bytes: {text}", case.job.len()),
             None => {
                 missed += 1;
-                println!("MISSED {fault:3}: {text}");
+                println!("MISSED {number:3}: {text}");
             }
         }
     }
     println!("{} caught, {missed} missed, with {} jobs", ALL.len() - missed, list.len());
     ExitCode::from((missed > 0) as u8)
+}
+
+fn main() -> ExitCode {
+    match compare::arguments() {
+        Some([count, seed]) => all(count.unwrap_or(10_000), seed.unwrap_or(1)),
+        None => {
+            eprintln!("usage: faults [COUNT] [SEED]");
+            ExitCode::from(2)
+        }
+    }
 }

@@ -7,10 +7,10 @@
 
 use std::process::ExitCode;
 
-use second::fault::{ALL, NONE, observe};
 use second::generate::job;
-use second::observe::Seen;
+use second::observe::{Seen, observe};
 use second::to_hex;
+use second_faults::{ALL, Fault};
 
 struct Case {
     job: Vec<u8>,
@@ -21,12 +21,28 @@ struct Case {
 impl Case {
     /// A job, run from its start in two parts that meet its end, and then some steps more.
     fn new(job: Vec<u8>) -> Self {
-        let whole = observe(NONE, &job, &[100_000]);
+        let whole = observe(&job, &[100_000]);
         let taken = whole.runs.map_or(0, |runs| runs[0].steps);
         let steps = vec![0, taken / 2, taken - taken / 2, 0, 3];
-        let seen = observe(NONE, &job, &steps);
+        let seen = observe(&job, &steps);
         Case { job, steps, seen }
     }
+}
+
+/// Whether one of the cases tells a fault; prints the first that does.
+fn caught(fault: &Fault, cases: &[Case]) -> bool {
+    let Fault { number, text, .. } = fault;
+    for case in cases {
+        let faulty = fault.observe(&case.job, &case.steps);
+        if faulty != case.seen {
+            let steps: Vec<String> = case.steps.iter().map(u64::to_string).collect();
+            let (job, steps) = (to_hex(&case.job), steps.join(","));
+            println!("caught\t{number}\t{text}\t{job}\t{steps}\t{}\t{faulty}", case.seen);
+            return true;
+        }
+    }
+    println!("missed\t{number}\t{text}");
+    false
 }
 
 fn main() -> ExitCode {
@@ -35,28 +51,7 @@ fn main() -> ExitCode {
     let seed = numbers.next().flatten().unwrap_or(1);
     let mut cases: Vec<Case> = (seed..seed + count).map(|seed| Case::new(job(seed).1)).collect();
     cases.sort_by_key(|case| case.job.len());
-    let mut missed = 0;
-    for &(fault, text) in ALL {
-        let caught = cases.iter().find_map(|case| {
-            let faulty = observe(fault, &case.job, &case.steps);
-            (faulty != case.seen).then_some((case, faulty))
-        });
-        match caught {
-            Some((case, faulty)) => {
-                let steps: Vec<String> = case.steps.iter().map(u64::to_string).collect();
-                println!(
-                    "caught\t{fault}\t{text}\t{}\t{}\t{}\t{faulty}",
-                    to_hex(&case.job),
-                    steps.join(","),
-                    case.seen
-                );
-            }
-            None => {
-                missed += 1;
-                println!("missed\t{fault}\t{text}");
-            }
-        }
-    }
+    let missed = ALL.iter().filter(|fault| !caught(fault, &cases)).count();
     println!("{} caught, {missed} missed", ALL.len() - missed);
     ExitCode::from((missed > 0) as u8)
 }

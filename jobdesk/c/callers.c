@@ -1,0 +1,179 @@
+/* Calls the proved code from C as jobdesk.h says, and holds what it gives to what must come.
+ * Prints each difference, and ends with status 1 if there is one. */
+#include <stdio.h>
+#include <string.h>
+
+#include "jobdesk.h"
+
+/* A host cell that holds 7 and whose key is name 2; the job reads it. Byte 16 has the rights. */
+#define RIGHTS 16
+static const uint8_t example[] = {
+    0x01, 1,                               /* name 2, a host name below the top */
+    0x10, 0,                               /* type 0: number */
+    0x12, 2, 0, 0,                         /* type 1: cell of type 0, with key 2 */
+    0x20, 1, 0, 7, 0, 0, 0,                /* variable 0: a host value of type 1 */
+    0x21, 4, 0, 0, 0, 0, 0, 0, 0,          /* rights: name 2 */
+    0x32, 0,                               /* expression 0: variable 0 */
+    0x39, 0, 0,                            /* expression 1: what it holds */
+    0xFF,
+};
+
+static struct jobdesk_tables tables;
+static int differences;
+
+static void same(const char *what, uint64_t got, uint64_t wanted)
+{
+    if (got != wanted) {
+        printf("%s: got %llu, not %llu\n", what, (unsigned long long)got,
+               (unsigned long long)wanted);
+        differences++;
+    }
+}
+
+/* Whether every byte of the tables is `byte`. */
+static int all_bytes(int byte)
+{
+    const unsigned char *at = (const unsigned char *)&tables;
+    for (size_t i = 0; i < sizeof tables; i++)
+        if (at[i] != byte)
+            return 0;
+    return 1;
+}
+
+/* Makes the tables dirty. */
+static void soil(void) { memset(&tables, 0xA5, sizeof tables); }
+
+static void accepted(void)
+{
+    uint64_t out[JOBDESK_OUT];
+    soil();
+    same("example", jobdesk_check_in(&tables, example, sizeof example, out), JOBDESK_OK);
+    same("example, entry", out[0], 0);
+    same("example, effect", out[1], 1u << 2);
+    same("name 2", tables.names[2], 1 + 256);
+    same("name 3", tables.names[3], 0);
+    same("kind of type 0", tables.types[0] & 0xFF, JOBDESK_NUMBER);
+    same("type 1", tables.types[1], JOBDESK_CELL + 256 * 2);
+    same("type 2", tables.types[2], 0);
+    same("value 0", tables.values[0], 0x20 + 256 + 16777216 * 7);
+    same("head 1", tables.heads[1], 0x39);
+    same("entry of expression 0", tables.entries[0], 1);
+    same("entry of expression 1", tables.entries[1], 0);
+    same("effect of expression 1", tables.effects[1], 4);
+    same("last effect", tables.effects[JOBDESK_EFFECTS - 1], 0);
+}
+
+static void refused(void)
+{
+    uint8_t job[sizeof example];
+    uint64_t out[JOBDESK_OUT];
+    memcpy(job, example, sizeof example);
+    job[RIGHTS] = 0;
+    soil();
+    same("no rights", jobdesk_check_in(&tables, job, sizeof job, out), JOBDESK_BEYOND_RIGHTS);
+    same("no rights, place", out[0], 1);
+    same("no rights, second word", out[1], 0);
+    same("no rights, tables zero", (uint64_t)all_bytes(0), 1);
+    soil();
+    same("no end", jobdesk_check_in(&tables, job, sizeof job - 1, out), JOBDESK_CUT_OFF);
+    same("no end, place", out[0], sizeof job - 1);
+    same("no end, tables zero", (uint64_t)all_bytes(0), 1);
+    same("no bytes", jobdesk_check_in(&tables, job, 0, out), JOBDESK_CUT_OFF);
+}
+
+static void runs(void)
+{
+    const uint64_t calls[] = { JOBDESK_STEP, JOBDESK_RUN(0), JOBDESK_RUN(100000), JOBDESK_STEP };
+    const uint64_t wanted[] = { JOBDESK_TAKEN, 1, JOBDESK_SPENT, 0, JOBDESK_DONE, 2, JOBDESK_DONE, 0 };
+    const uint64_t in_use[JOBDESK_ROOMS] = { 1, 3, 0, 0, 0, 2 };
+    uint64_t answers[8], rooms[JOBDESK_ROOMS];
+    soil();
+    same("run", jobdesk_run_in(&tables, example, sizeof example, calls, 4, answers, rooms), JOBDESK_OK);
+    for (size_t i = 0; i < 8; i++)
+        same("answers of a run", answers[i], wanted[i]);
+    for (size_t i = 0; i < JOBDESK_ROOMS; i++)
+        same("rooms of a run", rooms[i], in_use[i]);
+    same("entries not lent to a run", tables.entries[0], 0xA5A5);
+}
+
+/* A start is no verdict: the job without rights starts, and is denied. One that is cut off does not. */
+static void runs_refused(void)
+{
+    const uint64_t calls[] = { JOBDESK_RUN(100000) };
+    uint8_t job[sizeof example];
+    uint64_t answers[2], rooms[JOBDESK_ROOMS];
+    memcpy(job, example, sizeof example);
+    job[RIGHTS] = 0;
+    same("no rights, run", jobdesk_run_in(&tables, job, sizeof job, calls, 1, answers, rooms), JOBDESK_OK);
+    same("no rights, answer", answers[0], JOBDESK_DENIED);
+    same("no rights, steps", answers[1], 2);
+    answers[0] = answers[1] = 99;
+    same("no end, run", jobdesk_run_in(&tables, job, 20, calls, 1, answers, rooms), JOBDESK_CUT_OFF);
+    same("no end, run, place", rooms[0], 15);
+    same("no end, no answer", answers[0], 99);
+}
+
+/* The check of the example with tables of these lengths. */
+static uint64_t check_with(const size_t lengths[8], uint64_t out[JOBDESK_OUT])
+{
+    return jobdesk_check(example, sizeof example, tables.names, lengths[0], tables.types, lengths[1],
+                         tables.sets, lengths[2], tables.values, lengths[3], tables.heads, lengths[4],
+                         tables.slots, lengths[5], tables.entries, lengths[6], tables.effects,
+                         lengths[7], out, JOBDESK_OUT);
+}
+
+/* A run of the example with tables of these lengths. */
+static uint64_t run_with(const size_t lengths[6], uint64_t answers[2], uint64_t rooms[JOBDESK_ROOMS])
+{
+    const uint64_t calls[] = { JOBDESK_STEP };
+    return jobdesk_run(example, sizeof example, tables.names, lengths[0], tables.types, lengths[1],
+                       tables.sets, lengths[2], tables.values, lengths[3], tables.heads, lengths[4],
+                       tables.slots, lengths[5], calls, 1, answers, JOBDESK_ANSWER, rooms,
+                       JOBDESK_ROOMS);
+}
+
+/* Each table in turn is one entry too short: 1, and nothing is written. */
+static void short_tables(void)
+{
+    size_t lengths[8] = { JOBDESK_NAMES, JOBDESK_TYPES, JOBDESK_SETS, JOBDESK_VALUES, JOBDESK_HEADS,
+                          JOBDESK_SLOTS, JOBDESK_ENTRIES, JOBDESK_EFFECTS };
+    for (size_t table = 0; table < 8; table++) {
+        uint64_t out[JOBDESK_OUT] = { 99, 99 }, answers[2] = { 99, 99 }, rooms[JOBDESK_ROOMS];
+        lengths[table]--;
+        soil();
+        same("short table", check_with(lengths, out), JOBDESK_SHORT_TABLE);
+        same("short table, place", out[0] | out[1], 0);
+        if (table < 6) {
+            same("short table, run", run_with(lengths, answers, rooms), JOBDESK_SHORT_TABLE);
+            same("short table, run, place", rooms[0], 0);
+            same("short table, no answer", answers[0] & answers[1], 99);
+        }
+        same("short table, nothing written", (uint64_t)all_bytes(0xA5), 1);
+        lengths[table]++;
+    }
+}
+
+/* `out` and `rooms` get no more entries than they have. */
+static void short_results(void)
+{
+    uint64_t out[JOBDESK_OUT] = { 99, 99 };
+    same("short out", jobdesk_check(example, sizeof example, tables.names, JOBDESK_NAMES, tables.types,
+                                    JOBDESK_TYPES, tables.sets, JOBDESK_SETS, tables.values,
+                                    JOBDESK_VALUES, tables.heads, JOBDESK_HEADS, tables.slots,
+                                    JOBDESK_SLOTS, tables.entries, JOBDESK_ENTRIES, tables.effects,
+                                    JOBDESK_EFFECTS, out, 1), JOBDESK_OK);
+    same("short out, first word", out[0], 0);
+    same("short out, second word", out[1], 99);
+}
+
+int main(void)
+{
+    accepted();
+    refused();
+    runs();
+    runs_refused();
+    short_tables();
+    short_results();
+    printf("jobdesk.h: %d differences\n", differences);
+    return differences > 0;
+}

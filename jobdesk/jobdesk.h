@@ -1,0 +1,190 @@
+/* The proved check and machine for keyed jobs, for C and C++.
+ *
+ * Link with target/staticlib/libcapi.a, which jobdesk/library makes.
+ *
+ * A slice is two arguments: a pointer to its first entry, and how many entries it has. The caller
+ * sees to it that
+ *   - every pointer is not null, is aligned for its entries, and has as many entries behind it as
+ *     its length says (of an empty slice any such pointer will do);
+ *   - no slice that is written to overlaps another one of the same call.
+ * Nothing else is asked: any bytes may be given as a job, tables may hold anything before a call,
+ * and a slice may be longer than it needs to be. The functions keep nothing between calls, so
+ * several threads may call them at once, each with slices of its own. They allocate nothing; a call
+ * takes up to about 300 KB of stack.
+ */
+#ifndef JOBDESK_H
+#define JOBDESK_H
+
+#include <stddef.h>
+#include <stdint.h>
+
+#ifdef __cplusplus
+extern "C" {
+#endif
+
+/* The least length of each work table, in entries. */
+#define JOBDESK_NAMES 64
+#define JOBDESK_TYPES 2304
+#define JOBDESK_SETS 2304
+#define JOBDESK_VALUES 64
+#define JOBDESK_HEADS 512
+#define JOBDESK_SLOTS 2560
+#define JOBDESK_ENTRIES 512
+#define JOBDESK_EFFECTS 512
+
+/* The words that a check writes to `out`, a run to `rooms`, and a run for each call to `answers`. */
+#define JOBDESK_OUT 2
+#define JOBDESK_ROOMS 6
+#define JOBDESK_ANSWER 2
+
+/* What a function returns: 0, or the number of a refusal. The place of 1 is 0, that of 2 to 7 an
+ * offset in the job's bytes, that of 8 to 14 the number of an expression. */
+#define JOBDESK_OK 0
+#define JOBDESK_SHORT_TABLE 1       /* a lent work table is shorter than its least length */
+#define JOBDESK_NO_COMMAND 2        /* a byte is no command */
+#define JOBDESK_WRONG_SECTION 3     /* a command stands outside its section */
+#define JOBDESK_CUT_OFF 4           /* the input ends too soon */
+#define JOBDESK_TOO_MANY 5          /* one entry more than a limit */
+#define JOBDESK_BAD_OPERAND 6       /* an operand breaks a condition */
+#define JOBDESK_TRAILING 7          /* a byte follows the end */
+#define JOBDESK_WRONG_USE 8         /* an expression is used twice, or not at all */
+#define JOBDESK_BOUND_TWICE 9       /* a variable or a name is bound twice */
+#define JOBDESK_OUT_OF_SCOPE 10     /* a variable or a name is out of scope */
+#define JOBDESK_WRONG_KIND 11       /* an operand is of the wrong kind */
+#define JOBDESK_NO_SUBTYPE 12       /* an operand's type is not a subtype of the one needed */
+#define JOBDESK_BEYOND_LIMIT 13     /* a limit's body uses keys outside the limit */
+#define JOBDESK_BEYOND_RIGHTS 14    /* the job uses keys beyond its rights */
+
+/* Calls: a step, or a run of up to n steps, n below 2^64 - 1. */
+#define JOBDESK_STEP UINT64_C(0)
+#define JOBDESK_RUN(n) ((uint64_t)(n) + 1)
+
+/* Answers to calls. */
+#define JOBDESK_TAKEN 0     /* the step is taken */
+#define JOBDESK_DONE 1      /* the job has ended with a value */
+#define JOBDESK_SPENT 2     /* the run has taken all its steps, and the job has not ended */
+#define JOBDESK_NO_ROOM 3   /* the next step needs a place that is not there */
+#define JOBDESK_STUCK 4     /* an operand is of a kind that the next step cannot use */
+#define JOBDESK_DENIED 5    /* the next step needs a key that is not enabled */
+
+/* The command byte of a type: the low byte of an entry of the type table. */
+#define JOBDESK_NUMBER 0x10
+#define JOBDESK_PAIR 0x11
+#define JOBDESK_CELL 0x12
+#define JOBDESK_FUNCTION 0x13
+#define JOBDESK_LIMIT 0x14
+#define JOBDESK_GRANT 0x15
+
+/* Checks a job.
+ *
+ * Returns 0 if the job is accepted. Then
+ *   out[0]   is the entry of the job's type in the type table,
+ *   out[1]   is its effect: the names whose keys it may use, bit i for name i;
+ *   names    holds for each name from 2 on its upper name, and above it (from bit 8 on) 1 for a
+ *            host name, 2 for a local one,
+ *   types    holds the type table: the declared types, for each new key the types of its limit key,
+ *            its grant key and their pair, then the types that expressions make; in an entry the
+ *            command byte, from bit 8 on the name of the key, from bit 16 and bit 32 on the parts,
+ *   sets     holds for each entry the effect of a function, or 0,
+ *   values   holds for each host value 20 (hexadecimal), from bit 8 on its type, from bit 24 on its
+ *            number,
+ *   heads    holds for each expression its command byte and from bit 8 on its operands of one byte
+ *            or four,
+ *   slots    holds for each expression five operands of two bytes: expressions, then the type; of a
+ *            limit four keys, then the body,
+ *   entries  holds for each expression the entry of its type,
+ *   effects  holds for each expression its effect,
+ * and each table holds zeros from there to its end.
+ *
+ * Returns 1 if a table is shorter than its least length. Then out[0] and out[1] are 0, and no table
+ * is written to.
+ *
+ * Returns 2 to 14, the number of the refusal, if the job is refused. Then out[0] is its place,
+ * out[1] is 0, and all tables are zero to their ends.
+ *
+ * Where `out` has fewer than JOBDESK_OUT entries, it gets those that it has.
+ */
+uint64_t jobdesk_check(
+    const uint8_t *job, size_t job_length,
+    uint16_t *names, size_t names_length,
+    uint64_t *types, size_t types_length,
+    uint64_t *sets, size_t sets_length,
+    uint64_t *values, size_t values_length,
+    uint64_t *heads, size_t heads_length,
+    uint16_t *slots, size_t slots_length,
+    uint16_t *entries, size_t entries_length,
+    uint64_t *effects, size_t effects_length,
+    uint64_t *out, size_t out_length);
+
+/* Starts a job and makes calls on it, each on the machine that the last one left.
+ *
+ * 0 IS NO VERDICT: every job that is free of 1 to 10 is started, also one that the check refuses
+ * with 11 to 14. Only of a job that jobdesk_check accepts is it proved that no answer is
+ * JOBDESK_STUCK or JOBDESK_DENIED. So check first, and run only what is accepted.
+ *
+ * Returns 0 if the job is started. Then of call i (from 0)
+ *   answers[2 * i]      is the answer,
+ *   answers[2 * i + 1]  is how many steps it took;
+ * rooms[0] to rooms[5] are the cells, keys, pairs, functions, frames and bindings in use after the
+ * last call, and the six tables hold the job as after a check, `types` and `sets` the declared types
+ * alone.
+ *
+ * Returns 1 to 10, the number of the refusal, if it is not started. Then rooms[0] is its place and
+ * no answer is written; after 1 no table is written to, after 2 to 10 the six tables are zero to
+ * their ends.
+ *
+ * `answers` has JOBDESK_ANSWER entries for each call. Where `rooms` has fewer than JOBDESK_ROOMS
+ * entries, it gets those that it has.
+ */
+uint64_t jobdesk_run(
+    const uint8_t *job, size_t job_length,
+    uint16_t *names, size_t names_length,
+    uint64_t *types, size_t types_length,
+    uint64_t *sets, size_t sets_length,
+    uint64_t *values, size_t values_length,
+    uint64_t *heads, size_t heads_length,
+    uint16_t *slots, size_t slots_length,
+    const uint64_t *calls, size_t calls_length,
+    uint64_t *answers, size_t answers_length,
+    uint64_t *rooms, size_t rooms_length);
+
+/* Work tables of the least lengths, and the same functions with them. They can be used for any
+ * number of jobs, one after the other. */
+struct jobdesk_tables {
+    uint64_t types[JOBDESK_TYPES];
+    uint64_t sets[JOBDESK_SETS];
+    uint64_t values[JOBDESK_VALUES];
+    uint64_t heads[JOBDESK_HEADS];
+    uint64_t effects[JOBDESK_EFFECTS];
+    uint16_t names[JOBDESK_NAMES];
+    uint16_t slots[JOBDESK_SLOTS];
+    uint16_t entries[JOBDESK_ENTRIES];
+};
+
+/* jobdesk_check with tables of the least lengths; it never returns 1. */
+static inline uint64_t jobdesk_check_in(
+    struct jobdesk_tables *t, const uint8_t *job, size_t job_length, uint64_t out[JOBDESK_OUT])
+{
+    return jobdesk_check(
+        job, job_length, t->names, JOBDESK_NAMES, t->types, JOBDESK_TYPES, t->sets, JOBDESK_SETS,
+        t->values, JOBDESK_VALUES, t->heads, JOBDESK_HEADS, t->slots, JOBDESK_SLOTS, t->entries,
+        JOBDESK_ENTRIES, t->effects, JOBDESK_EFFECTS, out, JOBDESK_OUT);
+}
+
+/* jobdesk_run with tables of the least lengths; `answers` has JOBDESK_ANSWER entries for each of
+ * `count` calls. It never returns 1. */
+static inline uint64_t jobdesk_run_in(
+    struct jobdesk_tables *t, const uint8_t *job, size_t job_length, const uint64_t *calls,
+    size_t count, uint64_t *answers, uint64_t rooms[JOBDESK_ROOMS])
+{
+    return jobdesk_run(
+        job, job_length, t->names, JOBDESK_NAMES, t->types, JOBDESK_TYPES, t->sets, JOBDESK_SETS,
+        t->values, JOBDESK_VALUES, t->heads, JOBDESK_HEADS, t->slots, JOBDESK_SLOTS, calls, count,
+        answers, JOBDESK_ANSWER * count, rooms, JOBDESK_ROOMS);
+}
+
+#ifdef __cplusplus
+}
+#endif
+
+#endif

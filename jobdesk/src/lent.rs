@@ -1,0 +1,99 @@
+//! The library's functions over slices that the caller owns. The only module with unsafe code.
+//!
+//! [`Tables`](crate::Tables) has tables of the right lengths and gives answers by name. What is here
+//! is for callers who lend tables of their own: numbers and words go in and come out as
+//! `jobdesk.h` has them.
+#![allow(unsafe_code)]
+
+/// The tables that hold a job, as they are lent.
+#[derive(Debug)]
+pub struct Lent<'a> {
+    /// 64 entries or more.
+    pub names: &'a mut [u16],
+    /// 2,304 entries or more.
+    pub types: &'a mut [u64],
+    /// 2,304 entries or more.
+    pub sets: &'a mut [u64],
+    /// 64 entries or more.
+    pub values: &'a mut [u64],
+    /// 512 entries or more.
+    pub heads: &'a mut [u64],
+    /// 2,560 entries or more.
+    pub slots: &'a mut [u16],
+}
+
+/// Declares functions of the library. Each takes a job, the six tables that hold it, and slices of
+/// its own; a slice is a pointer and a length.
+macro_rules! library {
+    ($(fn $function:ident($($own:ident: $pointer:ty),*);)*) => {
+        unsafe extern "C" {
+            $(fn $function(
+                job: *const u8, job_length: usize,
+                names: *mut u16, names_length: usize,
+                types: *mut u64, types_length: usize,
+                sets: *mut u64, sets_length: usize,
+                values: *mut u64, values_length: usize,
+                heads: *mut u64, heads_length: usize,
+                slots: *mut u16, slots_length: usize,
+                $($own: $pointer, _: usize),*
+            ) -> u64;)*
+        }
+    };
+}
+
+library! {
+    fn jobdesk_check(entries: *mut u16, effects: *mut u64, out: *mut u64);
+    fn jobdesk_run(calls: *const u64, answers: *mut u64, rooms: *mut u64);
+}
+
+/// Calls one of them with a job, the tables that hold it, and its own slices, each the pair of a
+/// pointer and a length.
+macro_rules! call {
+    ($function:ident, $job:ident, $lent:ident, $($own:expr),*) => {{
+        let Lent { names, types, sets, values, heads, slots } = $lent;
+        // SAFETY: every pointer goes with the length of the slice that it was taken from. Those
+        // that are written to come from `&mut`, so no two of them overlap, and none overlaps one
+        // that is read.
+        unsafe {
+            $function(
+                $job.as_ptr(), $job.len(),
+                names.as_mut_ptr(), names.len(),
+                types.as_mut_ptr(), types.len(),
+                sets.as_mut_ptr(), sets.len(),
+                values.as_mut_ptr(), values.len(),
+                heads.as_mut_ptr(), heads.len(),
+                slots.as_mut_ptr(), slots.len(),
+                $($own.0, $own.1),*
+            )
+        }
+    }};
+}
+
+fn part<T>(slice: &mut [T]) -> (*mut T, usize) {
+    (slice.as_mut_ptr(), slice.len())
+}
+
+/// Checks a job. 0: it is accepted, and `out` has the entry of its type and its effect. 1 to 14: it
+/// is refused, and `out` has the place and 0.
+pub fn check(
+    job: &[u8],
+    lent: Lent,
+    entries: &mut [u16],
+    effects: &mut [u64],
+    out: &mut [u64; 2],
+) -> u64 {
+    call!(jobdesk_check, job, lent, part(entries), part(effects), part(out))
+}
+
+/// Starts a job and makes the calls. 0: it is started, `answers` has two words for each call, and
+/// `rooms` what is in use at the end. 1 to 10: it is not started, and `rooms[0]` has the place.
+pub fn run(
+    job: &[u8],
+    lent: Lent,
+    calls: &[u64],
+    answers: &mut [u64],
+    rooms: &mut [u64; 6],
+) -> u64 {
+    let made = (calls.as_ptr(), calls.len());
+    call!(jobdesk_run, job, lent, made, part(answers), part(rooms))
+}

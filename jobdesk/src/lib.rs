@@ -1,0 +1,39 @@
+//! The proved check and machine for keyed jobs.
+//!
+//! [`Tables`] owns the work tables that the proved code is lent. A job is checked before it is run:
+//!
+//! ```
+//! use jobdesk::{Answer, Call, Kind, Tables};
+//!
+//! // A host cell that holds 7 and whose key is name 2; the job reads it.
+//! let job = b"\x01\x01\x10\x00\x12\x02\0\0\x20\x01\0\x07\0\0\0\x21\x04\0\0\0\0\0\0\0\x32\0\x39\0\0\xFF";
+//! let mut tables = Tables::new();
+//!
+//! let accepted = tables.check(job)?;
+//! assert_eq!(accepted.kind(), Kind::Number);
+//! assert_eq!(accepted.effect(), 1 << 2);
+//!
+//! let ran = tables.run(job, &[Call::Run(100_000)])?;
+//! assert_eq!(ran.answers[0].answer, Answer::Done);
+//! assert_eq!(ran.answers[0].steps, 3);
+//! # Ok::<(), jobdesk::Refusal>(())
+//! ```
+//!
+//! A refusal is an error that says what is wrong and where:
+//!
+//! ```
+//! let refusal = jobdesk::Tables::new().check(b"\x01\x01\x02").unwrap_err();
+//! assert_eq!((refusal.number, refusal.place), (4, 2));
+//! assert_eq!(refusal.to_string(), "refused 4 at byte 2: the input ends too soon");
+//! ```
+#![deny(unsafe_code)]
+#![warn(missing_docs)]
+
+mod calls;
+pub mod lent;
+mod refusal;
+mod tables;
+
+pub use calls::{Answer, Answered, Call, Ran, Rooms};
+pub use refusal::{Place, Refusal};
+pub use tables::{Accepted, Kind, LENGTHS, Tables};

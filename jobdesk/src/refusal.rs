@@ -1,0 +1,75 @@
+//! Refusals.
+#![forbid(unsafe_code)]
+
+use std::error::Error;
+use std::fmt;
+
+/// Why and where a job is refused.
+#[derive(Clone, Copy, Debug, PartialEq, Eq, Hash)]
+pub struct Refusal {
+    /// 1 to 14; a start gives only 1 to 10.
+    pub number: u8,
+    /// What it means is told by [`Refusal::at`].
+    pub place: usize,
+}
+
+/// What a refusal points at.
+#[derive(Clone, Copy, Debug, PartialEq, Eq, Hash)]
+pub enum Place {
+    /// At nothing of the job: a lent table is too short.
+    Tables,
+    /// At a byte of the job, by its offset.
+    Byte(usize),
+    /// At an expression of the job, by its number.
+    Expression(usize),
+}
+
+impl Refusal {
+    /// What the refusal points at.
+    pub fn at(&self) -> Place {
+        match self.number {
+            1 => Place::Tables,
+            2..=7 => Place::Byte(self.place),
+            _ => Place::Expression(self.place),
+        }
+    }
+
+    /// What is wrong, in words.
+    pub fn reason(&self) -> &'static str {
+        match self.number {
+            1 => "a lent table is too short",
+            2 => "a byte is no command",
+            3 => "a command stands outside its section",
+            4 => "the input ends too soon",
+            5 => "there is one entry more than a limit",
+            6 => "an operand breaks a condition",
+            7 => "a byte follows the end",
+            8 => "an expression is used twice or not at all",
+            9 => "a variable or a name is bound twice",
+            10 => "a variable or a name is out of scope",
+            11 => "an operand is of the wrong kind",
+            12 => "an operand's type is not a subtype of the one needed",
+            13 => "a limit's body uses keys outside the limit",
+            14 => "the job uses keys beyond its rights",
+            _ => "no refusal has this number",
+        }
+    }
+}
+
+impl fmt::Display for Place {
+    fn fmt(&self, f: &mut fmt::Formatter) -> fmt::Result {
+        match self {
+            Place::Tables => write!(f, "no place"),
+            Place::Byte(offset) => write!(f, "byte {offset}"),
+            Place::Expression(number) => write!(f, "expression {number}"),
+        }
+    }
+}
+
+impl fmt::Display for Refusal {
+    fn fmt(&self, f: &mut fmt::Formatter) -> fmt::Result {
+        write!(f, "refused {} at {}: {}", self.number, self.at(), self.reason())
+    }
+}
+
+impl Error for Refusal {}

@@ -1,0 +1,205 @@
+//! Work tables, and the calls that lend them.
+#![forbid(unsafe_code)]
+
+use crate::calls::{Answered, Call, Ran, Rooms};
+use crate::lent::{self, Lent};
+use crate::refusal::Refusal;
+
+/// The least lengths: names, types, sets, values, heads, slots, entries, effects.
+pub const LENGTHS: [usize; 8] = [64, 2304, 2304, 64, 512, 2560, 512, 512];
+
+/// The work tables that the proved code is lent. They can be used for any number of jobs, one after
+/// the other, and need not be cleared between them.
+#[derive(Clone, Debug, PartialEq, Eq)]
+pub struct Tables {
+    names: Vec<u16>,
+    types: Vec<u64>,
+    sets: Vec<u64>,
+    values: Vec<u64>,
+    heads: Vec<u64>,
+    slots: Vec<u16>,
+    entries: Vec<u16>,
+    effects: Vec<u64>,
+}
+
+impl Default for Tables {
+    fn default() -> Self {
+        let [names, types, sets, values, heads, slots, entries, effects] = LENGTHS;
+        Tables {
+            names: vec![0; names],
+            types: vec![0; types],
+            sets: vec![0; sets],
+            values: vec![0; values],
+            heads: vec![0; heads],
+            slots: vec![0; slots],
+            entries: vec![0; entries],
+            effects: vec![0; effects],
+        }
+    }
+}
+
+impl Tables {
+    /// Tables of the least lengths.
+    pub fn new() -> Self {
+        Self::default()
+    }
+
+    /// Checks a job.
+    ///
+    /// ```
+    /// let mut tables = jobdesk::Tables::new();
+    /// // A number, and the end.
+    /// let accepted = tables.check(b"\x21\0\0\0\0\0\0\0\0\x30\x05\0\0\0\xFF")?;
+    /// assert_eq!(accepted.effect(), 0);
+    /// # Ok::<(), jobdesk::Refusal>(())
+    /// ```
+    ///
+    /// # Errors
+    /// The job's refusal, of 2 to 14.
+    pub fn check(&mut self, job: &[u8]) -> Result<Accepted<'_>, Refusal> {
+        let mut out = [0; 2];
+        let Tables { names, types, sets, values, heads, slots, entries, effects } = self;
+        let lent = Lent { names, types, sets, values, heads, slots };
+        match lent::check(job, lent, entries, effects, &mut out) {
+            0 => Ok(Accepted { tables: self, entry: out[0] as u16, effect: out[1] }),
+            number => Err(refusal(number, out[0])),
+        }
+    }
+
+    /// Starts a job and makes the calls. Every job that is free of 1 to 10 is started, also one
+    /// that the check refuses with 11 to 14: that it is started is no verdict. Only of a job that
+    /// the check accepts is it proved that no call is stuck or denied.
+    ///
+    /// ```
+    /// use jobdesk::{Answer, Call};
+    ///
+    /// let mut tables = jobdesk::Tables::new();
+    /// // The sum of a number and a limit key.
+    /// let job = b"\x21\0\0\0\0\0\0\0\0\x30\x05\0\0\0\x31\x3A\0\0\0\x01\0\xFF";
+    /// assert_eq!(tables.check(job).unwrap_err().number, 11);
+    /// let ran = tables.run(job, &[Call::Step, Call::Run(9)])?;
+    /// assert_eq!(ran.answers[0].answer, Answer::Taken);
+    /// assert_eq!(ran.answers[1].answer, Answer::Stuck);
+    /// # Ok::<(), jobdesk::Refusal>(())
+    /// ```
+    ///
+    /// # Errors
+    /// The job's refusal, of 2 to 10. No call is made then.
+    pub fn run(&mut self, job: &[u8], calls: &[Call]) -> Result<Ran, Refusal> {
+        let words: Vec<u64> = calls.iter().map(|call| call.word()).collect();
+        let mut answers = vec![0; 2 * words.len()];
+        let rooms = self.run_words(job, &words, &mut answers)?;
+        let (pairs, _) = answers.as_chunks();
+        Ok(Ran { answers: pairs.iter().map(|&words| Answered::of(words)).collect(), rooms })
+    }
+
+    /// The same with calls and answers as words: 0 is a step, n + 1 a run of n; of each call the
+    /// number of its answer and the steps taken.
+    ///
+    /// # Errors
+    /// The job's refusal, of 2 to 10; 1 if there are not two answers for each call. No call is made
+    /// then.
+    pub fn run_words(
+        &mut self,
+        job: &[u8],
+        calls: &[u64],
+        answers: &mut [u64],
+    ) -> Result<Rooms, Refusal> {
+        if answers.len() / 2 < calls.len() {
+            return Err(Refusal { number: 1, place: 0 });
+        }
+        let mut rooms = [0; 6];
+        let Tables { names, types, sets, values, heads, slots, .. } = self;
+        let lent = Lent { names, types, sets, values, heads, slots };
+        match lent::run(job, lent, calls, answers, &mut rooms) {
+            0 => Ok(rooms.into()),
+            number => Err(refusal(number, rooms[0])),
+        }
+    }
+}
+
+fn refusal(number: u64, place: u64) -> Refusal {
+    Refusal { number: number as u8, place: place as usize }
+}
+
+/// The kinds of types and of values.
+#[derive(Clone, Copy, Debug, PartialEq, Eq, Hash)]
+pub enum Kind {
+    /// A number of 32 bits.
+    Number,
+    /// Two values.
+    Pair,
+    /// A cell that holds a value.
+    Cell,
+    /// A function.
+    Function,
+    /// A limit key.
+    Limit,
+    /// A grant key.
+    Grant,
+}
+
+impl Kind {
+    /// The kind of an entry of the type table, by its low byte.
+    fn of(word: u64) -> Kind {
+        match word as u8 {
+            0x11 => Kind::Pair,
+            0x12 => Kind::Cell,
+            0x13 => Kind::Function,
+            0x14 => Kind::Limit,
+            0x15 => Kind::Grant,
+            _ => Kind::Number,
+        }
+    }
+
+    /// The word for it.
+    pub fn word(self) -> &'static str {
+        ["number", "pair", "cell", "function", "limit", "grant"][self as usize]
+    }
+}
+
+/// An accepted job: its type and effect, and all that the check worked out.
+#[derive(Clone, Copy, Debug, PartialEq, Eq)]
+pub struct Accepted<'a> {
+    tables: &'a Tables,
+    entry: u16,
+    effect: u64,
+}
+
+impl<'a> Accepted<'a> {
+    /// The entry of the job's type in the type table.
+    pub fn entry(&self) -> u16 {
+        self.entry
+    }
+
+    /// The names whose keys the job may use, as a set: bit i is name i.
+    pub fn effect(&self) -> u64 {
+        self.effect
+    }
+
+    /// The kind of the job's value.
+    pub fn kind(&self) -> Kind {
+        Kind::of(self.tables.types[self.entry as usize % LENGTHS[1]])
+    }
+
+    /// The type table. An entry has the type's command byte in its low byte, then its key, and from
+    /// bit 16 and from bit 32 its parts; a function's effect stands in [`Accepted::sets`].
+    pub fn types(&self) -> &'a [u64] {
+        // No entry that is in use is zero.
+        let used = self.tables.types.iter().take_while(|&&word| word != 0).count();
+        &self.tables.types[..used]
+    }
+
+    /// For each entry of the type table, the effect of a function, and 0 for any other.
+    pub fn sets(&self) -> &'a [u64] {
+        &self.tables.sets[..self.types().len()]
+    }
+
+    /// The type, as an entry of the type table, and the effect of each expression.
+    pub fn expressions(&self) -> impl Iterator<Item = (u16, u64)> + 'a {
+        let Tables { heads, entries, effects, .. } = self.tables;
+        // No head that is in use is zero.
+        let used = heads.iter().take_while(|&&word| word != 0).count();
+        entries.iter().copied().zip(effects.iter().copied()).take(used)
+    }
+}

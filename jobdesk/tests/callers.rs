@@ -1,0 +1,88 @@
+//! The crate as a caller sees it, and its numbers against those of `jobdesk.h`.
+
+use std::error::Error;
+
+use jobdesk::{Answer, Answered, Call, Kind, LENGTHS, Place, Refusal, Rooms, Tables};
+
+/// The read of a host cell that holds 7 and whose key is name 2, with some rights.
+fn example(rights: u8) -> Vec<u8> {
+    let mut job = vec![0x01, 1, 0x10, 0, 0x12, 2, 0, 0, 0x20, 1, 0, 7, 0, 0, 0];
+    job.extend([0x21, rights, 0, 0, 0, 0, 0, 0, 0, 0x32, 0, 0x39, 0, 0, 0xFF]);
+    job
+}
+
+#[test]
+fn accepted() {
+    let mut tables = Tables::new();
+    let accepted = tables.check(&example(4)).expect("an accepted job");
+    assert_eq!((accepted.entry(), accepted.effect(), accepted.kind()), (0, 4, Kind::Number));
+    assert_eq!(accepted.types(), [0x10, 0x12 + 0x200]);
+    assert_eq!(accepted.sets(), [0, 0]);
+    assert_eq!(accepted.expressions().collect::<Vec<_>>(), [(1, 0), (0, 4)]);
+}
+
+#[test]
+fn refused() {
+    let mut tables = Tables::new();
+    let refusal = tables.check(&example(0)).unwrap_err();
+    assert_eq!(refusal, Refusal { number: 14, place: 1 });
+    assert_eq!(refusal.at(), Place::Expression(1));
+    let error: Box<dyn Error> = refusal.into();
+    let said = "refused 14 at expression 1: the job uses keys beyond its rights";
+    assert_eq!(error.to_string(), said);
+    let refusal = tables.check(&[]).unwrap_err();
+    assert_eq!((refusal.number, refusal.at()), (4, Place::Byte(0)));
+}
+
+#[test]
+fn runs() {
+    let mut tables = Tables::new();
+    let calls = [Call::Step, Call::Run(0), Call::Run(u64::MAX), Call::Step];
+    let ran = tables.run(&example(4), &calls).expect("a job that starts");
+    let answered = |answer, steps| Answered { answer, steps };
+    let (taken, spent) = (answered(Answer::Taken, 1), answered(Answer::Spent, 0));
+    let (done, again) = (answered(Answer::Done, 2), answered(Answer::Done, 0));
+    assert_eq!(ran.answers, [taken, spent, done, again]);
+    assert_eq!(ran.rooms, Rooms { cells: 1, keys: 3, bindings: 2, ..Rooms::default() });
+    // The check refuses this one, and it starts all the same.
+    let denied = tables.run(&example(0), &[Call::Run(9)]).expect("a job that starts");
+    assert_eq!(denied.answers, [answered(Answer::Denied, 2)]);
+    // This one does not start.
+    assert_eq!(tables.run(&[0x00], &calls), Err(Refusal { number: 2, place: 0 }));
+}
+
+#[test]
+fn short_answers() {
+    let mut tables = Tables::new();
+    let short = Refusal { number: 1, place: 0 };
+    assert_eq!(tables.run_words(&example(4), &[0, 0], &mut [0; 3]), Err(short));
+    assert_eq!(short.to_string(), "refused 1 at no place: a lent table is too short");
+}
+
+#[test]
+fn every_refusal_has_words() {
+    let reason = |number| Refusal { number, place: 0 }.reason();
+    let mut reasons: Vec<_> = (1..=14).map(reason).collect();
+    assert!(!reasons.contains(&reason(15)));
+    reasons.sort();
+    reasons.dedup();
+    assert_eq!(reasons.len(), 14);
+}
+
+/// The number of a constant of `jobdesk.h`.
+fn defined(name: &str) -> usize {
+    let line = format!("#define JOBDESK_{name} ");
+    let header = include_str!("../jobdesk.h");
+    let found = header.lines().find_map(|text| text.strip_prefix(&line)).expect(name);
+    let number = found.split_whitespace().next().expect(name);
+    number.parse().expect(name)
+}
+
+#[test]
+fn numbers_of_the_header() {
+    let tables = ["NAMES", "TYPES", "SETS", "VALUES", "HEADS", "SLOTS", "ENTRIES", "EFFECTS"];
+    assert_eq!(tables.map(defined), LENGTHS);
+    let answers = ["TAKEN", "DONE", "SPENT", "NO_ROOM", "STUCK", "DENIED"];
+    assert_eq!(answers.map(defined), Answer::ALL.map(|answer| answer.number() as usize));
+    assert_eq!([defined("OUT"), defined("ROOMS"), defined("ANSWER")], [2, 6, 2]);
+}

@@ -1,0 +1,22 @@
+//! Every fault is told from the faultless implementation by some generated job.
+
+use second::generate::job;
+use second::observe::observe;
+use second_faults::ALL;
+
+#[test]
+fn every_fault_is_caught() {
+    let steps = [0, 40, 40, 2_000, 100_000, 3];
+    let cases: Vec<_> = (1..6_000).map(|seed| job(seed).1).collect();
+    let seen: Vec<_> = cases.iter().map(|job| observe(job, &steps)).collect();
+    for fault in ALL {
+        let mut pairs = cases.iter().zip(&seen);
+        assert!(pairs.any(|(job, seen)| fault.observe(job, &steps) != *seen), "{}", fault.text);
+    }
+}
+
+#[test]
+fn faults_have_numbers_of_their_own() {
+    assert!(ALL.is_sorted_by(|a, b| a.number < b.number));
+    assert_eq!(ALL.len(), 97);
+}

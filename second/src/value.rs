@@ -1,0 +1,156 @@
+//! Values, what steps and runs answer, and the machine's room.
+
+use std::fmt;
+
+use crate::job::Kind;
+
+/// The most cells there can be.
+pub const CELLS: usize = 256;
+/// The most keys there can be, with 0 and 1.
+pub const KEYS: usize = 128;
+/// The most pairs there can be.
+pub const PAIRS: usize = 512;
+/// The most functions there can be.
+pub const FUNCTIONS: usize = 512;
+/// The most frames there can be.
+pub const FRAMES: usize = 256;
+/// The most bindings there can be.
+pub const BINDINGS: usize = 1024;
+
+/// A value and the key it carries, in one word: kind, key, data.
+#[derive(Clone, Copy, Default, PartialEq, Eq)]
+pub struct Value(u64);
+
+impl Value {
+    /// A value of a kind, with its key and its data.
+    #[inline]
+    pub fn new(kind: Kind, key: u8, data: u32) -> Self {
+        Value(kind as u64 | (key as u64) << 8 | (data as u64) << 32)
+    }
+
+    /// A value without a key.
+    #[inline]
+    pub fn unkeyed(kind: Kind, data: u32) -> Self {
+        Value::new(kind, 0, data)
+    }
+
+    /// The same value with another key.
+    #[inline]
+    pub fn with_key(self, key: u8) -> Self {
+        Value(self.0 & !0xFF00 | (key as u64) << 8)
+    }
+
+    /// Whether the value is of a kind.
+    #[inline]
+    pub fn is(self, kind: Kind) -> bool {
+        self.0 as u8 == kind as u8
+    }
+
+    /// The data as an index.
+    #[inline]
+    pub fn index(self) -> usize {
+        self.data() as usize
+    }
+
+    /// The value's kind.
+    pub fn kind(self) -> Kind {
+        [Kind::Number, Kind::Pair, Kind::Cell, Kind::Function, Kind::Limit, Kind::Grant]
+            [self.0 as u8 as usize]
+    }
+
+    /// The key it carries; 0 is none.
+    #[inline]
+    pub fn key(self) -> u8 {
+        (self.0 >> 8) as u8
+    }
+
+    /// A number's value; a pair's, cell's or function's number; or the key that a limit or grant
+    /// key stands for.
+    #[inline]
+    pub fn data(self) -> u32 {
+        (self.0 >> 32) as u32
+    }
+}
+
+impl fmt::Debug for Value {
+    fn fmt(&self, f: &mut fmt::Formatter) -> fmt::Result {
+        write!(f, "{} {} of key {}", self.kind().word(), self.data(), self.key())
+    }
+}
+
+/// What one step answers. Every answer but `Taken` leaves the machine as it was.
+#[derive(Clone, Copy, Debug, PartialEq, Eq)]
+pub enum Answer {
+    /// The step is taken.
+    Taken,
+    /// The job has ended with a value.
+    Done,
+    /// The step needs a place that is not there.
+    NoRoom,
+    /// An operand is of a kind that the command cannot use.
+    Stuck,
+    /// An operand's key is not enabled.
+    Denied,
+}
+
+/// What a run says.
+#[derive(Clone, Copy, Debug, PartialEq, Eq)]
+pub enum Outcome {
+    /// The job has ended with a value.
+    Done,
+    /// All steps asked for are taken, and the job has not ended.
+    Spent,
+    /// The next step needs a place that is not there.
+    NoRoom,
+    /// An operand is of a kind that the command cannot use.
+    Stuck,
+    /// An operand's key is not enabled.
+    Denied,
+}
+
+impl Outcome {
+    /// The words that the desk prints.
+    pub fn words(self) -> &'static str {
+        match self {
+            Outcome::Done => "done",
+            Outcome::Spent => "spent",
+            Outcome::NoRoom => "no room",
+            Outcome::Stuck => "stuck",
+            Outcome::Denied => "denied",
+        }
+    }
+}
+
+/// How much of each kind of room is in use.
+#[derive(Clone, Copy, Debug, PartialEq, Eq)]
+pub struct Rooms {
+    /// Cells, with those of host values.
+    pub cells: usize,
+    /// Keys, with 0 and 1.
+    pub keys: usize,
+    /// Pairs.
+    pub pairs: usize,
+    /// Functions that were made.
+    pub functions: usize,
+    /// Frames of commands that wait for an operand.
+    pub frames: usize,
+    /// Bindings of variables and names.
+    pub bindings: usize,
+}
+
+impl Rooms {
+    /// The kinds of room that are used up. A new key needs two bindings.
+    pub fn full(self) -> Vec<&'static str> {
+        [
+            (self.cells == CELLS, "cells"),
+            (self.keys == KEYS, "keys"),
+            (self.pairs == PAIRS, "pairs"),
+            (self.functions == FUNCTIONS, "functions"),
+            (self.frames == FRAMES, "frames"),
+            (self.bindings >= BINDINGS - 1, "bindings"),
+        ]
+        .into_iter()
+        .filter_map(|(full, room)| full.then_some(room))
+        .collect()
+    }
+}
