@@ -1,0 +1,95 @@
+//! The words of the command line.
+
+/// What `--help` prints.
+pub const HELP: &str = "\
+jobtext: jobs as text
+
+  jobtext asm [--hex] [--force] [-o FILE] [FILE]       text to bytes
+  jobtext dump [--hex] [--force] [-o FILE] [FILE]      bytes to text
+  jobtext explain [--hex | --text] [--all] [--force] [-o FILE] [FILE]
+                                                       the verdict in words
+
+Without FILE, or with -, the input is standard input. The output goes to standard output, or with
+-o to a file.
+
+  --hex     the bytes are hexadecimal text, two digits each, with comments from # on
+  --text    explain: the input is text; its own symbols and lines are shown
+  --all     explain: the type and effect of each expression too
+  --force   bytes may go to a terminal, or come from one
+  --help    this page
+
+Status: 0 done (explain: accepted); 1 the text has mistakes, the bytes do not read whole, or the
+job is refused; 2 wrong words on the command line; 3 a file cannot be read or written.
+The text form is described in docs/JOBS.md.
+";
+
+/// What is to be done.
+#[derive(Clone, Copy, Debug, PartialEq, Eq)]
+pub enum Action {
+    Asm,
+    Dump,
+    Explain,
+    Help,
+}
+
+/// The command line.
+#[derive(Clone, Debug)]
+pub struct Options {
+    pub action: Action,
+    pub input: Option<String>,
+    pub output: Option<String>,
+    pub hex: bool,
+    pub text: bool,
+    pub all: bool,
+    pub force: bool,
+}
+
+/// Reads the command line, or says what is wrong with it.
+pub fn options(words: &[String]) -> Result<Options, String> {
+    let action = match words.first().map(String::as_str) {
+        _ if words.iter().any(|word| word == "--help" || word == "-h") => Action::Help,
+        Some("asm") => Action::Asm,
+        Some("dump") => Action::Dump,
+        Some("explain") => Action::Explain,
+        Some("help") => Action::Help,
+        Some(other) => return Err(format!("`{other}` is none of asm, dump and explain")),
+        None => return Err("asm, dump or explain is wanted".to_string()),
+    };
+    let mut options = Options {
+        action,
+        input: None,
+        output: None,
+        hex: false,
+        text: false,
+        all: false,
+        force: false,
+    };
+    if action == Action::Help {
+        return Ok(options);
+    }
+    let mut files = Vec::new();
+    let mut rest = words[1..].iter();
+    while let Some(word) = rest.next() {
+        match (word.as_str(), action) {
+            ("--hex", _) => options.hex = true,
+            ("--force", _) => options.force = true,
+            ("--text", Action::Explain) => options.text = true,
+            ("--all", Action::Explain) => options.all = true,
+            ("-o", _) => options.output = Some(rest.next().ok_or("-o needs a FILE")?.clone()),
+            ("-", _) => files.push(None),
+            (other, _) if other.starts_with('-') => {
+                return Err(format!("{} has no option `{other}`", words[0]));
+            }
+            _ => files.push(Some(word.clone())),
+        }
+    }
+    options.input = match &files[..] {
+        [] => None,
+        [file] => file.clone(),
+        _ => return Err("there is more than one FILE".to_string()),
+    };
+    match options.hex && options.text {
+        true => Err("--hex and --text are not taken together".to_string()),
+        false => Ok(options),
+    }
+}
