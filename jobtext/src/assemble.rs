@@ -200,8 +200,8 @@ impl Assembler {
         self.after_job(keyword.span);
         self.job = Some(keyword.span);
         let before = self.section(Section::Expressions).len();
-        self.expr(term);
-        if self.section(Section::Expressions).len() == before {
+        let made = self.expr(term).is_some();
+        if made && self.section(Section::Expressions).len() == before {
             let words = "`job` needs an expression of its own, not the symbol of a `let`";
             self.wrong::<()>(term.span, words);
         }

@@ -366,11 +366,7 @@ pub static ROWS: &[Row] = &[
         byte: 0x3F,
         word: "associate",
         operands: &[Expr("value"), Expr("limit key")],
-        rule: Rule {
-            touch: &[(0, Want::Any), (1, LIMIT)],
-            gives: Gives::Rekeyed(0, 1),
-            ..JOINED
-        },
+        rule: Rule { touch: &[(0, Want::Any), (1, LIMIT)], gives: Gives::Rekeyed(0, 1), ..JOINED },
         ..EXPRESSION
     },
     declared(0xFF, "end", Section::End, &[]),

@@ -62,7 +62,11 @@ fn out_of_section(row: &Row, listing: &Listing) -> String {
         (Section::End, Some(Section::Rights)) => "`end` without an expression".to_string(),
         (Section::End, _) => "`end` before `rights`".to_string(),
         (_, Some(last)) => {
-            format!("`{}` is of the {own}, which stand before the {}", row.word, section_words(last))
+            format!(
+                "`{}` is of the {own}, which stand before the {}",
+                row.word,
+                section_words(last)
+            )
         }
         _ => format!("`{}` is out of its section, the {own}", row.word),
     }
@@ -124,9 +128,7 @@ impl Test<'_> {
                 (!local).then(|| format!("{name} is no local name, so no key can be made for it"))
             }),
             Operand::Type => self.earlier("type", value, self.count(Section::Types)),
-            Operand::Expr(_) => {
-                self.earlier("expression", value, self.count(Section::Expressions))
-            }
+            Operand::Expr(_) => self.earlier("expression", value, self.count(Section::Expressions)),
             Operand::Set => self.set(value),
             Operand::Variable if value >= VARIABLES as u64 => {
                 Some(format!("variable {value}: variables are numbered from 0 to 63"))
@@ -140,7 +142,9 @@ impl Test<'_> {
     fn name(&self, name: u64, none: bool) -> Option<String> {
         match name {
             0 if !none => Some("name 0 (none) cannot stand here".to_string()),
-            _ if name >= self.names().count() as u64 => Some(format!("name {name} is not declared")),
+            _ if name >= self.names().count() as u64 => {
+                Some(format!("name {name} is not declared"))
+            }
             _ => None,
         }
     }

@@ -160,8 +160,7 @@ impl<'a> Tree<'a> {
     fn variables(&self) -> Vec<u64> {
         let is_one = |operand| matches!(operand, Operand::Bound | Operand::Variable);
         let all = self.exprs.iter().filter_map(|expr| expr.first(is_one));
-        let mut variables: Vec<u64> =
-            all.filter(|&v| v >= self.listing.values() as u64).collect();
+        let mut variables: Vec<u64> = all.filter(|&v| v >= self.listing.values() as u64).collect();
         variables.sort();
         variables.dedup();
         variables
@@ -187,9 +186,7 @@ impl<'a> Tree<'a> {
                     *next += 1;
                     value + 1 == *next
                 }
-                Operand::Variable => {
-                    value < self.listing.values() as u64 || scope.contains(&value)
-                }
+                Operand::Variable => value < self.listing.values() as u64 || scope.contains(&value),
                 operand => {
                     scope.extend(bound.filter(|_| Some(place) == body));
                     let exprs = expr.args[place].exprs(operand);

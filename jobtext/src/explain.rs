@@ -224,7 +224,8 @@ impl View<'_> {
     /// Refusals 11 to 14.
     fn fault(&mut self, typing: &Typing, number: usize, fault: &Fault) {
         self.expr(number);
-        let typed = |expr: u16| type_words(&typing.table, self.symbols, typing.typed[expr as usize].entry);
+        let typed =
+            |expr: u16| type_words(&typing.table, self.symbols, typing.typed[expr as usize].entry);
         match fault {
             Fault::Kind(role, operand, kind) => {
                 let found = typed(*operand);
@@ -255,7 +256,10 @@ impl View<'_> {
             Fault::Rights => {
                 let rights = self.listing.job.rights;
                 let effect = typing.typed[number].effect;
-                self.line(format!("wanted: an effect below the rights, {}", self.symbols.set(rights)));
+                self.line(format!(
+                    "wanted: an effect below the rights, {}",
+                    self.symbols.set(rights)
+                ));
                 self.beyond(typing, number, effect, rights);
             }
         }
@@ -293,7 +297,13 @@ impl View<'_> {
     fn gap(&self, gap: &Gap) -> String {
         let path = match gap.path.is_empty() {
             true => "the outside".to_string(),
-            false => gap.path.iter().rev().map(|step| format!("the {step}")).collect::<Vec<_>>().join(" of "),
+            false => gap
+                .path
+                .iter()
+                .rev()
+                .map(|step| format!("the {step}"))
+                .collect::<Vec<_>>()
+                .join(" of "),
         };
         let name = |name: u8| self.symbols.name(name as u64);
         let how = match gap.relation {

@@ -170,13 +170,12 @@ impl Parser {
         };
         self.at += 1;
         let statement = match keyword.text.as_str() {
-            "type" => self.named("a symbol for the type").map(|(symbol, term)| Statement::Type {
-                symbol,
-                term,
-            }),
-            "let" => self.named("a symbol for the expression").map(|(symbol, term)| {
-                Statement::Let { symbol, term }
-            }),
+            "type" => self
+                .named("a symbol for the type")
+                .map(|(symbol, term)| Statement::Type { symbol, term }),
+            "let" => self
+                .named("a symbol for the expression")
+                .map(|(symbol, term)| Statement::Let { symbol, term }),
             "value" => self.value(),
             "variable" => self.variable(),
             "job" => self.term(0).map(|term| Statement::Job { keyword, term }),
@@ -186,7 +185,7 @@ impl Parser {
             _ => self.rights(keyword),
         }?;
         if self.at < self.tokens.len() && self.keyword().is_none() {
-            self.wanted::<()>("the next statement");
+            self.no_keyword();
             self.skip();
         }
         Some(statement)
@@ -194,7 +193,7 @@ impl Parser {
 
     fn no_keyword(&mut self) -> Option<Statement> {
         let shown = self.peek().map(|(_, token)| token.show()).unwrap_or_default();
-        let what = "wanted a statement (host, local, type, value, rights, let, job ..)";
+        let what = "wanted the next statement (host, local, type, value, rights, let, job ..)";
         let hint = match nearest(&shown, keywords()) {
             Some(near) => format!("; is it `{near}`?"),
             None => String::new(),

@@ -36,7 +36,7 @@ impl Problem {
 
 /// The word of a list that is nearest to a misspelt one, if one is near.
 pub fn nearest<'a>(word: &str, known: impl Iterator<Item = &'a str>) -> Option<&'a str> {
-    let far = 1 + word.chars().count() / 4;
+    let far = (word.chars().count() / 2).min(2);
     let near = known.map(|other| (distance(word, other), other));
     near.filter(|&(distance, _)| distance <= far).min().map(|(_, other)| other)
 }

@@ -82,11 +82,8 @@ impl<'a> Worker<'a> {
                 None => expr.first(|operand| operand == Operand::Type).unwrap_or(0) as u16,
                 Some(name) => {
                     let limit = table.len() as u16;
-                    let shapes = [
-                        Shape::Limit(name),
-                        Shape::Grant(name),
-                        Shape::Pair(limit, limit + 1),
-                    ];
+                    let shapes =
+                        [Shape::Limit(name), Shape::Grant(name), Shape::Pair(limit, limit + 1)];
                     table.extend(shapes.map(Type::unkeyed));
                     limit + 2
                 }

@@ -4,7 +4,7 @@ use jobtext::{assemble, dump, hex};
 use second::generate::{Rng, job};
 
 /// The seeds that are tried.
-const SEEDS: u64 = 12_000;
+const SEEDS: u64 = 8_000;
 
 /// Fails unless the bytes come back.
 fn comes_back(bytes: &[u8]) {
@@ -13,7 +13,8 @@ fn comes_back(bytes: &[u8]) {
     match assemble(&text) {
         Ok(made) => assert_eq!(made.bytes, bytes, "{}\n{text}", second::to_hex(bytes)),
         Err(problems) => {
-            let shown: String = problems.iter().map(|problem| problem.show("text", &text)).collect();
+            let shown: String =
+                problems.iter().map(|problem| problem.show("text", &text)).collect();
             panic!("{}\n{text}\n{shown}", second::to_hex(bytes));
         }
     }
@@ -49,7 +50,7 @@ fn recorded_cases() {
 #[test]
 fn any_bytes() {
     let mut rng = Rng::new(7);
-    for _ in 0..20_000 {
+    for _ in 0..10_000 {
         let length = rng.below(60);
         let bytes: Vec<u8> = (0..length).map(|_| random_byte(&mut rng)).collect();
         comes_back(&bytes);
