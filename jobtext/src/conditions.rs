@@ -7,6 +7,7 @@ use second::{Job, Shape, Type};
 use crate::commands::{Operand, Row, Section, by_byte};
 use crate::decode::{Arg, Command, Listing, arguments};
 use crate::symbols::Symbols;
+use crate::words::count;
 
 /// Why reading stops where it does.
 pub fn reasons(bytes: &[u8], listing: &Listing, symbols: &Symbols) -> Vec<String> {
@@ -32,10 +33,10 @@ pub fn reasons(bytes: &[u8], listing: &Listing, symbols: &Symbols) -> Vec<String
                 None => vec![],
             }
         }
-        _ => one(format!(
-            "{} byte(s) follow the end of the job",
-            bytes.len() - refusal.place as usize
-        )),
+        _ => {
+            let more = count(bytes.len() - refusal.place as usize, "byte");
+            one(format!("{more} after the end of the job"))
+        }
     }
 }
 

@@ -12,7 +12,7 @@ use crate::scope::{Hidden, hidden};
 use crate::subtype::{Apart, Gap, Relation};
 use crate::symbols::Symbols;
 use crate::typing::{Fault, Typing, work_out};
-use crate::words::{kind_word, kind_words, type_words};
+use crate::words::{count, kind_words, type_words};
 
 /// How deep an expression is shown.
 const SHOWN: usize = 4;
@@ -106,8 +106,8 @@ impl View<'_> {
         };
         let digits: Vec<String> = rest.iter().take(length).map(|b| format!("{b:02X}")).collect();
         let more = if rest.len() > length && command.is_none() { " .." } else { "" };
-        let count = self.listing.commands.len();
-        self.line(format!("offset {place}, after {count} command(s):"));
+        let before = count(self.listing.commands.len(), "command");
+        self.line(format!("offset {place}, after {before}:"));
         match rest.is_empty() {
             true => self.line("    the end of the input"),
             false => self.line(format!("    {}{more}", digits.join(" "))),
@@ -132,7 +132,7 @@ impl View<'_> {
             Operand::Fixed(_) => None,
             Operand::Set => Some(format!("set {:016x}", arg.one())),
             Operand::Expr(role) => Some(format!("{role} {}", arg.one())),
-            Operand::Keys => Some(format!("{} key(s)", arg.one())),
+            Operand::Keys => Some(count(arg.one() as usize, "key")),
             other => Some(format!("{} {}", format!("{other:?}").to_lowercase(), arg.one())),
         });
         let shown: Vec<String> = shown.collect();
@@ -172,7 +172,7 @@ impl View<'_> {
             all.extend(e.exprs().iter().filter(|&&expr| expr as usize == number).map(|_| user));
             all
         });
-        self.line(format!("found:  {} use(s)", users.len()));
+        self.line(format!("found:  {}", count(users.len(), "use")));
         for user in users {
             self.line(format!("    in {}", self.short(user)));
         }
@@ -224,29 +224,19 @@ impl View<'_> {
     /// Refusals 11 to 14.
     fn fault(&mut self, typing: &Typing, number: usize, fault: &Fault) {
         self.expr(number);
-        let typed =
-            |expr: u16| type_words(&typing.table, self.symbols, typing.typed[expr as usize].entry);
         match fault {
             Fault::Kind(role, operand, kind) => {
-                let found = typed(*operand);
-                self.operand(role, *operand);
-                self.line(format!("wanted: {}", kind_words(*kind)));
-                self.line(format!("found:  {found}"));
+                self.found(typing, role, *operand, &kind_words(*kind));
             }
             Fault::LimitOf(operand, upper) => {
-                let found = typed(*operand);
-                self.operand("limit key above", *operand);
                 let upper = self.symbols.name(*upper as u64);
-                self.line(format!("wanted: (limit-key {upper}), of the new name's upper name"));
-                self.line(format!("found:  {found}"));
+                let wanted = format!("(limit-key {upper}), of the new name's upper name");
+                self.found(typing, "limit key above", *operand, &wanted);
             }
             Fault::Subtype(role, operand, wanted, gap) => {
-                let found = typed(*operand);
                 let wanted = type_words(&typing.table, self.symbols, *wanted);
-                self.operand(role, *operand);
-                self.line(format!("wanted: a subtype of {wanted}"));
-                self.line(format!("found:  {found}"));
-                self.line(format!("they part at {}", self.gap(gap)));
+                self.found(typing, role, *operand, &format!("a subtype of {wanted}"));
+                self.line(self.gap(gap));
             }
             Fault::Within(body, allowed) => {
                 let effect = typing.typed[*body as usize].effect;
@@ -255,19 +245,21 @@ impl View<'_> {
             }
             Fault::Rights => {
                 let rights = self.listing.job.rights;
-                let effect = typing.typed[number].effect;
-                self.line(format!(
-                    "wanted: an effect below the rights, {}",
-                    self.symbols.set(rights)
-                ));
-                self.beyond(typing, number, effect, rights);
+                let set = self.symbols.set(rights);
+                self.line(format!("wanted: an effect below the rights, {set}"));
+                self.beyond(typing, number, typing.typed[number].effect, rights);
             }
         }
     }
 
-    fn operand(&mut self, role: &str, operand: u16) {
+    /// An operand, what was wanted of it, and the type that it has.
+    fn found(&mut self, typing: &Typing, role: &str, operand: u16, wanted: &str) {
+        let entry = typing.typed[operand as usize].entry;
+        let found = type_words(&typing.table, self.symbols, entry);
         let words = self.short(operand as usize);
         self.line(format!("{role}: {words}"));
+        self.line(format!("wanted: {wanted}"));
+        self.line(format!("found:  {found}"));
     }
 
     /// The names of an effect that are not below a set, and where each comes from.
@@ -293,41 +285,41 @@ impl View<'_> {
         }
     }
 
-    /// Where two types part.
+    /// Where two types differ, and how.
     fn gap(&self, gap: &Gap) -> String {
-        let path = match gap.path.is_empty() {
-            true => "the outside".to_string(),
-            false => gap
-                .path
-                .iter()
-                .rev()
-                .map(|step| format!("the {step}"))
-                .collect::<Vec<_>>()
-                .join(" of "),
+        let steps: Vec<String> = gap.path.iter().rev().map(|step| format!("the {step}")).collect();
+        let at = match steps.is_empty() {
+            true => String::new(),
+            false => format!(" in {}", steps.join(" of ")),
         };
+        format!("differ{at}: {}", self.apart(gap.relation, gap.apart))
+    }
+
+    fn apart(&self, relation: Relation, apart: Apart) -> String {
         let name = |name: u8| self.symbols.name(name as u64);
-        let how = match gap.relation {
+        let how = match relation {
             Relation::Below => "must be below",
             Relation::Above => "must be above",
             Relation::Equal => "must equal",
         };
-        let words = match gap.apart {
+        match apart {
             Apart::Keys(a, b) => format!("key {} {how} key {}", name(a), name(b)),
-            Apart::Kinds(a, b) => format!("a {} is no {}", kind_word(a), kind_word(b)),
+            Apart::Kinds(a, b) => format!("{} is not {}", kind_words(a), kind_words(b)),
             Apart::Names(a, b) => format!("a key of {} is no key of {}", name(a), name(b)),
             Apart::Effects(a, b) => {
-                let names = &self.listing.job.names;
-                let beyond = match gap.relation {
-                    Relation::Below => bits(a).filter(|&n| !names.set_below(1 << n, b)).collect(),
-                    Relation::Above => bits(b).filter(|&n| !names.set_below(1 << n, a)).collect(),
-                    Relation::Equal => bits(a ^ b).collect::<Vec<u8>>(),
+                let beyond = |set: u64, other: u64| {
+                    let outside = |&n: &u8| !self.listing.job.names.set_below(1 << n, other);
+                    bits(set).filter(outside).fold(0, |found, n| found | 1 << n)
                 };
-                let beyond = beyond.iter().fold(0, |set, &n| set | 1 << n);
+                let fault = match relation {
+                    Relation::Below => beyond(a, b),
+                    Relation::Above => beyond(b, a),
+                    Relation::Equal => a ^ b,
+                };
                 let (a, b) = (self.symbols.set(a), self.symbols.set(b));
-                format!("effect {a} {how} effect {b}; at fault: {}", self.symbols.list(beyond))
+                format!("effect {a} {how} effect {b}; at fault: {}", self.symbols.list(fault))
             }
-        };
-        format!("{path}: {words}")
+        }
     }
 
     fn accepted(&mut self, typing: &Typing) {
@@ -353,11 +345,18 @@ impl View<'_> {
 
     /// Each expression's type and effect, as far as they were worked out.
     fn all(&mut self, typing: &Typing) {
-        self.line("expressions: number, text, type, effect");
-        for (number, &Typed { entry, effect }) in typing.typed.iter().enumerate() {
-            let text = self.tree.node(number, 2).flat();
+        self.line("expressions (number, effect, type, text):");
+        let row = |(number, &Typed { entry, effect }): (usize, &Typed)| {
             let ty = type_words(&typing.table, self.symbols, entry);
-            self.line(format!("{number:5}  {text}  :  {ty}  {}", self.symbols.set(effect)));
+            (self.symbols.set(effect), ty, self.tree.node(number, 2).flat())
+        };
+        let rows: Vec<_> = typing.typed.iter().enumerate().map(row).collect();
+        let widest = |column: fn(&(String, String, String)) -> &String| {
+            rows.iter().map(|row| column(row).chars().count()).max().unwrap_or(0).min(40)
+        };
+        let (effects, types) = (widest(|row| &row.0), widest(|row| &row.1));
+        for (number, (effect, ty, text)) in rows.iter().enumerate() {
+            self.line(format!("{number:5}  {effect:effects$}  {ty:types$}  {text}"));
         }
     }
 }

@@ -46,17 +46,8 @@ pub struct Options {
 
 /// Reads the command line, or says what is wrong with it.
 pub fn options(words: &[String]) -> Result<Options, String> {
-    let action = match words.first().map(String::as_str) {
-        _ if words.iter().any(|word| word == "--help" || word == "-h") => Action::Help,
-        Some("asm") => Action::Asm,
-        Some("dump") => Action::Dump,
-        Some("explain") => Action::Explain,
-        Some("help") => Action::Help,
-        Some(other) => return Err(format!("`{other}` is none of asm, dump and explain")),
-        None => return Err("asm, dump or explain is wanted".to_string()),
-    };
     let mut options = Options {
-        action,
+        action: action(words)?,
         input: None,
         output: None,
         hex: false,
@@ -64,32 +55,42 @@ pub fn options(words: &[String]) -> Result<Options, String> {
         all: false,
         force: false,
     };
-    if action == Action::Help {
+    if options.action == Action::Help {
         return Ok(options);
     }
     let mut files = Vec::new();
     let mut rest = words[1..].iter();
     while let Some(word) = rest.next() {
-        match (word.as_str(), action) {
+        match (word.as_str(), options.action) {
             ("--hex", _) => options.hex = true,
             ("--force", _) => options.force = true,
             ("--text", Action::Explain) => options.text = true,
             ("--all", Action::Explain) => options.all = true,
             ("-o", _) => options.output = Some(rest.next().ok_or("-o needs a FILE")?.clone()),
-            ("-", _) => files.push(None),
-            (other, _) if other.starts_with('-') => {
+            (other, _) if other.starts_with('-') && other != "-" => {
                 return Err(format!("{} has no option `{other}`", words[0]));
             }
-            _ => files.push(Some(word.clone())),
+            _ => files.push(word),
         }
     }
-    options.input = match &files[..] {
-        [] => None,
-        [file] => file.clone(),
-        _ => return Err("there is more than one FILE".to_string()),
-    };
-    match options.hex && options.text {
-        true => Err("--hex and --text are not taken together".to_string()),
-        false => Ok(options),
+    if files.len() > 1 {
+        return Err("there is more than one FILE".to_string());
+    }
+    if options.hex && options.text {
+        return Err("--hex and --text are not taken together".to_string());
+    }
+    options.input = files.first().filter(|&&file| file != "-").map(|&file| file.clone());
+    Ok(options)
+}
+
+fn action(words: &[String]) -> Result<Action, String> {
+    match words.first().map(String::as_str) {
+        _ if words.iter().any(|word| word == "--help" || word == "-h") => Ok(Action::Help),
+        Some("asm") => Ok(Action::Asm),
+        Some("dump") => Ok(Action::Dump),
+        Some("explain") => Ok(Action::Explain),
+        Some("help") => Ok(Action::Help),
+        Some(other) => Err(format!("`{other}` is none of asm, dump and explain")),
+        None => Err("asm, dump or explain is wanted".to_string()),
     }
 }

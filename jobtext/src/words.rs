@@ -27,6 +27,14 @@ pub fn kind_words(kind: Kind) -> String {
     format!("a {}", kind_word(kind).replace('-', " "))
 }
 
+/// A number of things.
+pub fn count(number: usize, thing: &str) -> String {
+    match number {
+        1 => format!("1 {thing}"),
+        _ => format!("{number} {thing}s"),
+    }
+}
+
 /// A type of a table, written out; parts beyond a count are left out.
 pub fn type_words(table: &[Type], symbols: &Symbols, entry: u16) -> String {
     node(table, symbols, entry, &mut PARTS.clone()).flat()
