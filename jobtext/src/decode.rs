@@ -82,6 +82,11 @@ pub struct Listing {
 }
 
 impl Listing {
+    /// Whether every byte was read. A job with a command that has no row reads further than this.
+    pub fn is_whole(&self, bytes: &[u8]) -> bool {
+        self.refusal.is_none() && self.rest == bytes.len()
+    }
+
     /// The commands of a section.
     pub fn section(&self, section: Section) -> impl Iterator<Item = &Command> {
         self.commands.iter().filter(move |command| command.row.section == section)

@@ -15,10 +15,11 @@ pub fn dump(bytes: &[u8]) -> (String, bool) {
     let tree = Tree::new(&listing, &symbols);
     declarations(&listing, &symbols, &mut out);
     tree.statements(&mut out);
-    if listing.refusal.is_some() {
+    let whole = listing.is_whole(bytes);
+    if !whole {
         rest(bytes, &listing, &symbols, &mut out);
     }
-    (out, listing.refusal.is_none())
+    (out, whole)
 }
 
 /// Names, types, host values and rights.

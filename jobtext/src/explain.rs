@@ -62,14 +62,13 @@ pub fn explain(bytes: &[u8], symbols: Option<&Symbols>, all: bool) -> Explained 
         view.in_tree(refusal);
         return Explained { accepted: false, text: view.out };
     }
-    let typing = work_out(&listing.job, &view.exprs);
-    match &typing.fault {
-        Some((number, fault)) => {
-            view.head(Refusal { number: fault.number(), place: *number as u32 });
-            view.fault(&typing, *number, fault);
-        }
-        None => view.accepted(&typing),
+    if !listing.is_whole(bytes) {
+        view.line("A command of this job is not known here, so its verdict is not explained.");
+        view.line(second::desk(bytes));
+        return Explained { accepted: second::check(bytes).is_ok(), text: view.out };
     }
+    let typing = work_out(&listing.job, &view.exprs);
+    view.typing(&typing);
     if all {
         view.all(&typing);
     }
@@ -93,6 +92,17 @@ impl View<'_> {
     fn head(&mut self, refusal: Refusal) {
         self.line(format!("refused {} at {}", refusal.number, refusal.place));
         self.line(title(refusal.number));
+    }
+
+    /// The verdict of typing: 11 to 14, or accepted.
+    fn typing(&mut self, typing: &Typing) {
+        match &typing.fault {
+            Some((number, fault)) => {
+                self.head(Refusal { number: fault.number(), place: *number as u32 });
+                self.fault(typing, *number, fault);
+            }
+            None => self.accepted(typing),
+        }
     }
 
     /// Refusals 2 to 7: the command at the place, as far as it can be shown.

@@ -62,3 +62,20 @@ fn the_guide_has_every_command() {
         assert!(lines.into_iter().any(named), "{:02X} {}", row.byte, row.word);
     }
 }
+
+/// What the pages show of sample jobs is what is recorded.
+#[test]
+fn the_pages_show_what_is_recorded() {
+    let shown = [
+        ("JOBS.md", "payroll_week.explain"),
+        ("JOBS.md", "payroll_week.out"),
+        ("VERDICTS.md", "two_agencies.explain"),
+        ("VERDICTS.md", "two_agencies.out"),
+        ("VERDICTS.md", "refused/13_limit.explain"),
+    ];
+    for (page, file) in shown {
+        let page = fs::read_to_string(format!("../docs/{page}")).expect("a page");
+        let text = fs::read_to_string(format!("../examples/{file}")).expect("a recorded file");
+        assert!(page.contains(&text), "{file}");
+    }
+}
