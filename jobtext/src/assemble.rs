@@ -130,9 +130,9 @@ impl Assembler {
     fn ty_statement(&mut self, symbol: &Word, term: &Term) {
         let known = self.types.contains_key(&symbol.text);
         let free = self.free(symbol, known);
-        if let Some(ty) = self.ty(term, true)
-            && free
-        {
+        // A type that is wrong is still declared, so that its uses are not told as mistakes.
+        let ty = self.ty(term, true).unwrap_or(0);
+        if free {
             self.types.insert(symbol.text.clone(), ty);
             self.symbols.types.entry(ty).or_insert(symbol.text.clone());
         }
@@ -279,12 +279,11 @@ impl Assembler {
             TermKind::Type(inner) => return self.ty(inner, own),
             TermKind::Word(word) => match (self.types.get(word), by_word(Section::Types, word)) {
                 (Some(&ty), _) => return Some(ty),
-                (_, Some(row)) => (row, &[][..]),
-                _ => {
-                    let known = self.types.keys().map(String::as_str);
-                    let words = unknown("type", word, nearest(word, known));
-                    return self.wrong(term.span, words);
+                (_, Some(row)) if row.operands.len() > 1 => {
+                    return self.wrong(term.span, bracketed(row));
                 }
+                (_, Some(row)) => (row, &[][..]),
+                _ => return self.no_type(word, term.span),
             },
             TermKind::List(terms) => self.head(Section::Types, terms, term.span)?,
             _ => return self.wrong(term.span, "wanted a type"),
@@ -298,6 +297,15 @@ impl Assembler {
         self.declared.entry(bytes.clone()).or_insert(next);
         self.section(Section::Types).push((bytes, term.span));
         Some(next)
+    }
+
+    fn no_type(&mut self, word: &str, span: Span) -> Option<u16> {
+        let known = self.types.keys().map(String::as_str);
+        let words = match self.names.contains_key(word) {
+            true => format!("`{word}` is a name, no type; the key of a type is written `@{word}`"),
+            false => unknown("type", word, nearest(word, known)),
+        };
+        self.wrong(span, words)
     }
 
     /// The row of a list's first word, and the operands behind it.
@@ -342,13 +350,10 @@ impl Assembler {
             if Some(place) == body {
                 self.scope.extend(bound.take());
             }
-            if operand == Operand::Key
-                && !matches!(terms.peek(), Some(Term { kind: TermKind::Key(_), .. }))
-            {
-                continue;
-            }
             let arg = match (operand, done.len()) {
                 (Operand::Expr(_), 1..) => done.next().map(|&expr| Arg::One(expr as u64)),
+                (Operand::Key, _) if !terms.peek().is_some_and(|term| is_key(term)) => continue,
+                (Operand::Type, _) if self.unmarked(row, terms.peek().copied(), span) => None,
                 _ => match terms.next() {
                     Some(term) => self.operand(operand, term, &mut bound),
                     None => self.wrong(span, lacking(row, operand)),
@@ -358,10 +363,26 @@ impl Assembler {
             whole &= arg.is_some();
             args[place] = arg.unwrap_or(Arg::One(0));
         }
-        if let Some(term) = terms.next() {
-            return self.wrong(term.span, format!("too much for `{}`: {}", row.word, usage(row)));
+        match terms.next() {
+            Some(term) if whole => {
+                self.wrong(term.span, format!("too much for `{}`: {}", row.word, usage(row)))
+            }
+            _ => whole.then_some(args),
         }
-        whole.then_some(args)
+    }
+
+    /// Tells where an expression's type lacks its `:`, and whether it lacks the type too.
+    fn unmarked(&mut self, row: &Row, next: Option<&Term>, span: Span) -> bool {
+        let marked = matches!(next, Some(Term { kind: TermKind::Type(_), .. }));
+        if row.section != Section::Expressions || marked {
+            return false;
+        }
+        let at = next.map_or(span, |term| term.span);
+        self.wrong::<()>(at, format!("wanted `:` and a type: {}", usage(row)));
+        match next.map(|term| &term.kind) {
+            Some(TermKind::Word(word)) => !self.types.contains_key(word),
+            _ => true,
+        }
     }
 
     /// One operand. A variable that it binds goes to `bound`.
@@ -457,10 +478,8 @@ impl Assembler {
             None => {}
         }
         match by_word(Section::Expressions, word).filter(|row| row.form != Form::Bare) {
-            Some(row) => {
-                let args = self.operands(row, &[], span, &[])?;
-                self.push(row, &args, span)
-            }
+            Some(row) if !row.operands.is_empty() => self.wrong(span, bracketed(row)),
+            Some(row) => self.push(row, &[], span),
             None => self.no_variable(word, span),
         }
     }
@@ -547,6 +566,10 @@ fn start(statement: &Statement) -> Span {
     }
 }
 
+fn is_key(term: &Term) -> bool {
+    matches!(term.kind, TermKind::Key(_))
+}
+
 /// An operand's value before it is written.
 fn fixed(operand: Operand) -> Arg {
     match operand {
@@ -564,6 +587,10 @@ fn unknown(what: &str, word: &str, near: Option<&str>) -> String {
         Some(near) => format!("no {what} is called `{word}`; is it `{near}`?"),
         None => format!("no {what} is called `{word}`"),
     }
+}
+
+fn bracketed(row: &Row) -> String {
+    format!("`{}` has operands and stands in brackets: {}", row.word, usage(row))
 }
 
 fn lacking(row: &Row, operand: Operand) -> String {

@@ -100,13 +100,17 @@ impl Parser {
 
     /// The place of the next token, or just behind the last one.
     fn here(&self) -> Span {
-        let after = |&(span, _): &(Span, Token)| Span {
+        self.peek().map_or_else(|| self.behind(), |&(span, _)| span)
+    }
+
+    /// The place just behind the token before.
+    fn behind(&self) -> Span {
+        let before = self.at.min(self.tokens.len()).checked_sub(1).map(|at| self.tokens[at].0);
+        before.map_or(Span { line: 1, column: 1, length: 1 }, |span| Span {
             column: span.column + span.length,
             length: 1,
             ..span
-        };
-        let behind = || self.tokens.last().map_or(Span { line: 1, column: 1, length: 1 }, after);
-        self.peek().map_or_else(behind, |&(span, _)| span)
+        })
     }
 
     fn wrong<T>(&mut self, span: Span, words: impl Into<String>) -> Option<T> {
@@ -117,11 +121,18 @@ impl Parser {
     /// Says what was wanted in place of the next token.
     fn wanted<T>(&mut self, what: &str) -> Option<T> {
         let found = match self.peek() {
+            _ if self.line_ends() => "the end of the line".to_string(),
             Some((_, token)) => format!("`{}`", token.show()),
             None => "the end of the text".to_string(),
         };
-        let here = self.here();
+        let here = if self.line_ends() { self.behind() } else { self.here() };
         self.wrong(here, format!("wanted {what}, found {found}"))
+    }
+
+    /// Whether the next token begins a statement on a later line.
+    fn line_ends(&self) -> bool {
+        let last = self.at.checked_sub(1).map(|at| self.tokens[at].0.line);
+        self.keyword().is_some_and(|next| last.is_some_and(|last| last < next.span.line))
     }
 
     /// Goes on to the next keyword.
@@ -210,12 +221,17 @@ impl Parser {
 
     fn name(&mut self, keyword: Word) -> Option<Statement> {
         let symbol = self.word("a symbol for the name")?;
+        let upper = self.upper().unwrap_or(Word { span: symbol.span, text: "top".to_string() });
+        Some(Statement::Name { keyword, symbol, upper })
+    }
+
+    /// `under` and a name. The name is still declared where this is missing.
+    fn upper(&mut self) -> Option<Word> {
         let under = self.word("`under` and the upper name")?;
         if under.text != "under" {
             return self.wrong(under.span, "wanted `under` and the upper name");
         }
-        let upper = self.word("the upper name")?;
-        Some(Statement::Name { keyword, symbol, upper })
+        self.word("the upper name")
     }
 
     fn value(&mut self) -> Option<Statement> {
