@@ -1,0 +1,81 @@
+//! The sample jobs: each text gives the recorded bytes, lines and verdict in words; together they
+//! use every command and meet every refusal from 2 to 14.
+
+use std::collections::BTreeSet;
+use std::fs;
+use std::path::{Path, PathBuf};
+
+use jobtext::commands::ROWS;
+use jobtext::decode::decode;
+use jobtext::{assemble, dump, explain, hex};
+
+/// Every text of a job.
+fn jobs() -> Vec<PathBuf> {
+    let list = |folder: &str| fs::read_dir(folder).expect("the examples");
+    let all = list("../examples").chain(list("../examples/refused"));
+    let paths = all.map(|entry| entry.expect("an entry").path());
+    paths.filter(|path| path.extension().is_some_and(|kind| kind == "job")).collect()
+}
+
+fn text(path: &Path, kind: &str) -> String {
+    let path = path.with_extension(kind);
+    fs::read_to_string(&path).unwrap_or_else(|error| panic!("{}: {error}", path.display()))
+}
+
+#[test]
+fn as_recorded() {
+    for path in jobs() {
+        let made = assemble(&text(&path, "job")).unwrap_or_else(|p| panic!("{path:?}: {p:?}"));
+        let recorded = hex::read(&text(&path, "hex")).expect("hexadecimal digits");
+        assert_eq!(made.bytes, recorded, "{path:?}");
+        assert_eq!(second::desk(&made.bytes), text(&path, "out"), "{path:?}");
+        let explained = explain(&made.bytes, Some(&made.symbols), false);
+        assert_eq!(explained.text, text(&path, "explain"), "{path:?}");
+        let back = assemble(&dump(&made.bytes).0).expect("the dump is a text");
+        assert_eq!(back.bytes, made.bytes, "{path:?}");
+    }
+}
+
+#[test]
+fn every_command_and_refusal() {
+    let (mut words, mut refusals) = (BTreeSet::new(), BTreeSet::new());
+    for path in jobs() {
+        let bytes = hex::read(&text(&path, "hex")).expect("hexadecimal digits");
+        match second::check(&bytes) {
+            Ok(_) => words.extend(decode(&bytes).commands.iter().map(|c| (c.row.byte, c.row.word))),
+            Err(refusal) => drop(refusals.insert(refusal.number)),
+        }
+    }
+    let all: BTreeSet<_> = ROWS.iter().map(|row| (row.byte, row.word)).collect();
+    assert_eq!(words, all);
+    assert_eq!(refusals, (2..=14).collect());
+}
+
+/// The table of commands in the guide has every row.
+#[test]
+fn the_guide_has_every_command() {
+    let guide = fs::read_to_string("../docs/JOBS.md").expect("the guide");
+    for row in ROWS {
+        let wanted = format!("| {:02X} | `", row.byte);
+        let lines = guide.lines().filter(|line| line.starts_with(&wanted));
+        let named = |line: &str| row.word == "variable" || line.contains(row.word);
+        assert!(lines.into_iter().any(named), "{:02X} {}", row.byte, row.word);
+    }
+}
+
+/// What the pages show of sample jobs is what is recorded.
+#[test]
+fn the_pages_show_what_is_recorded() {
+    let shown = [
+        ("JOBS.md", "payroll_week.explain"),
+        ("JOBS.md", "payroll_week.out"),
+        ("VERDICTS.md", "two_agencies.explain"),
+        ("VERDICTS.md", "two_agencies.out"),
+        ("VERDICTS.md", "refused/13_limit.explain"),
+    ];
+    for (page, file) in shown {
+        let page = fs::read_to_string(format!("../docs/{page}")).expect("a page");
+        let text = fs::read_to_string(format!("../examples/{file}")).expect("a recorded file");
+        assert!(page.contains(&text), "{file}");
+    }
+}
