@@ -3,9 +3,9 @@
 use second::names::bits;
 use second::{Refusal, Typed};
 
-use crate::commands::Operand;
+use crate::commands::{Operand, Section};
 use crate::conditions::reasons;
-use crate::decode::{Command, Listing, arguments, command_at, decode};
+use crate::decode::{Command, Listing, command_at, decode};
 use crate::dump::Tree;
 use crate::opens::opens;
 use crate::scope::{Hidden, hidden};
@@ -125,28 +125,40 @@ impl View<'_> {
         if let Some(command) = &command
             && refusal.number != 7
         {
-            self.operands(command, &bytes[place + 1..]);
+            self.unread(command);
         }
         for reason in reasons(bytes, self.listing, self.symbols) {
             self.line(format!("found: {reason}"));
         }
     }
 
-    /// The word and the operands of a command that does not read.
-    fn operands(&mut self, command: &Command, bytes: &[u8]) {
-        let Some(args) = arguments(command.row, bytes) else {
-            return;
-        };
-        let each = command.row.operands.iter().zip(&args);
-        let shown = each.filter_map(|(operand, arg)| match operand {
-            Operand::Fixed(_) => None,
-            Operand::Set => Some(format!("set {:016x}", arg.one())),
-            Operand::Expr(role) => Some(format!("{role} {}", arg.one())),
-            Operand::Keys => Some(count(arg.one() as usize, "key")),
-            other => Some(format!("{} {}", format!("{other:?}").to_lowercase(), arg.one())),
-        });
-        let shown: Vec<String> = shown.collect();
-        self.line(format!("    `{}`: {}", command.row.word, shown.join(", ")));
+    /// A command that does not read, in text.
+    fn unread(&mut self, command: &Command) {
+        let row = command.row;
+        let mut words = vec![row.word.to_string()];
+        for place in row.written() {
+            let value = command.args[place].one();
+            words.push(match row.operands[place] {
+                Operand::Key if value == 0 => continue,
+                Operand::Key => format!("@{}", self.symbols.name(value)),
+                Operand::Upper => format!(".. under {}", self.symbols.name(value)),
+                Operand::Type if row.section == Section::Types => self.symbols.ty(value),
+                Operand::Type => format!(":{}", self.symbols.ty(value)),
+                Operand::Set => self.symbols.set(value),
+                Operand::Number => value.to_string(),
+                Operand::Bound | Operand::Variable => self.symbols.variable(value),
+                operand @ (Operand::Expr(_) | Operand::Keys) => {
+                    let exprs = command.args[place].exprs(operand);
+                    let exprs: Vec<String> = exprs.iter().map(|&e| self.symbols.expr(e)).collect();
+                    let bare = operand != Operand::Keys;
+                    if bare { exprs.join(" ") } else { format!("[{}]", exprs.join(" ")) }
+                }
+                _ => self.symbols.name(value),
+            });
+        }
+        let nested = [Section::Types, Section::Expressions].contains(&row.section);
+        let text = words.join(" ");
+        self.line(if nested { format!("    ({text})") } else { format!("    {text}") });
     }
 
     /// An expression with its number, and its place in a text.
