@@ -3,7 +3,7 @@
 use second::names::bits;
 use second::{Refusal, Typed};
 
-use crate::commands::{Operand, Section};
+use crate::commands::{Effect, Operand, Section};
 use crate::conditions::reasons;
 use crate::decode::{Command, Listing, command_at, decode};
 use crate::dump::Tree;
@@ -296,14 +296,33 @@ impl View<'_> {
         }
     }
 
-    /// The innermost expression whose effect has a name.
+    /// The innermost expression that brings a name into an effect.
     fn source(&self, typing: &Typing, root: usize, name: u8) -> usize {
-        let has = |&expr: &u16| typing.typed[expr as usize].effect >> name & 1 == 1;
-        match self.exprs[root].exprs().iter().find(|expr| has(expr)) {
-            Some(&inner) if self.exprs[root].row.byte != 0x35 => {
-                self.source(typing, inner as usize, name)
+        let expr = &self.exprs[root];
+        let has = |expr: u16, name: u8| typing.typed[expr as usize].effect >> name & 1 == 1;
+        let inner = match expr.row.rule.effect {
+            Effect::Later => None,
+            _ => {
+                expr.exprs().into_iter().find(|&inner| has(inner, name)).map(|inner| (inner, name))
             }
-            _ => root,
+        };
+        let hidden = || match expr.row.rule.effect {
+            Effect::Raise(local, body) => {
+                let (local, body) = (expr.args[local].one() as u8, expr.args[body].one() as u16);
+                has(body, local).then_some((body, local))
+            }
+            // The body of a function that is written where it is applied.
+            Effect::Calls(function) => {
+                let function = &self.exprs[expr.args[function].one() as usize];
+                let body = function.exprs().last().copied()?;
+                let written = matches!(function.row.rule.effect, Effect::Later);
+                (written && has(body, name)).then_some((body, name))
+            }
+            _ => None,
+        };
+        match inner.or_else(hidden) {
+            Some((inner, name)) => self.source(typing, inner as usize, name),
+            None => root,
         }
     }
 
