@@ -39,7 +39,7 @@ fn main() -> ExitCode {
 }
 
 fn run(options: &Options) -> Result<u8, Failure> {
-    let terminal = "is a terminal, and bytes are none of its characters; take --force or --hex";
+    let terminal = "is a terminal, and bytes are no text; take -o FILE, --hex or --force";
     match options.action {
         Action::Asm => {
             let to_terminal = options.output.is_none() && io::stdout().is_terminal();
