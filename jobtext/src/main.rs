@@ -18,6 +18,9 @@ const USAGE: u8 = 2;
 /// A file cannot be read or written.
 const FILES: u8 = 3;
 
+/// The most problems that are shown.
+const SHOWN: usize = 20;
+
 /// A status, and what goes to standard error before it is given.
 struct Failure(u8, String);
 
@@ -119,8 +122,13 @@ fn from_bytes(options: &Options) -> Result<Vec<u8>, Failure> {
     get(options)
 }
 
+/// The first problems, and how many there are beside them.
 fn wrong(options: &Options, text: &str, problems: &[Problem]) -> Failure {
-    let shown: String = problems.iter().map(|problem| problem.show(name(options), text)).collect();
+    let first = problems.iter().take(SHOWN);
+    let mut shown: String = first.map(|problem| problem.show(name(options), text)).collect();
+    if problems.len() > SHOWN {
+        shown.push_str(&format!("{}: and {} more\n", name(options), problems.len() - SHOWN));
+    }
     Failure(FAULT, shown)
 }
 
