@@ -16,6 +16,7 @@ pub mod scope;
 pub mod subtype;
 pub mod symbols;
 pub mod typing;
+pub mod usage;
 pub mod words;
 
 pub use assemble::{Assembled, assemble};
