@@ -1,5 +1,7 @@
 //! Jobs as text: `assemble` text to bytes, `dump` bytes to text, `explain` the verdict in words.
 
+#![forbid(unsafe_code)]
+
 pub mod assemble;
 pub mod commands;
 pub mod conditions;

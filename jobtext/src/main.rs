@@ -1,5 +1,7 @@
 //! The program: reads a file or standard input, writes to standard output or a file.
 
+#![forbid(unsafe_code)]
+
 mod options;
 
 use std::fs;
