@@ -7,6 +7,11 @@ use crate::decode::{Arg, Command, Listing, decode};
 use crate::layout::Node;
 use crate::symbols::Symbols;
 
+/// The depth at which nothing is left out.
+const WHOLE: usize = usize::MAX;
+/// The most operands that are shown where something may be left out.
+const MOST: usize = 9;
+
 /// The text of a job, and whether the whole of it reads.
 pub fn dump(bytes: &[u8]) -> (String, bool) {
     let listing = decode(bytes);
@@ -152,7 +157,7 @@ impl<'a> Tree<'a> {
                 true => "job ".to_string(),
                 false => format!("let {} = ", self.symbols.expr(root as u16)),
             };
-            let text = self.node(root, usize::MAX).lines(2, head.len());
+            let text = self.node(root, WHOLE).lines(0, head.len());
             out.push_str(&format!("{}{head}{text}\n", if last { "\n" } else { "" }));
         }
     }
@@ -215,6 +220,10 @@ impl<'a> Tree<'a> {
         }
         let mut items = vec![Node::word(expr.row.word)];
         self.items(number, depth, &mut items);
+        if depth != WHOLE && items.len() > MOST {
+            items.truncate(MOST);
+            items.push(Node::word(".."));
+        }
         match items.len() {
             1 => items.remove(0),
             _ => Node::list(items),
@@ -244,7 +253,7 @@ impl<'a> Tree<'a> {
     fn operand(&self, operand: Operand, arg: &Arg, depth: usize) -> Node {
         let value = arg.one();
         let one = |&expr: &u16| match self.nested[expr as usize] {
-            true => self.node(expr as usize, depth - 1),
+            true => self.node(expr as usize, depth.saturating_sub((depth != WHOLE) as usize)),
             false => Node::word(self.symbols.expr(expr)),
         };
         let exprs = arg.exprs(operand);

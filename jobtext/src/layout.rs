@@ -62,8 +62,11 @@ impl Node {
                 let mut at = column + 1;
                 let mut broken = false;
                 for (place, item) in items.iter().enumerate() {
-                    let word = matches!(item, Node::Word(_));
                     let fits = at + 1 + item.width() <= WIDTH;
+                    let word = match item {
+                        Node::Word(_) => true,
+                        Node::Group(open, ..) => *open == '[' && fits,
+                    };
                     broken |= place > 0 && !word;
                     if place > 0 && (broken || !fits) {
                         out.push('\n');

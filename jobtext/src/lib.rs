@@ -1,5 +1,7 @@
 //! Jobs as text: `assemble` text to bytes, `dump` bytes to text, `explain` the verdict in words.
 
+#![forbid(unsafe_code)]
+
 pub mod assemble;
 pub mod commands;
 pub mod conditions;
@@ -16,6 +18,7 @@ pub mod scope;
 pub mod subtype;
 pub mod symbols;
 pub mod typing;
+pub mod usage;
 pub mod words;
 
 pub use assemble::{Assembled, assemble};

@@ -1,5 +1,7 @@
 //! The program: reads a file or standard input, writes to standard output or a file.
 
+#![forbid(unsafe_code)]
+
 mod options;
 
 use std::fs;
@@ -17,6 +19,9 @@ const FAULT: u8 = 1;
 const USAGE: u8 = 2;
 /// A file cannot be read or written.
 const FILES: u8 = 3;
+
+/// The most problems that are shown.
+const SHOWN: usize = 20;
 
 /// A status, and what goes to standard error before it is given.
 struct Failure(u8, String);
@@ -39,7 +44,7 @@ fn main() -> ExitCode {
 }
 
 fn run(options: &Options) -> Result<u8, Failure> {
-    let terminal = "is a terminal, and bytes are none of its characters; take --force or --hex";
+    let terminal = "is a terminal, and bytes are no text; take -o FILE, --hex or --force";
     match options.action {
         Action::Asm => {
             let to_terminal = options.output.is_none() && io::stdout().is_terminal();
@@ -119,8 +124,13 @@ fn from_bytes(options: &Options) -> Result<Vec<u8>, Failure> {
     get(options)
 }
 
+/// The first problems, and how many there are beside them.
 fn wrong(options: &Options, text: &str, problems: &[Problem]) -> Failure {
-    let shown: String = problems.iter().map(|problem| problem.show(name(options), text)).collect();
+    let first = problems.iter().take(SHOWN);
+    let mut shown: String = first.map(|problem| problem.show(name(options), text)).collect();
+    if problems.len() > SHOWN {
+        shown.push_str(&format!("{}: and {} more\n", name(options), problems.len() - SHOWN));
+    }
     Failure(FAULT, shown)
 }
 

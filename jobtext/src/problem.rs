@@ -1,5 +1,8 @@
 //! Places in a text, and what is wrong there.
 
+/// How much of a line is shown.
+const WIDTH: usize = 120;
+
 /// A stretch of a line. Lines and columns count from 1, columns by characters.
 #[derive(Clone, Copy, Debug, Default, PartialEq, Eq, PartialOrd, Ord)]
 pub struct Span {
@@ -27,9 +30,12 @@ impl Problem {
         let Some(source) = text.lines().nth(line - 1) else {
             return head;
         };
-        let shown: String = source.chars().map(|c| if c == '\t' { ' ' } else { c }).collect();
-        let gap = " ".repeat(column - 1);
-        let room = (shown.chars().count() + 1).saturating_sub(column).max(1);
+        // Of a long line the part around the place.
+        let skipped = if column > WIDTH { column - WIDTH / 2 } else { 0 };
+        let part = source.chars().skip(skipped).take(WIDTH);
+        let shown: String = part.map(|c| if c == '\t' { ' ' } else { c }).collect();
+        let gap = " ".repeat(column - 1 - skipped);
+        let room = (shown.chars().count() + skipped + 1).saturating_sub(column).max(1);
         format!("{head}{line:5} | {shown}\n      | {gap}{}\n", "^".repeat(length.clamp(1, room)))
     }
 }

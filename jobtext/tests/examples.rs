@@ -79,3 +79,20 @@ fn the_pages_show_what_is_recorded() {
         assert!(page.contains(&text), "{file}");
     }
 }
+
+/// The files that the reading order names are there.
+#[test]
+fn the_reading_order_names_files() {
+    let page = fs::read_to_string("../docs/READING-ORDER.md").expect("the page");
+    let named: Vec<&str> = page.split('`').skip(1).step_by(2).collect();
+    let is_file = |word: &&&str| word.contains("/specs/") || word.contains("/src/");
+    let files: Vec<&&str> = named.iter().filter(is_file).filter(|w| !w.contains(' ')).collect();
+    assert!(files.len() > 25, "{files:?}");
+    for file in files {
+        let path = match file.ends_with(".rt") {
+            true => format!("../crates/{file}"),
+            false => format!("../crates/{file}.antt"),
+        };
+        assert!(Path::new(&path).exists(), "{path}");
+    }
+}
