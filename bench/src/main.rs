@@ -3,6 +3,7 @@
 //! `bench check JOB WHO [TIMES]`, `bench start WHO [TIMES]` and `bench run WHO [TIMES]` do one
 //! thing so many times, for a tool that counts instructions. `bench times` prints a line for each
 //! thing: its name, the job's bytes, and the nanoseconds of the proved code and of the second.
+#![forbid(unsafe_code)]
 
 mod jobs;
 

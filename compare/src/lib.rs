@@ -1,5 +1,6 @@
 //! What the comparison and the benchmark share: calls into the proved code, and what the second
 //! implementation expects of them.
+#![forbid(unsafe_code)]
 
 pub mod expected;
 pub mod probe;

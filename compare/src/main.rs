@@ -2,6 +2,7 @@
 //!
 //! `compare [COUNT] [SEED]` compares verdicts, tables, answers and rooms; it fails on the first
 //! difference, and if a refusal, an answer or a kind of room was not met.
+#![forbid(unsafe_code)]
 
 mod generated;
 

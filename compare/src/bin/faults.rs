@@ -1,6 +1,7 @@
 //! Compares the proved code with the second implementation with one fault after another.
 //!
 //! `faults [COUNT] [SEED]` fails if a fault makes no difference.
+#![forbid(unsafe_code)]
 
 use std::process::ExitCode;
 

@@ -1,6 +1,7 @@
 //! Writes a file of jobs and of what the desk prints for each, by the second implementation.
 //!
 //! `record FILE`
+#![forbid(unsafe_code)]
 
 use std::collections::HashMap;
 use std::process::ExitCode;

@@ -1,4 +1,5 @@
 //! Times a step of a run and a check.
+#![forbid(unsafe_code)]
 
 use std::hint::black_box;
 use std::time::Instant;

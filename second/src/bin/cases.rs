@@ -2,6 +2,7 @@
 //!
 //! `cases desk FILE`: job in hexadecimal, tab, the desk's lines joined by ` | `.
 //! `cases machine FILE`: job, tab, steps asked for, tab, the run's words and the rooms in use.
+#![forbid(unsafe_code)]
 
 use std::process::ExitCode;
 

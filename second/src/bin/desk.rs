@@ -1,4 +1,5 @@
 //! Reads a job from standard input and prints the desk's lines.
+#![forbid(unsafe_code)]
 
 use std::io::{self, Read, Write};
 

@@ -3,6 +3,7 @@
 //! `generate [COUNT] [SEED]` prints how often each refusal, outcome and kind of room is reached;
 //! it fails if one is not. `generate COUNT SEED desk` prints each job and the desk's lines instead,
 //! and `generate COUNT SEED machine STEPS` each job that starts and its run.
+#![forbid(unsafe_code)]
 
 use std::collections::{BTreeMap, BTreeSet};
 use std::process::ExitCode;

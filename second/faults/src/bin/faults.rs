@@ -4,6 +4,7 @@
 //! `faults [COUNT] [SEED]` prints for each fault its number, what it is, the shortest job that
 //! catches it, the steps asked for, and what is seen without and with the fault, parted by tabs.
 //! It fails if a fault is not caught.
+#![forbid(unsafe_code)]
 
 use std::process::ExitCode;
 
