@@ -1,7 +1,7 @@
 -- The machine in words, seen as the machine of the semantics.
 use Prim.Native.Nat.{ℕ}
 use mathlib.Core.List.{List}
-use Rattle.semantics.specs.Machine.{Machine as Clean}
+use Rattle.semantics.specs.Machine.{Machine as Clean, most-frames, most-cells, most-keys, most-pairs, most-functions, most-bindings}
 use Rattle.semantics.specs.Calls.{Ran, ran}
 use Rattle.store.specs.Meaning.{keysIn}
 use Rattle.store.specs.Words.{cellIn, pairIn, functionIn, linkIn, upIn}
@@ -28,14 +28,14 @@ tables f c k p g b = record { frames = f; cells = c; keys = k; pairs = p; functi
 unfoldable pub view : Thread → Tables → Clean
 view t w =
     record {
-      thread = record { control = controlIn (t .now .control); env = t .now .env; on = keysIn (t .now .on); frames = stackOf frameIn (w .frames) (capped (t .frames) 256) };
+      thread = record { control = controlIn (t .now .control); env = t .now .env; on = keysIn (t .now .on); frames = stackOf frameIn (w .frames) (capped (t .frames) most-frames) };
       store =
           record {
-            cells = listOf cellIn (w .cells) (capped (t .cells) 256);
-            keys = listOf upIn (w .keys) (capped (t .keys) 128);
-            pairs = listOf pairIn (w .pairs) (capped (t .pairs) 512);
-            functions = listOf functionIn (w .functions) (capped (t .functions) 512);
-            bindings = listOf linkIn (w .bindings) (capped (t .bindings) 1024);
+            cells = listOf cellIn (w .cells) (capped (t .cells) most-cells);
+            keys = listOf upIn (w .keys) (capped (t .keys) most-keys);
+            pairs = listOf pairIn (w .pairs) (capped (t .pairs) most-pairs);
+            functions = listOf functionIn (w .functions) (capped (t .functions) most-functions);
+            bindings = listOf linkIn (w .bindings) (capped (t .bindings) most-bindings);
           };
     }
 

@@ -1,11 +1,23 @@
 // The machine: a struct by value, with its step and its run. Its tables are lent to the steps of its thread.
+use store::BINDING_WORDS;
 use store::Bound;
+use store::CELL_WORDS;
 use store::Closure;
 use store::Expr;
+use store::FRAME_WORDS;
+use store::FUNCTION_WORDS;
+use store::KEY_BYTES;
 use store::Key;
 use store::Keys;
 use store::Kind;
+use store::MOST_BINDINGS;
+use store::MOST_CELLS;
+use store::MOST_FRAMES;
+use store::MOST_FUNCTIONS;
+use store::MOST_KEYS;
+use store::MOST_PAIRS;
 use store::Own;
+use store::PAIR_WORDS;
 use store::Two;
 use store::Value;
 ghost use mathlib.Core.Path.{_≡_};
@@ -14,10 +26,10 @@ ghost use mathlib.Core.List.{List, [], _∷_, _++_};
 ghost use mathlib.Core.Option.{Option};
 ghost use lib.ListN.{getD};
 ghost use lib.Dec.{ltb};
-ghost use Prim.Native.Nat.{ℕ, _%_, _/_, _<_};
+ghost use Prim.Native.Nat.{ℕ, suc, _%_, _/_, _<_};
 ghost use Rattle.order.specs.Sets.{all-of};
 ghost use Rattle.syntax.specs.Words.{codeIn};
-ghost use Rattle.semantics.specs.Machine.{most-bindings, Value as SValue};
+ghost use Rattle.semantics.specs.Machine.{most-keys, most-pairs, most-bindings, Value as SValue};
 ghost use Rattle.semantics.specs.Keys.{enabled};
 ghost use Rattle.semantics.specs.Step.{Plan, settle, d-push, d-fn, d-key, actPair, actPart, actApp, actNew, actAsg, actRead, actSum, actTest, limitKeys, actLim, actGrant, actNewkey, actAssoc, act, seekIn, seek, variable, enterCmd, handTo, step, sumN};
 ghost use Rattle.semantics.specs.Room.{isDone};
@@ -29,6 +41,12 @@ ghost use Rattle.store.specs.Tables.{capped, listOf};
 ghost use Rattle.machine.specs.Meaning.{answerIn, foundIn};
 ghost use Rattle.machine.specs.View.{Tables, tables, view, seen, ranIn};
 ghost use Rattle.machine.specs.Inner.{acted, stepped, tried, deed, putFrames, putCells, putKeys, putPairs, putFunctions, putBindings, stopOf, giveOf, goOf, resumeOf, unkeyedOf, limitsIn, orElse, Works, isTaken, loopOf, ended, closing, Went};
+
+// 3E binds twice.
+const ROOM_FOR_TWO: u64 = MOST_BINDINGS - 1;
+
+// No chain of bindings is longer.
+const MOST_LINKS: u16 = MOST_BINDINGS as u16;
 
 // An expression to enter or a value to hand on.
 pub enum Control {
@@ -89,12 +107,12 @@ pub struct Ended {
 
 pub struct Machine {
     pub thread: Thread,
-    pub frames: [u64; 1536],
-    pub cells: [u64; 256],
-    pub keys: [u8; 128],
-    pub pairs: [u64; 1024],
-    pub functions: [u64; 512],
-    pub bindings: [u64; 2048],
+    pub frames: [u64; FRAME_WORDS],
+    pub cells: [u64; CELL_WORDS],
+    pub keys: [u8; KEY_BYTES],
+    pub pairs: [u64; PAIR_WORDS],
+    pub functions: [u64; FUNCTION_WORDS],
+    pub bindings: [u64; BINDING_WORDS],
 }
 
 pub struct Outcome {
@@ -178,11 +196,11 @@ fn bound_to(b: Bound, x: u8) -> Found
 }
 
 // The newest binding of x from binding `from` on.
-fn lookup(bindings: &[u64; 2048], n: u16, x: u8, from: u16) -> Found
+fn lookup(bindings: &[u64; BINDING_WORDS], n: u16, x: u8, from: u16) -> Found
     ensures { λ r. ⌜ foundIn r ≡ seek most-bindings (listOf linkIn (now (bindings .entry)) n) from x ⌝ }
 {
     let mut p = from;
-    let mut left: u16 = 1024;
+    let mut left: u16 = MOST_LINKS;
     while 0 < left {
         if p == 0 {
             return Found::Nothing;
@@ -231,7 +249,7 @@ fn limit_keys(a: Value, b: Value, c: Value, d: Value) -> Limits
 }
 
 // The value in hand at place j of a frame that holds so many; past them v.
-fn in_hand(frames: &[u64; 1536], top: u16, held: u8, j: u8, v: Value) -> Value
+fn in_hand(frames: &[u64; FRAME_WORDS], top: u16, held: u8, j: u8, v: Value) -> Value
     ensures { λ r. ⌜ valueIn r ≡ cond (ltb j held) (heldIn (now (frames .entry)) top j) (valueIn v) ⌝ }
 {
     if j < held {
@@ -301,8 +319,8 @@ impl Thread {
     }
 
     // Is the value's key enabled?
-    fn touch(self, x: Value, keys: &[u8; 128]) -> bool
-        ensures { λ r. ⌜ r ≡ enabled (listOf upIn (now (keys .entry)) (capped (self .keys) 128)) (keysIn (self .now .on)) (x .key .0) ⌝ }
+    fn touch(self, x: Value, keys: &[u8; KEY_BYTES]) -> bool
+        ensures { λ r. ⌜ r ≡ enabled (listOf upIn (now (keys .entry)) (capped (self .keys) most-keys)) (keysIn (self .now .on)) (x .key .0) ⌝ }
     {
         let key = x.key;
         let now = self.now;
@@ -310,8 +328,8 @@ impl Thread {
         store::enabled(keys, self.keys, on, key)
     }
 
-    fn touch_all(self, a: Value, b: Value, c: Value, d: Value, keys: &[u8; 128]) -> bool
-        ensures { λ r. ⌜ r ≡ all-of (enabled (listOf upIn (now (keys .entry)) (capped (self .keys) 128)) (keysIn (self .now .on))) (a .key .0 ∷ b .key .0 ∷ c .key .0 ∷ d .key .0 ∷ []) ⌝ }
+    fn touch_all(self, a: Value, b: Value, c: Value, d: Value, keys: &[u8; KEY_BYTES]) -> bool
+        ensures { λ r. ⌜ r ≡ all-of (enabled (listOf upIn (now (keys .entry)) (capped (self .keys) most-keys)) (keysIn (self .now .on))) (a .key .0 ∷ b .key .0 ∷ c .key .0 ∷ d .key .0 ∷ []) ⌝ }
     {
         if self.touch(a, keys) {} else {
             return false;
@@ -325,11 +343,11 @@ impl Thread {
         self.touch(d, keys)
     }
 
-    fn act_pair(self, back: Thread, x: Value, y: Value, pairs: &mut [u64; 1024]) -> Acted
+    fn act_pair(self, back: Thread, x: Value, y: Value, pairs: &mut [u64; PAIR_WORDS]) -> Acted
         ensures { λ r. ⌜ ((w : Tables) → acted r (putPairs w (now (pairs .exit))) ≡ tried self back (putPairs w (now (pairs .entry))) (actPair (valueIn x) (valueIn y))) ⌝ }
     {
         let n = back.pairs;
-        if n < 512 {
+        if n < MOST_PAIRS {
             store::put_pair(
                 pairs,
                 n as u16,
@@ -352,8 +370,8 @@ impl Thread {
         back: Thread,
         first: bool,
         x: Value,
-        keys: &[u8; 128],
-        pairs: &[u64; 1024],
+        keys: &[u8; KEY_BYTES],
+        pairs: &[u64; PAIR_WORDS],
     ) -> Acted
         ensures { λ r. ⌜ ((w : Tables) → acted r (putKeys (putPairs w (now (pairs .entry))) (now (keys .entry))) ≡ tried self back (putKeys (putPairs w (now (pairs .entry))) (now (keys .entry))) (actPart first (valueIn x))) ⌝ }
     {
@@ -361,7 +379,7 @@ impl Thread {
         let Kind::Pair = k else {
             return self.stop(Answer::Stuck);
         };
-        if (x.payload as u64) < store::cap(back.pairs, 512) {} else {
+        if (x.payload as u64) < store::cap(back.pairs, MOST_PAIRS) {} else {
             return self.stop(Answer::Stuck);
         }
         if back.touch(x, keys) {} else {
@@ -382,9 +400,9 @@ impl Thread {
         back: Thread,
         x: Value,
         y: Value,
-        keys: &[u8; 128],
-        functions: &[u64; 512],
-        bindings: &mut [u64; 2048],
+        keys: &[u8; KEY_BYTES],
+        functions: &[u64; FUNCTION_WORDS],
+        bindings: &mut [u64; BINDING_WORDS],
     ) -> Acted
         ensures { λ r. ⌜ ((w : Tables) → acted r (putBindings (putFunctions (putKeys w (now (keys .entry))) (now (functions .entry))) (now (bindings .exit))) ≡ tried self back (putBindings (putFunctions (putKeys w (now (keys .entry))) (now (functions .entry))) (now (bindings .entry))) (actApp (valueIn x) (valueIn y))) ⌝ }
     {
@@ -392,14 +410,14 @@ impl Thread {
         let Kind::Function = k else {
             return self.stop(Answer::Stuck);
         };
-        if (x.payload as u64) < store::cap(back.functions, 512) {} else {
+        if (x.payload as u64) < store::cap(back.functions, MOST_FUNCTIONS) {} else {
             return self.stop(Answer::Stuck);
         }
         if back.touch(x, keys) {} else {
             return self.stop(Answer::Denied);
         }
         let n = back.bindings;
-        if n < 1024 {
+        if n < MOST_BINDINGS {
             let f = store::closure_at(functions, x.payload);
             let body = f.body;
             store::put_variable(bindings, n as u16, f.var, y, f.env);
@@ -413,11 +431,11 @@ impl Thread {
         }
     }
 
-    fn act_cell(self, back: Thread, x: Value, cells: &mut [u64; 256]) -> Acted
+    fn act_cell(self, back: Thread, x: Value, cells: &mut [u64; CELL_WORDS]) -> Acted
         ensures { λ r. ⌜ ((w : Tables) → acted r (putCells w (now (cells .exit))) ≡ tried self back (putCells w (now (cells .entry))) (actNew (valueIn x))) ⌝ }
     {
         let n = back.cells;
-        if n < 256 {
+        if n < MOST_CELLS {
             store::put_cell(cells, n as u32, x);
             let mut next = back;
             next.cells = n + 1;
@@ -433,8 +451,8 @@ impl Thread {
         back: Thread,
         cell: Value,
         value: Value,
-        keys: &[u8; 128],
-        cells: &mut [u64; 256],
+        keys: &[u8; KEY_BYTES],
+        cells: &mut [u64; CELL_WORDS],
     ) -> Acted
         ensures { λ r. ⌜ ((w : Tables) → acted r (putCells (putKeys w (now (keys .entry))) (now (cells .exit))) ≡ tried self back (putCells (putKeys w (now (keys .entry))) (now (cells .entry))) (actAsg (valueIn cell) (valueIn value))) ⌝ }
     {
@@ -442,7 +460,7 @@ impl Thread {
         let Kind::Cell = k else {
             return self.stop(Answer::Stuck);
         };
-        if (cell.payload as u64) < store::cap(back.cells, 256) {} else {
+        if (cell.payload as u64) < store::cap(back.cells, MOST_CELLS) {} else {
             return self.stop(Answer::Stuck);
         }
         if back.touch(cell, keys) {} else {
@@ -452,14 +470,20 @@ impl Thread {
         back.give(value)
     }
 
-    fn act_read(self, back: Thread, x: Value, keys: &[u8; 128], cells: &[u64; 256]) -> Acted
+    fn act_read(
+        self,
+        back: Thread,
+        x: Value,
+        keys: &[u8; KEY_BYTES],
+        cells: &[u64; CELL_WORDS],
+    ) -> Acted
         ensures { λ r. ⌜ ((w : Tables) → acted r (putCells (putKeys w (now (keys .entry))) (now (cells .entry))) ≡ tried self back (putCells (putKeys w (now (keys .entry))) (now (cells .entry))) (actRead (valueIn x))) ⌝ }
     {
         let k = x.kind;
         let Kind::Cell = k else {
             return self.stop(Answer::Stuck);
         };
-        if (x.payload as u64) < store::cap(back.cells, 256) {} else {
+        if (x.payload as u64) < store::cap(back.cells, MOST_CELLS) {} else {
             return self.stop(Answer::Stuck);
         }
         if back.touch(x, keys) {} else {
@@ -469,7 +493,7 @@ impl Thread {
         back.give(v)
     }
 
-    fn act_sum(self, back: Thread, sum: bool, x: Value, y: Value, keys: &[u8; 128]) -> Acted
+    fn act_sum(self, back: Thread, sum: bool, x: Value, y: Value, keys: &[u8; KEY_BYTES]) -> Acted
         ensures { λ r. ⌜ ((w : Tables) → acted r (putKeys w (now (keys .entry))) ≡ tried self back (putKeys w (now (keys .entry))) (actSum sum (valueIn x) (valueIn y))) ⌝ }
     {
         let k = x.kind;
@@ -490,7 +514,7 @@ impl Thread {
         back.give(v)
     }
 
-    fn act_test(self, back: Thread, yes: Expr, no: Expr, x: Value, keys: &[u8; 128]) -> Acted
+    fn act_test(self, back: Thread, yes: Expr, no: Expr, x: Value, keys: &[u8; KEY_BYTES]) -> Acted
         ensures { λ r. ⌜ ((w : Tables) → acted r (putKeys w (now (keys .entry))) ≡ tried self back (putKeys w (now (keys .entry))) (actTest (yes .0) (no .0) (valueIn x))) ⌝ }
     {
         let k = x.kind;
@@ -517,7 +541,7 @@ impl Thread {
         b: Value,
         c: Value,
         d: Value,
-        keys: &[u8; 128],
+        keys: &[u8; KEY_BYTES],
     ) -> Acted
         ensures { λ r. ⌜ ((w : Tables) → acted r (putKeys w (now (keys .entry))) ≡ tried self back (putKeys w (now (keys .entry))) (actLim (body .0) (valueIn a ∷ valueIn b ∷ valueIn c ∷ valueIn d ∷ []))) ⌝ }
     {
@@ -534,7 +558,7 @@ impl Thread {
         back.go(body, now.env, left)
     }
 
-    fn act_grant(self, back: Thread, body: Expr, x: Value, keys: &[u8; 128]) -> Acted
+    fn act_grant(self, back: Thread, body: Expr, x: Value, keys: &[u8; KEY_BYTES]) -> Acted
         ensures { λ r. ⌜ ((w : Tables) → acted r (putKeys w (now (keys .entry))) ≡ tried self back (putKeys w (now (keys .entry))) (actGrant (body .0) (valueIn x))) ⌝ }
     {
         let k = x.kind;
@@ -558,9 +582,9 @@ impl Thread {
         r: u8,
         body: Expr,
         v: Value,
-        keys: &mut [u8; 128],
-        pairs: &mut [u64; 1024],
-        bindings: &mut [u64; 2048],
+        keys: &mut [u8; KEY_BYTES],
+        pairs: &mut [u64; PAIR_WORDS],
+        bindings: &mut [u64; BINDING_WORDS],
     ) -> Acted
         ensures { λ t. ⌜ ((w : Tables) → acted t (putBindings (putPairs (putKeys w (now (keys .exit))) (now (pairs .exit))) (now (bindings .exit))) ≡ tried self back (putBindings (putPairs (putKeys w (now (keys .entry))) (now (pairs .entry))) (now (bindings .entry))) (actNewkey x r (body .0) (valueIn v))) ⌝ }
     {
@@ -574,13 +598,13 @@ impl Thread {
         let nk = back.keys;
         let np = back.pairs;
         let nb = back.bindings;
-        if nk < 128 {} else {
+        if nk < MOST_KEYS {} else {
             return self.stop(Answer::NoRoom);
         }
-        if np < 512 {} else {
+        if np < MOST_PAIRS {} else {
             return self.stop(Answer::NoRoom);
         }
-        if nb < 1023 {} else {
+        if nb < ROOM_FOR_TWO {} else {
             return self.stop(Answer::NoRoom);
         }
         let j = store::key_in(v);
@@ -594,11 +618,11 @@ impl Thread {
         r: u8,
         body: Expr,
         j: Key,
-        keys: &mut [u8; 128],
-        pairs: &mut [u64; 1024],
-        bindings: &mut [u64; 2048],
+        keys: &mut [u8; KEY_BYTES],
+        pairs: &mut [u64; PAIR_WORDS],
+        bindings: &mut [u64; BINDING_WORDS],
     ) -> Acted
-        requires { ⌜ (self .keys < 128) × (self .pairs < 512) × (self .bindings < 1023) ⌝ }
+        requires { ⌜ (self .keys < most-keys) × (self .pairs < most-pairs) × (suc (self .bindings) < most-bindings) ⌝ }
         ensures { λ t. ⌜ ((w : Tables) → Went t (putBindings (putPairs (putKeys w (now (keys .exit))) (now (pairs .exit))) (now (bindings .exit))) (settle (deed (d-key x r (body .0) (j .0)) (view self (putBindings (putPairs (putKeys w (now (keys .entry))) (now (pairs .entry))) (now (bindings .entry))))))) ⌝ }
     {
         let nk = self.keys;
@@ -628,7 +652,13 @@ impl Thread {
         next.go(body, (nb + 2) as u16, on)
     }
 
-    fn act_associate(self, back: Thread, value: Value, limit: Value, keys: &[u8; 128]) -> Acted
+    fn act_associate(
+        self,
+        back: Thread,
+        value: Value,
+        limit: Value,
+        keys: &[u8; KEY_BYTES],
+    ) -> Acted
         ensures { λ r. ⌜ ((w : Tables) → acted r (putKeys w (now (keys .entry))) ≡ tried self back (putKeys w (now (keys .entry))) (actAssoc (valueIn value) (valueIn limit))) ⌝ }
     {
         let l = limit.kind;
@@ -650,11 +680,11 @@ impl Thread {
         })
     }
 
-    fn push(self, e: Expr, first: Expr, frames: &mut [u64; 1536]) -> Acted
+    fn push(self, e: Expr, first: Expr, frames: &mut [u64; FRAME_WORDS]) -> Acted
         ensures { λ r. ⌜ ((w : Tables) → acted r (putFrames w (now (frames .exit))) ≡ tried self self (putFrames w (now (frames .entry))) (deed (d-push (e .0) (first .0)))) ⌝ }
     {
         let n = self.frames;
-        if n < 256 {
+        if n < MOST_FRAMES {
             let now = self.now;
             let on = now.on;
             store::put_fresh(frames, n as u16, e, now.env, on);
@@ -666,11 +696,11 @@ impl Thread {
         }
     }
 
-    fn function(self, x: u8, body: Expr, functions: &mut [u64; 512]) -> Acted
+    fn function(self, x: u8, body: Expr, functions: &mut [u64; FUNCTION_WORDS]) -> Acted
         ensures { λ r. ⌜ ((w : Tables) → acted r (putFunctions w (now (functions .exit))) ≡ tried self self (putFunctions w (now (functions .entry))) (deed (d-fn x (body .0)))) ⌝ }
     {
         let n = self.functions;
-        if n < 512 {
+        if n < MOST_FUNCTIONS {
             let now = self.now;
             store::put_closure(
                 functions,
@@ -690,11 +720,11 @@ impl Thread {
         }
     }
 
-    fn variable(self, x: u8, bindings: &[u64; 2048]) -> Acted
+    fn variable(self, x: u8, bindings: &[u64; BINDING_WORDS]) -> Acted
         ensures { λ r. ⌜ ((w : Tables) → acted r (putBindings w (now (bindings .entry))) ≡ tried self self (putBindings w (now (bindings .entry))) (variable x)) ⌝ }
     {
         let now = self.now;
-        let n = store::cap(self.bindings, 1024) as u16;
+        let n = store::cap(self.bindings, MOST_BINDINGS) as u16;
         let found = lookup(bindings, n, x, now.env);
         match found {
             Found::At(v) => self.give(v),
@@ -707,9 +737,9 @@ impl Thread {
         e: Expr,
         heads: &[u64],
         slots: &[u16],
-        frames: &mut [u64; 1536],
-        functions: &mut [u64; 512],
-        bindings: &[u64; 2048],
+        frames: &mut [u64; FRAME_WORDS],
+        functions: &mut [u64; FUNCTION_WORDS],
+        bindings: &[u64; BINDING_WORDS],
     ) -> Acted
         ensures { λ r. ⌜ ((w : Tables) → acted r (putBindings (putFunctions (putFrames w (now (frames .exit))) (now (functions .exit))) (now (bindings .entry))) ≡ tried self self (putBindings (putFunctions (putFrames w (now (frames .entry))) (now (functions .entry))) (now (bindings .entry))) (enterCmd (e .0) (codeIn (now (heads .entry)) (now (slots .entry)) (e .0)))) ⌝ }
     {
@@ -750,10 +780,10 @@ impl Thread {
         v: Value,
         heads: &[u64],
         slots: &[u16],
-        cells: &mut [u64; 256],
-        keys: &mut [u8; 128],
-        pairs: &mut [u64; 1024],
-        bindings: &mut [u64; 2048],
+        cells: &mut [u64; CELL_WORDS],
+        keys: &mut [u8; KEY_BYTES],
+        pairs: &mut [u64; PAIR_WORDS],
+        bindings: &mut [u64; BINDING_WORDS],
     ) -> Acted
         requires { ⌜ (getD (now heads) (at .0) 0 % 256 ≡ 60 → ⊥) ⌝ }
         ensures { λ r. ⌜ ((w : Tables) → acted r (putBindings (putPairs (putKeys (putCells w (now (cells .exit))) (now (keys .exit))) (now (pairs .exit))) (now (bindings .exit))) ≡ tried self back (putBindings (putPairs (putKeys (putCells w (now (cells .entry))) (now (keys .entry))) (now (pairs .entry))) (now (bindings .entry))) (act (codeIn (now (heads .entry)) (now (slots .entry)) (at .0)) (valueIn v ∷ []))) ⌝ }
@@ -792,11 +822,11 @@ impl Thread {
         v: Value,
         heads: &[u64],
         slots: &[u16],
-        cells: &mut [u64; 256],
-        keys: &[u8; 128],
-        pairs: &mut [u64; 1024],
-        functions: &[u64; 512],
-        bindings: &mut [u64; 2048],
+        cells: &mut [u64; CELL_WORDS],
+        keys: &[u8; KEY_BYTES],
+        pairs: &mut [u64; PAIR_WORDS],
+        functions: &[u64; FUNCTION_WORDS],
+        bindings: &mut [u64; BINDING_WORDS],
     ) -> Acted
         requires { ⌜ (getD (now heads) (at .0) 0 % 256 ≡ 60 → ⊥) ⌝ }
         ensures { λ r. ⌜ ((w : Tables) → acted r (putBindings (putFunctions (putPairs (putKeys (putCells w (now (cells .exit))) (now (keys .entry))) (now (pairs .exit))) (now (functions .entry))) (now (bindings .exit))) ≡ tried self back (putBindings (putFunctions (putPairs (putKeys (putCells w (now (cells .entry))) (now (keys .entry))) (now (pairs .entry))) (now (functions .entry))) (now (bindings .entry))) (act (codeIn (now (heads .entry)) (now (slots .entry)) (at .0)) (valueIn u ∷ valueIn v ∷ []))) ⌝ }
@@ -825,12 +855,12 @@ impl Thread {
         v: Value,
         heads: &[u64],
         slots: &[u16],
-        frames: &[u64; 1536],
-        cells: &mut [u64; 256],
-        keys: &mut [u8; 128],
-        pairs: &mut [u64; 1024],
-        functions: &[u64; 512],
-        bindings: &mut [u64; 2048],
+        frames: &[u64; FRAME_WORDS],
+        cells: &mut [u64; CELL_WORDS],
+        keys: &mut [u8; KEY_BYTES],
+        pairs: &mut [u64; PAIR_WORDS],
+        functions: &[u64; FUNCTION_WORDS],
+        bindings: &mut [u64; BINDING_WORDS],
     ) -> Acted
         ensures { λ r. ⌜ acted r (tables (now (frames .entry)) (now (cells .exit)) (now (keys .exit)) (now (pairs .exit)) (now (functions .entry)) (now (bindings .exit))) ≡ tried self back (tables (now (frames .entry)) (now (cells .entry)) (now (keys .entry)) (now (pairs .entry)) (now (functions .entry)) (now (bindings .entry))) (act (codeIn (now (heads .entry)) (now (slots .entry)) (at .0)) (handOf held (heldIn (now (frames .entry)) top 0) (heldIn (now (frames .entry)) top 1) (heldIn (now (frames .entry)) top 2) ++ (valueIn v ∷ []))) ⌝ }
     {
@@ -871,16 +901,16 @@ impl Thread {
         v: Value,
         heads: &[u64],
         slots: &[u16],
-        frames: &mut [u64; 1536],
-        cells: &mut [u64; 256],
-        keys: &mut [u8; 128],
-        pairs: &mut [u64; 1024],
-        functions: &mut [u64; 512],
-        bindings: &mut [u64; 2048],
+        frames: &mut [u64; FRAME_WORDS],
+        cells: &mut [u64; CELL_WORDS],
+        keys: &mut [u8; KEY_BYTES],
+        pairs: &mut [u64; PAIR_WORDS],
+        functions: &mut [u64; FUNCTION_WORDS],
+        bindings: &mut [u64; BINDING_WORDS],
     ) -> Acted
         ensures { λ r. ⌜ acted r (tables (now (frames .exit)) (now (cells .exit)) (now (keys .exit)) (now (pairs .exit)) (now (functions .exit)) (now (bindings .exit))) ≡ tried self self (tables (now (frames .entry)) (now (cells .entry)) (now (keys .entry)) (now (pairs .entry)) (now (functions .entry)) (now (bindings .entry))) (λ m. handTo (codeIn (now (heads .entry)) (now (slots .entry))) (valueIn v) (m .thread .frames) m) ⌝ }
     {
-        let n = store::cap(self.frames, 256) as u16;
+        let n = store::cap(self.frames, MOST_FRAMES) as u16;
         if n == 0 {
             return self.stop(Answer::Finished);
         }
@@ -918,12 +948,12 @@ impl Thread {
         self,
         heads: &[u64],
         slots: &[u16],
-        frames: &mut [u64; 1536],
-        cells: &mut [u64; 256],
-        keys: &mut [u8; 128],
-        pairs: &mut [u64; 1024],
-        functions: &mut [u64; 512],
-        bindings: &mut [u64; 2048],
+        frames: &mut [u64; FRAME_WORDS],
+        cells: &mut [u64; CELL_WORDS],
+        keys: &mut [u8; KEY_BYTES],
+        pairs: &mut [u64; PAIR_WORDS],
+        functions: &mut [u64; FUNCTION_WORDS],
+        bindings: &mut [u64; BINDING_WORDS],
     ) -> Acted
         ensures { λ r. ⌜ acted r (tables (now (frames .exit)) (now (cells .exit)) (now (keys .exit)) (now (pairs .exit)) (now (functions .exit)) (now (bindings .exit))) ≡ stepped self (tables (now (frames .entry)) (now (cells .entry)) (now (keys .entry)) (now (pairs .entry)) (now (functions .entry)) (now (bindings .entry))) (step (codeIn (now (heads .entry)) (now (slots .entry)))) ⌝ }
     {
@@ -951,12 +981,12 @@ impl Thread {
         n: u64,
         heads: &[u64],
         slots: &[u16],
-        frames: &mut [u64; 1536],
-        cells: &mut [u64; 256],
-        keys: &mut [u8; 128],
-        pairs: &mut [u64; 1024],
-        functions: &mut [u64; 512],
-        bindings: &mut [u64; 2048],
+        frames: &mut [u64; FRAME_WORDS],
+        cells: &mut [u64; CELL_WORDS],
+        keys: &mut [u8; KEY_BYTES],
+        pairs: &mut [u64; PAIR_WORDS],
+        functions: &mut [u64; FUNCTION_WORDS],
+        bindings: &mut [u64; BINDING_WORDS],
     ) -> Ended
         ensures { λ r. ⌜ ended r (tables (now (frames .exit)) (now (cells .exit)) (now (keys .exit)) (now (pairs .exit)) (now (functions .exit)) (now (bindings .exit))) ≡ loopOf (codeIn (now (heads .entry)) (now (slots .entry))) n 0 (view self (tables (now (frames .entry)) (now (cells .entry)) (now (keys .entry)) (now (pairs .entry)) (now (functions .entry)) (now (bindings .entry)))) ⌝ }
     {

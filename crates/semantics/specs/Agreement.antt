@@ -4,7 +4,7 @@ use mathlib.Core.Path.{_≡_, refl, sym, _∙_, subst}
 use Prim.Native.Nat.{ℕ}
 use mathlib.Core.Bool.{Bool, true, false, cond, false≢true}
 use mathlib.Core.List.{List, [], _∷_, List·Memᴰ, List·Memᴰ·head, List·Memᴰ·tail}
-use mathlib.Core.Option.{Option, none, some}
+use mathlib.Core.Option.{none, some}
 use mathlib.Core.Logic.{_≢_, _↔_, _⊎_, inl, inr}
 use lib.ListN.{length, getElem?}
 use Rattle.order.specs.Bools.{_and_}
@@ -12,7 +12,7 @@ use Rattle.order.specs.Effects.{Effect, pure, names, touch, join, drop, raise}
 use Rattle.order.specs.EffectLaws.{name-mem, pure-name, touch-name, touch-old, touch-cases, join-left, join-right, join-cases}
 use Rattle.syntax.specs.Types.{Ty, num, pair, cell, fn, lim, grant}
 use Rattle.syntax.specs.Types
-use Rattle.syntax.specs.Commands.{Cmd, c-num, c-top, c-var, c-pair, c-part, c-fn, c-app, c-new, c-asg, c-read, c-sum, c-test, c-lim, c-grant, c-newkey, c-assoc}
+use Rattle.syntax.specs.Commands.{Cmd, c-pair, c-part, c-app, c-new, c-asg, c-read, c-sum, c-test, c-lim, c-grant, c-newkey, c-assoc}
 use Rattle.syntax.specs.Job.{Src, upOf}
 use Rattle.syntax.specs.Tree.{Entry, e-var, e-name}
 use Rattle.typing.specs.Rules.{codeOf, keysType, Has, h-num, h-top, h-var, h-pair, h-part1, h-part2, h-fn, h-app, h-new, h-asg, h-read, h-sum, h-test, h-lim, h-grant, h-newkey, h-assoc, h-sub, HasKeys, k-nil, k-cons}

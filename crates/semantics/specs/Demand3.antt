@@ -16,7 +16,7 @@ use Rattle.typing.specs.Demand2.{accepts-typed}
 use Rattle.typing.specs.Rules.{codeOf}
 use Rattle.semantics.specs.Machine.{Machine}
 use Rattle.semantics.specs.Start.{startOf}
-use Rattle.semantics.specs.Calls.{Call, Ran, calls, AllGive, all-nil, all-cons}
+use Rattle.semantics.specs.Calls.{Call, Ran, calls, AllGive, all-cons}
 use Rattle.semantics.specs.TypeFree.{calls-same, all-same}
 use Rattle.semantics.specs.Only.{all-one}
 use Rattle.semantics.specs.Safety.{Fine, fine, safety}

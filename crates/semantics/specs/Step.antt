@@ -9,7 +9,7 @@ use lib.Dec.{eqb, ltb}
 use Rattle.order.specs.Bools.{_and_}
 use Rattle.syntax.specs.Commands.{Cmd, c-num, c-top, c-var, c-pair, c-part, c-fn, c-app, c-new, c-asg, c-read, c-sum, c-test, c-lim, c-grant, c-newkey, c-assoc}
 use Rattle.syntax.specs.Operands.{evaluated}
-use Rattle.semantics.specs.Machine.{Kind, k-num, k-pair, k-fn, k-cell, k-lim, k-grant, Value, unkeyed, Two, Bind, b-var, b-name, Link, Closure, Frame, Control, enter, hand, Thread, Store, Machine}
+use Rattle.semantics.specs.Machine.{Kind, k-num, k-pair, k-fn, k-cell, k-lim, k-grant, Value, unkeyed, Two, Bind, b-var, b-name, Link, Closure, KeySet, no-keys, Frame, Control, enter, hand, Machine}
 use Rattle.semantics.specs.Machine.{most-cells, most-keys, most-pairs, most-functions, most-frames, most-bindings}
 use Rattle.semantics.specs.Keys.{enabled, narrow, add}
 
@@ -22,7 +22,7 @@ pub data Out : Type 0 where
 abbrev pub handing : Value → Machine → Machine
 handing v m = record { thread = record { control = hand v; env = m .thread .env; on = m .thread .on; frames = m .thread .frames }; store = m .store }
 
-abbrev pub entering : ℕ → ℕ → ℕ → Machine → Machine
+abbrev pub entering : ℕ → ℕ → KeySet → Machine → Machine
 entering e env on m = record { thread = record { control = enter e; env = env; on = on; frames = m .thread .frames }; store = m .store }
 
 -- the parts of the store that a step changes
@@ -70,7 +70,7 @@ does (d-give v) m = handing v m
 does (d-enter e) m = entering e (m .thread .env) (m .thread .on) m
 -- "Limit enables what is below both an old enabled key and one of its own; grant adds its key"
 does (d-limit e js) m = entering e (m .thread .env) (narrow (m .store .keys) (m .thread .on) js) m
-does (d-close e) m = entering e (m .thread .env) 0 m
+does (d-close e) m = entering e (m .thread .env) no-keys m
 does (d-grant e j) m = entering e (m .thread .env) (add (m .store .keys) j (m .thread .on)) m
 does (d-wait f a) m = entering a (m .thread .env) (m .thread .on) (withFrames m (f ∷ m .thread .frames))
 does (d-push e a) m =

@@ -1,6 +1,6 @@
 -- What a step answers, exactly, of every machine: stuck exactly when a kind is wrong or a needed entry is not there, else denied exactly when a touched key is not enabled,
 -- else no room exactly when a place lacks, else it is taken; done exactly when the machine is finished. The conditions are defined apart from the step (`Wants`, `Room`).
-use mathlib.Core.Path.{_≡_, refl, sym, _∙_}
+use mathlib.Core.Path.{_≡_, refl, sym}
 use Prim.Native.Nat.{ℕ, suc}
 use native.Mathlib.Omega.{arith}
 use mathlib.Core.Bool.{Bool, true, false, cond, not, false≢true}
@@ -14,14 +14,14 @@ use Rattle.order.specs.Bools.{_and_, _or_}
 use Rattle.order.specs.Sets.{some-of}
 use Rattle.syntax.specs.Commands.{Cmd, c-num, c-top, c-var, c-pair, c-part, c-fn, c-app, c-new, c-asg, c-read, c-sum, c-test, c-lim, c-grant, c-newkey, c-assoc}
 use Rattle.syntax.specs.Operands
-use Rattle.semantics.specs.Machine.{Kind, k-num, k-pair, k-fn, k-cell, k-lim, k-grant, Value, Frame, Control, enter, hand, Thread, Store, Machine, most-cells, most-keys, most-pairs, most-functions, most-frames, most-bindings}
+use Rattle.semantics.specs.Machine.{Kind, k-num, k-pair, k-fn, k-cell, k-lim, k-grant, Value, Frame, Control, enter, hand, Thread, Store, Machine, most-bindings}
 use Rattle.semantics.specs.Keys.{enabled}
 use Rattle.semantics.specs.Step
 use Rattle.semantics.specs.Step.{Out, o-step, o-done, o-room, o-stuck, o-denied, Deed, does, free, Plan, p-done, p-wrong, p-try, room, touchAll, settle, asNum, asPair, asFn, asCell, asLim, asGrant, found, one, two}
 use Rattle.semantics.specs.Step.{actPair, actPart, actApp, actNew, actAsg, actRead, actSum, actTest, limitKeys, keysOf, actLim, actGrant, actNewkey, actAssoc}
 use Rattle.semantics.specs.Step.{seek, worked, act, variable, enterLim, enterCmd, receive, handTo, planOn, plan, step}
 use Rattle.semantics.specs.Room.{doneAt, isDone, full, lacksEntry, lacksEnter, lacksAct, lacksReceive, lacksHand, lacksOn, lacks}
-use Rattle.semantics.specs.Wants.{Use, takes, touches, anything, a-number, a-pair, a-function, a-cell, a-limit, a-grant, alike, uses, holds, isThere, byKind, yes, no, suits, suit, touchedIn, touchedOf, anyShut, wrongEnter, wrongAct, wrongReceive, touchedReceive, wrongHand, wrongOn, wrong, touchedHand, touchedOn, touched, onIn, shut, Stuck, Denied, NoRoom, Ready}
+use Rattle.semantics.specs.Wants.{Use, touches, a-number, a-pair, a-function, a-cell, a-limit, a-grant, alike, uses, holds, isThere, byKind, yes, no, suits, suit, touchedIn, touchedOf, anyShut, wrongEnter, wrongAct, wrongReceive, touchedReceive, wrongHand, wrongOn, wrong, touchedHand, touchedOn, touched, onIn, shut, Stuck, Denied, NoRoom, Ready}
 
 -- done, wrong, shut and lacking, in this order, against an outcome
 pub data Exact : Bool → Bool → Bool → Bool → Out → Type 0 where

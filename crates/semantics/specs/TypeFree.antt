@@ -1,7 +1,6 @@
 -- The machine never looks at types: with other type operands each step, each run and each list of calls gives the same, and may give the same.
-use mathlib.Core.Path.{_≡_, refl, sym, ap, _∙_, subst}
+use mathlib.Core.Path.{_≡_, refl, sym, ap, _∙_}
 use Prim.Native.Nat.{ℕ, zero, suc}
-use mathlib.Core.Bool.{Bool, true, false}
 use mathlib.Core.List.{List, [], _∷_, _++_}
 use mathlib.Core.Option.{Option, none, some}
 use lib.ListN.{length, getElem?}
@@ -10,7 +9,7 @@ use Rattle.syntax.specs.Operands
 use Rattle.syntax.specs.Operands.{inner}
 use Rattle.semantics.specs.Machine.{Value, Frame, Control, enter, hand, Machine}
 use Rattle.semantics.specs.Step.{Out, o-step, o-done, o-room, o-stuck, o-denied, worked, act, enterCmd, receive, handTo, planOn, plan, settle, step}
-use Rattle.semantics.specs.Room.{isDone, lacksEnter, lacksAct, lacksReceive, lacksHand, lacksOn, lacks}
+use Rattle.semantics.specs.Room.{lacksEnter, lacksAct, lacksReceive, lacksHand, lacksOn, lacks}
 use Rattle.semantics.specs.Calls.{Call, one-step, run-of, Ran, run, call, calls, turn, Takes, no-step, first, Gives, step-taken, step-finished, step-noroom, run-finished, run-spent, run-noroom, AllGive, all-nil, all-cons}
 
 module _ {T U : Type 0} (f : T → U) where

@@ -10,7 +10,7 @@ use Rattle.order.specs.Bools.{_and_}
 use Rattle.order.specs.Sets.{some-of}
 use Rattle.syntax.specs.Commands.{Cmd, c-num, c-top, c-var, c-pair, c-part, c-fn, c-app, c-new, c-asg, c-read, c-sum, c-test, c-lim, c-grant, c-newkey, c-assoc}
 use Rattle.syntax.specs.Operands.{usesVar}
-use Rattle.semantics.specs.Machine.{Kind, k-num, k-pair, k-fn, k-cell, k-lim, k-grant, Value, Frame, Control, enter, hand, Store, Machine, most-bindings}
+use Rattle.semantics.specs.Machine.{Kind, k-num, k-pair, k-fn, k-cell, k-lim, k-grant, Value, KeySet, Frame, Control, enter, hand, Store, Machine, most-bindings}
 use Rattle.semantics.specs.Keys.{enabled}
 use Rattle.semantics.specs.Step.{seek, worked}
 use Rattle.semantics.specs.Room.{isDone, lacks}
@@ -106,7 +106,7 @@ touchedOf none vs = []
 touchedOf (some us) vs = touchedIn us vs
 
 -- one of the keys is not enabled
-unfoldable pub anyShut : List ℕ → ℕ → List ℕ → Bool
+unfoldable pub anyShut : List ℕ → KeySet → List ℕ → Bool
 anyShut up on ks = some-of (λ k. not (enabled up on k)) ks
 
 module _ {T : Type 0} where
@@ -152,7 +152,7 @@ module _ {T : Type 0} (code : ℕ → Cmd T) where
   touched m = touchedOn (m .thread .control) (m .thread .frames)
 
 -- the keys enabled where it touches them: the newest frame's own
-unfoldable pub onIn : Control → List Frame → ℕ → ℕ
+unfoldable pub onIn : Control → List Frame → KeySet → KeySet
 onIn (enter e) fs on = on
 onIn (hand v) [] on = on
 onIn (hand v) (f ∷ fs) on = f .on

@@ -8,12 +8,39 @@ ghost use lib.Bits.{bitOr};
 ghost use Rattle.order.specs.Bools.{_and_};
 ghost use Rattle.order.specs.Order.{below};
 ghost use Rattle.order.specs.Sets.{bit, some-of};
+ghost use Rattle.semantics.specs.Machine.{most-frames, most-cells, most-keys, most-pairs, most-functions, most-bindings};
 ghost use Rattle.semantics.specs.Keys.{enabled, narrow};
 ghost use Rattle.store.specs.Meaning.{keysIn, kindIn, valueIn, twoIn, closureIn, bindingIn, variableIn, nameIn, ownIn};
 ghost use Rattle.store.specs.Words.{kindAt, wordIn, cellIn, pairIn, functionIn, linkIn, upIn};
 ghost use Rattle.store.specs.Frames.{headAt, heldIn, freshOf, frameIn, Held};
 ghost use Rattle.store.specs.Tables.{Stored, Put, capped, listOf, stackOf};
 ghost use Rattle.store.specs.Walk.{walk, bothOf, bitsOf, span};
+
+// Room (document 01): how many frames, cells, keys, pairs, functions and bindings there are at most.
+pub const MOST_FRAMES: u64 = 256;
+
+pub const MOST_CELLS: u64 = 256;
+
+pub const MOST_KEYS: u64 = 128;
+
+pub const MOST_PAIRS: u64 = 512;
+
+pub const MOST_FUNCTIONS: u64 = 512;
+
+pub const MOST_BINDINGS: u64 = 1024;
+
+// The lengths of their tables: six words a frame, two a pair and two a binding.
+pub const FRAME_WORDS: usize = MOST_FRAMES as usize * 6;
+
+pub const CELL_WORDS: usize = MOST_CELLS as usize;
+
+pub const KEY_BYTES: usize = MOST_KEYS as usize;
+
+pub const PAIR_WORDS: usize = MOST_PAIRS as usize * 2;
+
+pub const FUNCTION_WORDS: usize = MOST_FUNCTIONS as usize;
+
+pub const BINDING_WORDS: usize = MOST_BINDINGS as usize * 2;
 
 // The number of a key.
 pub struct Key(pub u8);
@@ -183,32 +210,32 @@ pub fn cap(n: u64, most: u64) -> u64
 }
 
 // The upper key of key i.
-pub fn up_at(s: &[u8; 128], i: u8) -> u8
+pub fn up_at(s: &[u8; KEY_BYTES], i: u8) -> u8
     ensures { λ r. ⌜ r ≡ upIn (now (s .entry)) i ⌝ }
 {
     at8(s, i as usize)
 }
 
-pub fn put_up(t: &mut [u8; 128], i: u16, k: Key)
-    ensures { λ _. ⌜ Put upIn 128 (now (t .entry)) (now (t .exit)) i (k .0) ⌝ }
+pub fn put_up(t: &mut [u8; KEY_BYTES], i: u16, k: Key)
+    ensures { λ _. ⌜ Put upIn most-keys (now (t .entry)) (now (t .exit)) i (k .0) ⌝ }
 {
     put8(&mut t[..], i as usize, k.0);
 }
 
-pub fn cell_at(t: &[u64; 256], i: u32) -> Value
+pub fn cell_at(t: &[u64; CELL_WORDS], i: u32) -> Value
     ensures { λ r. ⌜ valueIn r ≡ cellIn (now (t .entry)) i ⌝ }
 {
     unpack(at64(t, i as usize))
 }
 
-pub fn put_cell(t: &mut [u64; 256], i: u32, v: Value)
-    ensures { λ _. ⌜ Put cellIn 256 (now (t .entry)) (now (t .exit)) i (valueIn v) ⌝ }
+pub fn put_cell(t: &mut [u64; CELL_WORDS], i: u32, v: Value)
+    ensures { λ _. ⌜ Put cellIn most-cells (now (t .entry)) (now (t .exit)) i (valueIn v) ⌝ }
 {
     let w = pack(v);
     put64(&mut t[..], i as usize, w);
 }
 
-pub fn pair_at(t: &[u64; 1024], i: u32) -> Two
+pub fn pair_at(t: &[u64; PAIR_WORDS], i: u32) -> Two
     ensures { λ r. ⌜ twoIn r ≡ pairIn (now (t .entry)) i ⌝ }
 {
     let j = i as usize;
@@ -220,8 +247,8 @@ pub fn pair_at(t: &[u64; 1024], i: u32) -> Two
     }
 }
 
-pub fn put_pair(t: &mut [u64; 1024], i: u16, p: Two)
-    ensures { λ _. ⌜ Put pairIn 512 (now (t .entry)) (now (t .exit)) i (twoIn p) ⌝ }
+pub fn put_pair(t: &mut [u64; PAIR_WORDS], i: u16, p: Two)
+    ensures { λ _. ⌜ Put pairIn most-pairs (now (t .entry)) (now (t .exit)) i (twoIn p) ⌝ }
 {
     let x = p.first;
     let y = p.second;
@@ -239,7 +266,7 @@ fn triple(a: u8, b: u16, c: u16) -> u64
     (a as u64) + (b as u64) * 256 + (c as u64) * 16777216
 }
 
-pub fn closure_at(t: &[u64; 512], i: u32) -> Closure
+pub fn closure_at(t: &[u64; FUNCTION_WORDS], i: u32) -> Closure
     ensures { λ r. ⌜ closureIn r ≡ functionIn (now (t .entry)) i ⌝ }
 {
     let w = at64(t, i as usize);
@@ -250,15 +277,15 @@ pub fn closure_at(t: &[u64; 512], i: u32) -> Closure
     }
 }
 
-pub fn put_closure(t: &mut [u64; 512], i: u16, f: Closure)
-    ensures { λ _. ⌜ Put functionIn 512 (now (t .entry)) (now (t .exit)) i (closureIn f) ⌝ }
+pub fn put_closure(t: &mut [u64; FUNCTION_WORDS], i: u16, f: Closure)
+    ensures { λ _. ⌜ Put functionIn most-functions (now (t .entry)) (now (t .exit)) i (closureIn f) ⌝ }
 {
     let body = f.body;
     let w = triple(f.var, body.0, f.env);
     put64(&mut t[..], i as usize, w);
 }
 
-pub fn binding_at(t: &[u64; 2048], i: u16) -> Binding
+pub fn binding_at(t: &[u64; BINDING_WORDS], i: u16) -> Binding
     ensures { λ r. ⌜ bindingIn r ≡ linkIn (now (t .entry)) i ⌝ }
 {
     let j = i as usize;
@@ -280,8 +307,8 @@ pub fn binding_at(t: &[u64; 2048], i: u16) -> Binding
 }
 
 // A variable bound to a value.
-pub fn put_variable(t: &mut [u64; 2048], i: u16, x: u8, v: Value, next: u16)
-    ensures { λ _. ⌜ Put linkIn 1024 (now (t .entry)) (now (t .exit)) i (variableIn x v next) ⌝ }
+pub fn put_variable(t: &mut [u64; BINDING_WORDS], i: u16, x: u8, v: Value, next: u16)
+    ensures { λ _. ⌜ Put linkIn most-bindings (now (t .entry)) (now (t .exit)) i (variableIn x v next) ⌝ }
 {
     let w = triple(x, next, 0);
     let y = pack(v);
@@ -291,8 +318,8 @@ pub fn put_variable(t: &mut [u64; 2048], i: u16, x: u8, v: Value, next: u16)
 }
 
 // A name bound to a key.
-pub fn put_name(t: &mut [u64; 2048], i: u16, x: u8, k: Key, next: u16)
-    ensures { λ _. ⌜ Put linkIn 1024 (now (t .entry)) (now (t .exit)) i (nameIn x k next) ⌝ }
+pub fn put_name(t: &mut [u64; BINDING_WORDS], i: u16, x: u8, k: Key, next: u16)
+    ensures { λ _. ⌜ Put linkIn most-bindings (now (t .entry)) (now (t .exit)) i (nameIn x k next) ⌝ }
 {
     let w = triple(x, next, 1);
     let j = i as usize;
@@ -300,7 +327,7 @@ pub fn put_name(t: &mut [u64; 2048], i: u16, x: u8, k: Key, next: u16)
     put64(&mut t[..], j * 2 + 1, k.0 as u64);
 }
 
-pub fn head_at(t: &[u64; 1536], i: u16) -> Head
+pub fn head_at(t: &[u64; FRAME_WORDS], i: u16) -> Head
     ensures { λ r. ⌜ r ≡ headAt (now (t .entry)) i ⌝ }
 {
     let j = i as usize;
@@ -315,15 +342,15 @@ pub fn head_at(t: &[u64; 1536], i: u16) -> Head
 }
 
 // The value in hand at place j of frame i.
-pub fn held_at(t: &[u64; 1536], i: u16, j: u8) -> Value
+pub fn held_at(t: &[u64; FRAME_WORDS], i: u16, j: u8) -> Value
     ensures { λ r. ⌜ valueIn r ≡ heldIn (now (t .entry)) i j ⌝ }
 {
     unpack(at64(t, (i as usize) * 6 + 3 + (j as usize)))
 }
 
 // A frame with nothing in hand.
-pub fn put_fresh(t: &mut [u64; 1536], i: u16, at: Expr, env: u16, on: Keys)
-    ensures { λ _. ⌜ Put frameIn 256 (now (t .entry)) (now (t .exit)) i (freshOf at env on) ⌝ }
+pub fn put_fresh(t: &mut [u64; FRAME_WORDS], i: u16, at: Expr, env: u16, on: Keys)
+    ensures { λ _. ⌜ Put frameIn most-frames (now (t .entry)) (now (t .exit)) i (freshOf at env on) ⌝ }
 {
     let w = triple(0, at.0, env);
     let j = i as usize;
@@ -333,7 +360,7 @@ pub fn put_fresh(t: &mut [u64; 1536], i: u16, at: Expr, env: u16, on: Keys)
 }
 
 // Frame i with one value more in hand; a frame with three is left as it is.
-pub fn put_held(t: &mut [u64; 1536], i: u16, v: Value)
+pub fn put_held(t: &mut [u64; FRAME_WORDS], i: u16, v: Value)
     ensures { λ _. ⌜ Held (now (t .entry)) (now (t .exit)) i (valueIn v) ⌝ }
 {
     let j = i as usize;
@@ -371,7 +398,7 @@ fn any(on: Keys) -> bool
 }
 
 // Is k, or a key above it in the tree, in the set?
-fn walk_up(keys: &[u8; 128], n: u64, on: Keys, k: u8) -> bool
+fn walk_up(keys: &[u8; KEY_BYTES], n: u64, on: Keys, k: u8) -> bool
     ensures { λ r. ⌜ r ≡ walk (listOf upIn (now (keys .entry)) n) (bit (keysIn on)) (ltb 0 (keysIn on)) n k ⌝ }
 {
     let mut x = k;
@@ -397,13 +424,13 @@ fn walk_up(keys: &[u8; 128], n: u64, on: Keys, k: u8) -> bool
 }
 
 // Is the key enabled?
-pub fn enabled(keys: &[u8; 128], n: u64, on: Keys, k: Key) -> bool
-    ensures { λ r. ⌜ r ≡ enabled (listOf upIn (now (keys .entry)) (capped n 128)) (keysIn on) (k .0) ⌝ }
+pub fn enabled(keys: &[u8; KEY_BYTES], n: u64, on: Keys, k: Key) -> bool
+    ensures { λ r. ⌜ r ≡ enabled (listOf upIn (now (keys .entry)) (capped n most-keys)) (keysIn on) (k .0) ⌝ }
 {
     if k.0 == 0 {
         return true;
     }
-    let m = cap(n, 128);
+    let m = cap(n, MOST_KEYS);
     walk_up(keys, m, on, k.0)
 }
 
@@ -428,7 +455,7 @@ fn is_own(own: Own, k: u8) -> bool
 }
 
 // Is k, or a key above it in the tree, one of the keys?
-fn walk_own(keys: &[u8; 128], n: u64, own: Own, k: u8) -> bool
+fn walk_own(keys: &[u8; KEY_BYTES], n: u64, own: Own, k: u8) -> bool
     ensures { λ r. ⌜ r ≡ walk (listOf upIn (now (keys .entry)) n) (λ x. some-of (eqb x) (ownIn own)) true n k ⌝ }
 {
     let mut x = k;
@@ -454,8 +481,8 @@ fn walk_own(keys: &[u8; 128], n: u64, own: Own, k: u8) -> bool
 }
 
 // Is k below both an enabled key and one of the limit's own?
-fn both(keys: &[u8; 128], n: u64, on: Keys, own: Own, k: u8) -> bool
-    requires { ⌜ n ≤ 128 ⌝ }
+fn both(keys: &[u8; KEY_BYTES], n: u64, on: Keys, own: Own, k: u8) -> bool
+    requires { ⌜ n ≤ most-keys ⌝ }
     ensures { λ r. ⌜ r ≡ bothOf (listOf upIn (now (keys .entry)) n) (keysIn on) (ownIn own) k ⌝ }
 {
     if k == 0 {
@@ -489,8 +516,8 @@ fn width(n: u64, base: u64) -> u64
 }
 
 // Of the keys from `base` on, those below both, as bits.
-fn gather(keys: &[u8; 128], n: u64, on: Keys, own: Own, base: u8) -> u64
-    requires { ⌜ (base ≤ 64) × (n ≤ 128) ⌝ }
+fn gather(keys: &[u8; KEY_BYTES], n: u64, on: Keys, own: Own, base: u8) -> u64
+    requires { ⌜ (base ≤ 64) × (n ≤ most-keys) ⌝ }
     ensures { λ r. ⌜ r ≡ bitsOf (bothOf (listOf upIn (now (keys .entry)) n) (keysIn on) (ownIn own)) base (span n base) ⌝ }
 {
     let m = width(n, base as u64) as u8;
@@ -505,18 +532,18 @@ fn gather(keys: &[u8; 128], n: u64, on: Keys, own: Own, base: u8) -> u64
 }
 
 // The keys that are below both an enabled key and one of the limit's own.
-pub fn narrow(keys: &[u8; 128], n: u64, on: Keys, own: Own) -> Keys
-    ensures { λ r. ⌜ keysIn r ≡ narrow (listOf upIn (now (keys .entry)) (capped n 128)) (keysIn on) (ownIn own) ⌝ }
+pub fn narrow(keys: &[u8; KEY_BYTES], n: u64, on: Keys, own: Own) -> Keys
+    ensures { λ r. ⌜ keysIn r ≡ narrow (listOf upIn (now (keys .entry)) (capped n most-keys)) (keysIn on) (ownIn own) ⌝ }
 {
-    let m = cap(n, 128);
+    let m = cap(n, MOST_KEYS);
     Keys(gather(keys, m, on, own, 0), gather(keys, m, on, own, 64))
 }
 
 // The set with a key added, if it is one of the n keys that there are.
 pub fn add(n: u64, on: Keys, k: Key) -> Keys
-    ensures { λ r. ⌜ keysIn r ≡ cond (ltb (k .0) (capped n 128)) (bitOr (2 ^ (k .0)) (keysIn on)) (keysIn on) ⌝ }
+    ensures { λ r. ⌜ keysIn r ≡ cond (ltb (k .0) (capped n most-keys)) (bitOr (2 ^ (k .0)) (keysIn on)) (keysIn on) ⌝ }
 {
-    let m = cap(n, 128);
+    let m = cap(n, MOST_KEYS);
     let i = k.0;
     if m <= i as u64 {
         return on;
