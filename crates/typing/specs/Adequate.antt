@@ -21,7 +21,7 @@ use Rattle.syntax.specs.Context.{plain-lt, inner-lt, ctx-le, root-lt, ctx-uses}
 use Rattle.typing.specs.Rules.{Has, h-num, h-top, h-var, h-pair, h-part1, h-part2, h-fn, h-app, h-new, h-asg, h-read, h-sum, h-test, h-lim, h-grant, h-newkey, h-assoc, h-sub, HasKeys, k-nil, k-cons}
 use Rattle.typing.specs.SubtypeLaws.{sub-refl, subTy→}
 use Rattle.typing.specs.Least.{Typed, typed, isUpper, pick, varType, keysAt, typeAt, get, typesTo, typeOf}
-use Rattle.typing.specs.Scoped.{ctx-type, ctx-var, newkey-fresh}
+use Rattle.typing.specs.Scoped.{ctx-type, ctx-var}
 use Rattle.typing.specs.Scoping as scope
 use Rattle.typing.specs.Filled.{seen, typeOf-is, typed-ty, typed-eff, of-var, by-with, by-require, by-num, by-pair, by-cell, by-fn, by-lim, by-grant}
 
@@ -102,7 +102,7 @@ module _ (S : Src) (ok : Formed S) (tree : TreeOk S) where
   at tab (c-newkey x r a b U) c p i g o d T s w h =
       by-with (tab a) _ h (λ A t ha h. by-with (tab b) _ h (λ B u hb h. by-lim A _ h (λ q v hl h. by-require 11 _ _ h (λ y h. by-require 12 _ _ h (λ y′ h.
       less w h (h-newkey c (o U (List·Memᴰ·head refl)) (cast hl (p a (List·Memᴰ·head refl) A t ha)) (is-upper (getElem? (upOf S) r) v y) (scope.lim-parts (scope.cast hl (g a (List·Memᴰ·head refl) A t ha)) .1)
-      (newkey-fresh S ok tree d c) (i b (List·Memᴰ·head refl) B u hb) (subTy→ (upOf S) B U y′)))))))
+      (scope.newkey-fresh S ok tree d c) (i b (List·Memᴰ·head refl) B u hb) (subTy→ (upOf S) B U y′)))))))
   at tab (c-assoc a b) c p i g o d T s w h =
       by-with (tab a) _ h (λ A t ha h. by-with (tab b) _ h (λ B u hb h. by-lim B _ h (λ q r hl h.
       less w h (h-assoc c (p a (List·Memᴰ·head refl) A t ha) (cast hl (p b (List·Memᴰ·tail (List·Memᴰ·head refl)) B u hb))))))

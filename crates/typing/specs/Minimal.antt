@@ -69,6 +69,23 @@ module _ (S : Src) (ok : Formed S) (tree : TreeOk S) where
   sr : (A : Ty) → Sub up A A
   sr A = sub-refl A
 
+  -- an operand whose type is below a limit or grant key's is such a key, of the same name
+  record AsLim (o : Typed) (q r : ℕ) (s : Effect) : Type 0 where
+    own : ℕ
+    got : o ≡ typed (lim own r) s
+    low : Below up own q
+
+  record AsGrant (o : Typed) (q r : ℕ) (s : Effect) : Type 0 where
+    own : ℕ
+    got : o ≡ typed (grant own r) s
+    low : Below up own q
+
+  as-lim : {o : Typed} {A : Ty} {q r : ℕ} {s : Effect} → o ≡ typed A s → Sub up A (lim q r) → AsLim o q r s
+  as-lim {s = s} h (s-lim {p = p} a e) = record { own = p; got = h ∙ ap (λ (n : ℕ). typed (lim p n) s) e; low = a }
+
+  as-grant : {o : Typed} {A : Ty} {q r : ℕ} {s : Effect} → o ≡ typed A s → Sub up A (grant q r) → AsGrant o q r s
+  as-grant {s = s} h (s-grant {p = p} a e) = record { own = p; got = h ∙ ap (λ (n : ℕ). typed (grant p n) s) e; low = a }
+
   -- one lemma a command: e is typed by what its operands have
   module _ {e : ℕ} (lt : e < length (S .cmds)) where
     fix : typeOf S e ≡ typeAt S (pre e) (nth (S .cmds) e)
@@ -131,21 +148,21 @@ module _ (S : Src) (ok : Formed S) (tree : TreeOk S) where
     test-least {B = B} {C = C} {T = T} c h (s-num x) u k v z k′ v′ z′ s s′ =
         record { ty = T; eff = _; got = rw (c, h, k, k′, →subTy (ok .proper) (sub-trans B v s), →subTy (ok .proper) (sub-trans C v′ s′)) at fix; sub = sr T; under = red (tch x (jn u (jn z z′))) }
 
-    grant-least : {a b q r : ℕ} {A B T : Ty} {s₀ s t₀ t : Effect} → nth (S .cmds) e ≡ c-grant a b → pre e a ≡ typed A s₀ → Sub up A (grant q r) → EffBelow up s₀ s
+    grant-least : {a b q r : ℕ} {B T : Ty} {s₀ s t₀ t : Effect} → nth (S .cmds) e ≡ c-grant a b → AsGrant (pre e a) q r s₀ → EffBelow up s₀ s
         → pre e b ≡ typed B t₀ → Sub up B T → EffBelow up t₀ t → Least S e T (touch q (join s (drop up r t)))
     unfolding typeAt with wantGrant
-    grant-least {r = r} c h (s-grant x) u k v z = record { ty = _; eff = _; got = rw (c, h, k) at fix; sub = v; under = red (tch x (jn u (drop-mono (ok .proper) r z))) }
+    grant-least {r = r} c h u k v z = record { ty = _; eff = _; got = rw (c, h .got, k) at fix; sub = v; under = red (tch (h .low) (jn u (drop-mono (ok .proper) r z))) }
 
-    newkey-least : {x r a b q u : ℕ} {A B₀ B T : Ty} {s₀ s t₀ t : Effect} → nth (S .cmds) e ≡ c-newkey x r a b T → pre e a ≡ typed A s₀ → Sub up A (lim q u) → EffBelow up s₀ s
+    newkey-least : {x r a b q u : ℕ} {B₀ B T : Ty} {s₀ s t₀ t : Effect} → nth (S .cmds) e ≡ c-newkey x r a b T → AsLim (pre e a) q u s₀ → EffBelow up s₀ s
         → getElem? up r ≡ some u → pre e b ≡ typed B₀ t₀ → Sub up B₀ B → EffBelow up t₀ t → Sub up B T → Least S e T (touch q (join s (raise r u t)))
     unfolding typeAt with wantLim require isUpper
-    newkey-least {r = r} {u = u} {B = B} {T = T} c h (s-lim p) v g k y z s =
-        record { ty = T; eff = _; got = rw (c, h, k, g, eq-eqb u u refl, →subTy (ok .proper) (sub-trans B y s)) at fix; sub = sr T; under = red (tch p (jn v (raise-mono (ok .proper) r g z))) }
+    newkey-least {r = r} {u = u} {B = B} {T = T} c h v g k y z s =
+        record { ty = T; eff = _; got = rw (c, h .got, k, g, eq-eqb u u refl, →subTy (ok .proper) (sub-trans B y s)) at fix; sub = sr T; under = red (tch (h .low) (jn v (raise-mono (ok .proper) r g z))) }
 
-    assoc-least : {a b q r : ℕ} {A₀ A B : Ty} {s₀ s t₀ t : Effect} → nth (S .cmds) e ≡ c-assoc a b → pre e a ≡ typed A₀ s₀ → Sub up A₀ A → EffBelow up s₀ s
-        → pre e b ≡ typed B t₀ → Sub up B (lim q r) → EffBelow up t₀ t → Least S e (rekey r A) (touch (keyOf A) (touch q (join s t)))
+    assoc-least : {a b q r : ℕ} {A₀ A : Ty} {s₀ s t₀ t : Effect} → nth (S .cmds) e ≡ c-assoc a b → pre e a ≡ typed A₀ s₀ → Sub up A₀ A → EffBelow up s₀ s
+        → AsLim (pre e b) q r t₀ → EffBelow up t₀ t → Least S e (rekey r A) (touch (keyOf A) (touch q (join s t)))
     unfolding typeAt with wantLim
-    assoc-least {r = r} c h x u k (s-lim y) z = record { ty = _; eff = _; got = rw (c, h, k) at fix; sub = sub-rekey r x; under = red (tch (sub-key x) (tch y (jn u z))) }
+    assoc-least {r = r} c h x u k z = record { ty = _; eff = _; got = rw (c, h, k .got) at fix; sub = sub-rekey r x; under = red (tch (sub-key x) (tch (k .low) (jn u z))) }
 
   -- the keys of a limit: the same names, the effect below
   record LeastKeys (e : ℕ) (ks rs : List ℕ) (s : Effect) : Type 0 where
@@ -157,9 +174,9 @@ module _ (S : Src) (ok : Formed S) (tree : TreeOk S) where
   unfolding keysAt
   no-keys e = record { eff = pure; got = λ f. refl; under = eff-refl }
 
-  key-least : {e a q r : ℕ} {A : Ty} {s₀ s t : Effect} {ks rs : List ℕ} → pre e a ≡ typed A s₀ → Sub up A (lim q r) → EffBelow up s₀ s → LeastKeys e ks rs t → LeastKeys e (a ∷ ks) (r ∷ rs) (touch q (join s t))
+  key-least : {e a q r : ℕ} {s₀ s t : Effect} {ks rs : List ℕ} → AsLim (pre e a) q r s₀ → EffBelow up s₀ s → LeastKeys e ks rs t → LeastKeys e (a ∷ ks) (r ∷ rs) (touch q (join s t))
   unfolding keysAt with wantLim
-  key-least {r = r} {s₀ = s₀} h (s-lim {p = p} d) u k = record { eff = touch p (join s₀ (k .eff)); got = λ f. rw h (k .got (λ rs t. f (r ∷ rs) (touch p (join s₀ t)))); under = tch d (jn u (k .under)) }
+  key-least {r = r} {s₀ = s₀} h u k = record { eff = touch (h .own) (join s₀ (k .eff)); got = λ f. rw (h .got) (k .got (λ rs t. f (r ∷ rs) (touch (h .own) (join s₀ t)))); under = tch (h .low) (jn u (k .under)) }
 
   lim-least : {e b : ℕ} {ks rs : List ℕ} {B T : Ty} {s t₀ t : Effect} → e < length (S .cmds) → nth (S .cmds) e ≡ c-lim ks b → LeastKeys e ks rs s → pre e b ≡ typed B t₀ → Sub up B T → EffBelow up t₀ t → EffBelow up t (ofNames rs) → Least S e T (join s t)
   unfolding typeAt with require
@@ -191,7 +208,7 @@ module _ (S : Src) (ok : Formed S) (tree : TreeOk S) where
 
   least-keys : {Γ : List Entry} {e : ℕ} {k : Cmd Ty} {ks rs : List ℕ} {s : Effect} → e < length (S .cmds) → nth (S .cmds) e ≡ k → IH e → HasKeys S Γ ks rs s → Agree Γ → ((a : ℕ) → List·Memᴰ a ks → List·Memᴰ a (children k)) → LeastKeys e ks rs s
   least-keys {e = e} l c ih k-nil g i = no-keys e
-  least-keys l c ih (k-cons x ks) g i = let z = ih _ (below _ c (i _ hd)) _ _ _ x g in key-least (saw _ l c (i _ hd) (z .got)) (z .sub) (z .under) (least-keys l c ih ks g (λ a m. i a (List·Memᴰ·tail m)))
+  least-keys l c ih (k-cons x ks) g i = let z = ih _ (below _ c (i _ hd)) _ _ _ x g in key-least (as-lim (saw _ l c (i _ hd) (z .got)) (z .sub)) (z .under) (least-keys l c ih ks g (λ a m. i a (List·Memᴰ·tail m)))
 
   at : {Γ : List Entry} {e : ℕ} {T : Ty} {t : Effect} → e < length (S .cmds) → IH e → Has S Γ e T t → Agree Γ → Least S e T t
   unfolding children plain inner pick
@@ -225,13 +242,13 @@ module _ (S : Src) (ok : Formed S) (tree : TreeOk S) where
       lim-least l c (least-keys l c ih x g (λ a m. in-keys b m)) (saw _ l c (in-body ks) (z .got)) (z .sub) (z .under) w
   at l ih (h-grant c x y) g =
       let z = ih _ (below _ c hd) _ _ _ x g in let w = ih _ (below _ c (List·Memᴰ·tail hd)) _ _ _ y g in
-      grant-least l c (saw _ l c hd (z .got)) (z .sub) (z .under) (saw _ l c (List·Memᴰ·tail hd) (w .got)) (w .sub) (w .under)
+      grant-least l c (as-grant (saw _ l c hd (z .got)) (z .sub)) (z .under) (saw _ l c (List·Memᴰ·tail hd) (w .got)) (w .sub) (w .under)
   at {e = e} l ih (h-newkey c o x p v fr y s) g =
       let z = ih _ (below _ c hd) _ _ _ x g in let w = ih _ (below _ c (List·Memᴰ·tail hd)) _ _ _ y (agree-var (key-type S ok tree e c) (agree-name g)) in
-      newkey-least l c (saw _ l c hd (z .got)) (z .sub) (z .under) p (saw _ l c (List·Memᴰ·tail hd) (w .got)) (w .sub) (w .under) s
+      newkey-least l c (as-lim (saw _ l c hd (z .got)) (z .sub)) (z .under) p (saw _ l c (List·Memᴰ·tail hd) (w .got)) (w .sub) (w .under) s
   at l ih (h-assoc c x y) g =
       let z = ih _ (below _ c hd) _ _ _ x g in let w = ih _ (below _ c (List·Memᴰ·tail hd)) _ _ _ y g in
-      assoc-least l c (saw _ l c hd (z .got)) (z .sub) (z .under) (saw _ l c (List·Memᴰ·tail hd) (w .got)) (w .sub) (w .under)
+      assoc-least l c (saw _ l c hd (z .got)) (z .sub) (z .under) (as-lim (saw _ l c (List·Memᴰ·tail hd) (w .got)) (w .sub)) (w .under)
   at l ih (h-sub {A = A} d s o u v) g = let z = at l ih d g in record { ty = z .ty; eff = z .eff; got = z .got; sub = sub-trans A (z .sub) s; under = tr (z .under) u }
 
   upto : (f e : ℕ) → e < f → e < length (S .cmds) → (Γ : List Entry) (T : Ty) (t : Effect) → Has S Γ e T t → Agree Γ → Least S e T t

@@ -4,12 +4,12 @@
 use mathlib.Core.Path.{_≡_}
 use Prim.Native.Nat.{ℕ, _<_}
 use mathlib.Core.Bool.{Bool, true, false}
-use mathlib.Core.List.{List, [], _∷_, List·Memᴰ}
+use mathlib.Core.List.{List, [], _∷_}
 use mathlib.Core.Option.{some}
 use mathlib.Core.Logic.{_≢_}
 use lib.ListN.{getElem?}
 use Rattle.order.specs.Effects.{Effect, pure, ofNames, touch, join, drop, raise, EffBelow}
-use Rattle.syntax.specs.Types.{Ty, num, pair, cell, fn, lim, grant, keyOf, rekey, namesIn}
+use Rattle.syntax.specs.Types.{Ty, num, pair, cell, fn, lim, grant, keyOf, rekey}
 use Rattle.syntax.specs.Commands.{Cmd, c-num, c-top, c-var, c-pair, c-part, c-fn, c-app, c-new, c-asg, c-read, c-sum, c-test, c-lim, c-grant, c-newkey, c-assoc}
 use Rattle.syntax.specs.Operands.{nth}
 use Rattle.syntax.specs.Job.{Src, upOf}
@@ -23,19 +23,15 @@ pub data Lookup : List Entry → ℕ → Ty → Type 0 where
   l-var : {x y : ℕ} {T U : Ty} {Γ : List Entry} → x ≢ y → Lookup Γ x T → Lookup (e-var y U ∷ Γ) x T
   l-name : {x r : ℕ} {T : Ty} {Γ : List Entry} → Lookup Γ x T → Lookup (e-name r ∷ Γ) x T
 
--- r is not written in the type
-pub record Free (r : ℕ) (T : Ty) : Type 0 where
-  pub none : (n : ℕ) → List·Memᴰ n (namesIn T) → n ≢ r
-
 -- the name is not in the context
 pub data Absent (a : ℕ) : List Entry → Type 0 where
   a-nil : Absent a []
   a-var : {x : ℕ} {T : Ty} {Γ : List Entry} → Absent a Γ → Absent a (e-var x T ∷ Γ)
   a-name : {r : ℕ} {Γ : List Entry} → a ≢ r → Absent a Γ → Absent a (e-name r ∷ Γ)
 
--- r may be put into the context: it is neither 0 nor 1, not its own upper name, and neither the context (which has the host's names) nor a type in it has it
+-- r may be put into the context: it is neither 0 nor 1, not its own upper name, and not in the context (which has the host's names), whose types are in scope
 pub record Fresh (up : List ℕ) (Γ : List Entry) (r : ℕ) : Type 0 where
-  pub free : (x : ℕ) (T : Ty) → Lookup Γ x T → Free r T
+  pub types : (x : ℕ) (T : Ty) → Lookup Γ x T → ScopedType Γ T
   pub local : 1 < r
   pub proper : getElem? up r ≡ some r → ⊥
   pub absent : Absent r Γ

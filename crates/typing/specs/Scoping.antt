@@ -1,4 +1,4 @@
--- The types and effects that are worked out have names in scope alone, and their sets are reduced. This stands before both directions of `Exactly`, which may use it.
+-- The types and effects that are worked out have names in scope alone, and their sets are reduced. So are the types of a context's variables, and a new name is fresh. This stands before both directions of `Exactly`, which may use it.
 use mathlib.Core.Path.{_≡_, refl, sym, _∙_, subst}
 use Prim.Native.Nat.{ℕ, zero, suc, _<_}
 use native.Mathlib.Omega.{arith}
@@ -21,9 +21,10 @@ use Rattle.syntax.specs.WellScoped.{ScopedName, n-low, n-bound, ScopedType, w-n
 use Rattle.syntax.specs.TreeFacts.{Ctx, x-root, x-plain, x-inner, TreeOk}
 use Rattle.syntax.specs.Scope.{VarIn, v-here, v-var, varin-cases, varin-mem, name-right, host-mem, host-var, open-cases}
 use Rattle.syntax.specs.ScopeLaws.{zero-scoped, one-scoped, names-type, wider-type, wider-effect, key-scoped, rekey-scoped, pure-scoped, join-scoped, touch-scoped, drop-scoped, reduce-scoped, raise-scoped}
-use Rattle.syntax.specs.Context.{plain-lt, inner-lt, ctx-le, root-lt, ctx-uses}
+use Rattle.syntax.specs.Context.{plain-lt, inner-lt, ctx-le, root-lt, ctx-uses, ctx-names, bound-apart, bound-above}
 use Rattle.typing.specs.Least.{Typed, typed, pick, varType, keysAt, typeAt, get, typesTo, typeOf}
-use Rattle.typing.specs.Scoped.{lookup-var, ctx-type, ctx-var}
+use Rattle.typing.specs.Scoped.{lookup-var, absent-of, ctx-type, ctx-var}
+use Rattle.typing.specs.Rules.{Fresh}
 use Rattle.typing.specs.Filled.{seen, typeOf-is, typed-ty, typed-eff, of-var, by-with, by-require, by-num, by-pair, by-cell, by-fn, by-lim, by-grant}
 
 -- a type in scope whose sets are reduced
@@ -151,6 +152,26 @@ module _ (S : Src) (ok : Formed S) (tree : TreeOk S) where
       at : VarIn x T (binds (nth (S .cmds) p)) ⊎ VarIn x T Γ → (VarIn x T Γ → GoodTy S Γ T) → GoodTy S (binds (nth (S .cmds) p) ++ Γ) T
       at (inl w) f = bind-good Γ (nth (S .cmds) p) (operand-good d) w
       at (inr w) f = let z = f w in record { scoped = wider-type (λ n m. name-right (binds (nth (S .cmds) p)) Γ m) (z .scoped); reduced = z .reduced }
+
+  -- what the rule for a new key needs: the new name is fresh
+  pub newkey-fresh : {e x r a b : ℕ} {T : Ty} {Γ : List Entry} → Ctx S e Γ → nth (S .cmds) e ≡ c-newkey x r a b T → Fresh (upOf S) Γ r
+  unfolding binds namesOf
+  newkey-fresh {e} {r = r} {Γ = Γ} d c = record {
+    types = λ y U l. var-good d (lookup-var l) .scoped;
+    local = above;
+    proper = λ z. itself (ok .proper .down r r z);
+    absent = absent-of r Γ (λ n m. bound-apart S ok tree own (ctx-names S ok d m));
+  }
+    where
+      own : List·Memᴰ r (namesOf (binds (nth (S .cmds) e)))
+      own = rw c (List·Memᴰ·head refl)
+
+      above : 1 < r
+      above = bound-above S ok tree e own
+
+      itself : ((r < r) × (0 < r)) ⊎ ((r ≡ r) × (r < 2)) → ⊥
+      itself (inl z) = omega arith
+      itself (inr z) = omega (arith, above)
 
   -- what is known of the operands
   abbrev OperandIH : (ℕ → Typed) → List Entry → List ℕ → Type 0
