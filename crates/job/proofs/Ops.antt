@@ -10,7 +10,7 @@ use lib.Seq.{drop-drop}
 use lib.Dec.{eqb, ltb, leb}
 use borrow.Author.Tests.{eqb-true, le-leb, leb-true, leb-false, lt-leb}
 use Rattle.order.specs.Bools.{_and_, _or_}
-use Rattle.syntax.specs.Commands.{Op, o-host, o-local, o-number, o-pair, o-cell, o-function, o-limit, o-grant, o-value, o-rights, o-end, Coded, commands, findOp, opOf, total, width, sectionOf, little, fields}
+use Rattle.syntax.specs.Commands.{Op, o-host, o-local, o-number, o-pair, o-cell, o-function, o-limit, o-grant, o-value, o-rights, o-end, form, Coded, commands, findOp, opOf, total, width, sectionOf, little, fields}
 use Rattle.syntax.specs.Commands.{x-number, x-top, x-variable, x-pair, x-part, x-function, x-apply, x-cell, x-assign, x-read, x-sum, x-test, x-limit, x-grant, x-newkey, x-associate}
 use Rattle.syntax.specs.Job.{Job}
 use Rattle.syntax.specs.Reading.{State, misplaced, full}
@@ -18,33 +18,8 @@ use Rattle.syntax.specs.ReadPlaces.{width-most, widest-few}
 use Rattle.job.specs.Bytes.{fieldAt, widthOn, widthByte, sectionByte, misplacedBy, fullBy}
 
 unfoldable pub byteOf : Op → ℕ
-byteOf o-host = 0x01
-byteOf o-local = 0x02
-byteOf o-number = 0x10
-byteOf o-pair = 0x11
-byteOf o-cell = 0x12
-byteOf o-function = 0x13
-byteOf o-limit = 0x14
-byteOf o-grant = 0x15
-byteOf o-value = 0x20
-byteOf o-rights = 0x21
-byteOf x-number = 0x30
-byteOf x-top = 0x31
-byteOf x-variable = 0x32
-byteOf x-pair = 0x33
-byteOf x-part = 0x34
-byteOf x-function = 0x35
-byteOf x-apply = 0x36
-byteOf x-cell = 0x37
-byteOf x-assign = 0x38
-byteOf x-read = 0x39
-byteOf x-sum = 0x3A
-byteOf x-test = 0x3B
-byteOf x-limit = 0x3C
-byteOf x-grant = 0x3D
-byteOf x-newkey = 0x3E
-byteOf x-associate = 0x3F
-byteOf o-end = 0xFF
+unfolding form
+byteOf o = form o .byte
 
 rightly : List Coded → Bool
 rightly [] = true

@@ -12,17 +12,18 @@ use lib.Dec.{eqb}
 use borrow.Author.Tests.{ne-eqb, eqb-true, eqb-false}
 use Rattle.order.specs.OrderLaws.{length-snoc}
 use Rattle.syntax.specs.Types.{TypeEntry, e-pair, e-lim, e-grant}
-use Rattle.syntax.specs.Commands.{Cmd, c-num, c-top, c-var, c-pair, c-part, c-fn, c-app, c-new, c-asg, c-read, c-sum, c-test, c-lim, c-grant, c-newkey, c-assoc}
+use Rattle.syntax.specs.Commands.{Cmd}
+use Rattle.syntax.specs.RowLaws as rows
 use Rattle.syntax.specs.Operands.{nth}
 use Rattle.syntax.specs.Words.{filled, typeBits, typeWord, setWord, typeWords, setWords, codeIn}
 use Rattle.syntax.specs.Job.{HostValue}
 use Rattle.syntax.specs.ReadFormed.{map-snoc}
 use Rattle.syntax.specs.WordLaws.{filled-set, filled-zero}
-use Rattle.typing.specs.Layout.{newKeys, keyEntries, Typing, typing, hostVars, boundVars, entryOf}
+use Rattle.typing.specs.Layout.{newKeys, keyEntries, Typing, typing, hostVars, keysEnd, typingsOf, boundVars, entryOf}
 use Rattle.typing.specs.NumberedTables.{withKey, key-split}
 use Rattle.numbering.specs.declared.Binder.{Binder}
 use Rattle.numbering.specs.declared.Binder.the-variants.{Nothing, Function, NewKey}
-use Rattle.numbering.specs.Binders.{binderOf, storeKey, Bound, bound, boundOne, boundFrom, hostsFrom}
+use Rattle.numbering.specs.Binders.{binderBy, binderOf, storeKey, Bound, bound, boundOne, boundFrom, hostsFrom}
 
 -- By commands
 
@@ -57,41 +58,21 @@ stepOf (NewKey v r) n = 3 + n
 
 keys-by : (k : Cmd ℕ) (l : List (Cmd ℕ)) → newKeys (k ∷ l) ≡ keyOf (binderOf k) (newKeys l)
 unfolding newKeys keyOf binderOf
-keys-by (c-num n) l = refl
-keys-by c-top l = refl
-keys-by (c-var v) l = refl
-keys-by (c-pair a b) l = refl
-keys-by (c-part a i) l = refl
-keys-by (c-fn v t b) l = refl
-keys-by (c-app a b) l = refl
-keys-by (c-new t a) l = refl
-keys-by (c-asg a b) l = refl
-keys-by (c-read a) l = refl
-keys-by (c-sum i a b) l = refl
-keys-by (c-test a b c t) l = refl
-keys-by (c-lim ks b) l = refl
-keys-by (c-grant a b) l = refl
-keys-by (c-newkey v r a b t) l = refl
-keys-by (c-assoc a b) l = refl
+keys-by k l = at (rows.bound k)
+  where
+    at : {ps ts qs vs rs : List ℕ} → rows.Bound ps ts qs vs rs → rs ++ newKeys l ≡ keyOf (binderBy ps ts qs rs) (newKeys l)
+    at rows.bound-none = refl
+    at rows.bound-type = refl
+    at rows.bound-keys = refl
 
 vars-by : (n : ℕ) (k : Cmd ℕ) (l : List (Cmd ℕ)) → boundVars n (k ∷ l) ≡ varOf (binderOf k) n (boundVars (stepOf (binderOf k) n) l)
 unfolding boundVars varOf stepOf binderOf
-vars-by n (c-num x) l = refl
-vars-by n c-top l = refl
-vars-by n (c-var v) l = refl
-vars-by n (c-pair a b) l = refl
-vars-by n (c-part a i) l = refl
-vars-by n (c-fn v t b) l = refl
-vars-by n (c-app a b) l = refl
-vars-by n (c-new t a) l = refl
-vars-by n (c-asg a b) l = refl
-vars-by n (c-read a) l = refl
-vars-by n (c-sum i a b) l = refl
-vars-by n (c-test a b c t) l = refl
-vars-by n (c-lim ks b) l = refl
-vars-by n (c-grant a b) l = refl
-vars-by n (c-newkey v r a b t) l = refl
-vars-by n (c-assoc a b) l = refl
+vars-by n k l = at (rows.bound k)
+  where
+    at : {ps ts qs vs rs : List ℕ} → rows.Bound ps ts qs vs rs → typingsOf n ps ts qs ++ boundVars (keysEnd n rs) l ≡ varOf (binderBy ps ts qs rs) n (boundVars (stepOf (binderBy ps ts qs rs) n) l)
+    at rows.bound-none = refl
+    at rows.bound-type = refl
+    at rows.bound-keys = refl
 
 -- The entries of each 3E
 

@@ -1,30 +1,25 @@
 -- Binders by the tables: the entries of each 3E and the entries of the variables, expression after expression.
 use Prim.Native.Nat.{ℕ, zero, suc, _+_, _/_, _%_}
-use mathlib.Core.List.{List}
+use mathlib.Core.List.{List, [], _∷_}
 use lib.ListN.{getD, set}
-use Rattle.syntax.specs.Commands.{Cmd, c-num, c-top, c-var, c-pair, c-part, c-fn, c-app, c-new, c-asg, c-read, c-sum, c-test, c-lim, c-grant, c-newkey, c-assoc}
+use Rattle.syntax.specs.Commands.{Cmd, r-parameter, r-keypair}
+use Rattle.syntax.specs.Operands.{ofRoles, typesOf, bindsName}
 use Rattle.syntax.specs.Words.{typeBits, codeIn}
 use Rattle.numbering.specs.declared.Binder.{Binder}
 use Rattle.numbering.specs.declared.Binder.the-variants.{Nothing, Function, NewKey}
 
+-- by the variables of a type, the types, the variables of keys and the names that a command binds
+unfoldable pub binderBy : List ℕ → List ℕ → List ℕ → List ℕ → Binder
+binderBy [] ts [] rs = Nothing
+binderBy [] ts (v ∷ qs) [] = Nothing
+binderBy [] ts (v ∷ qs) (r ∷ rs) = NewKey v r
+binderBy (v ∷ ps) [] qs rs = Nothing
+binderBy (v ∷ ps) (t ∷ ts) qs rs = Function v t
+
 -- what a command binds
 unfoldable pub binderOf : Cmd ℕ → Binder
-binderOf (c-num n) = Nothing
-binderOf c-top = Nothing
-binderOf (c-var v) = Nothing
-binderOf (c-pair a b) = Nothing
-binderOf (c-part a i) = Nothing
-binderOf (c-fn v t b) = Function v t
-binderOf (c-app a b) = Nothing
-binderOf (c-new t a) = Nothing
-binderOf (c-asg a b) = Nothing
-binderOf (c-read a) = Nothing
-binderOf (c-sum i a b) = Nothing
-binderOf (c-test a b c t) = Nothing
-binderOf (c-lim ks b) = Nothing
-binderOf (c-grant a b) = Nothing
-binderOf (c-newkey v r a b t) = NewKey v r
-binderOf (c-assoc a b) = Nothing
+unfolding binderBy ofRoles typesOf bindsName
+binderOf k = binderBy (ofRoles (r-parameter ∷ []) k) (typesOf k) (ofRoles (r-keypair ∷ []) k) (bindsName k)
 
 -- the type table with the entries of a 3E from n on
 unfoldable pub storeKey : List ℕ → ℕ → ℕ → List ℕ

@@ -6,7 +6,7 @@ use mathlib.Core.List.{List, [], _∷_, _++_, map, List·Memᴰ, List·Memᴰ·h
 use mathlib.Core.Option.{none}
 use lib.ListN.{length, getD, getElem?, set, replicate, drop, length-append, length-map, length-replicate}
 use Rattle.syntax.specs.Types.{Ty, TypeEntry}
-use Rattle.syntax.specs.Commands.{Cmd, c-num, c-top, c-var, c-pair, c-part, c-fn, c-app, c-new, c-asg, c-read, c-sum, c-test, c-lim, c-grant, c-newkey, c-assoc, mapCmd}
+use Rattle.syntax.specs.Commands.{Cmd, c-fn, c-newkey, mapCmd}
 use Rattle.syntax.specs.Operands.{nth, bindsVar}
 use Rattle.syntax.specs.Job.{Job, sourceOf}
 use Rattle.syntax.specs.ReadLaws.{JobOk}
@@ -16,6 +16,7 @@ use Rattle.syntax.specs.Scope.{VarIn, v-here}
 use Rattle.syntax.specs.Context.{var-twice}
 use Rattle.syntax.specs.TreeExactly.{tree-ok}
 use Rattle.syntax.specs.Types.{tree}
+use Rattle.syntax.specs.RowLaws as rows
 use Rattle.syntax.specs.Words.{filled, nameWords, typeWord, setWord, typeWords, setWords, valueWords, headWords, slotWords, codeIn}
 use Rattle.syntax.specs.WordLaws.{JobFits, zeros-at, filled-at, filled-set, values-back, code-back}
 use Rattle.typing.specs.Layout.{newKeys, keyEntries, boundVars, hostVars, varEntry}
@@ -28,7 +29,7 @@ use Rattle.names.specs.Ancestors.{ancestorsBy}
 use Rattle.numbering.specs.declared.Binder.{Binder}
 use Rattle.numbering.specs.declared.Binder.the-variants.{Nothing, Function, NewKey}
 use Rattle.numbering.specs.declared.Passed.the-variants as passed
-use Rattle.numbering.specs.Binders.{binderOf, Bound, bound, hostsFrom}
+use Rattle.numbering.specs.Binders.{binderBy, binderOf, Bound, bound, hostsFrom}
 use Rattle.numbering.specs.Pass.{Work, work, settled, Out, out, turn, resultBy, typedFrom, bindersBy, afterBinders, numberedBy}
 use Rattle.numbering.specs.OpsLaws.{jobOps, agree}
 use Rattle.numbering.specs.BinderLaws.{boundAll, bound-all, Keys, keys-all, sets-kept, entryOr, Binds, by-fn, by-key, Apart, vars-all, hosts-length, hosts-all, both}
@@ -46,23 +47,13 @@ binds-mem by-fn = List·Memᴰ·head refl
 binds-mem by-key = List·Memᴰ·head refl
 
 vars-are : (k : Cmd ℕ) → varsBy (binderOf k) ≡ bindsVar k
-unfolding varsBy binderOf bindsVar
-vars-are (c-num n) = refl
-vars-are c-top = refl
-vars-are (c-var v) = refl
-vars-are (c-pair a b) = refl
-vars-are (c-part a i) = refl
-vars-are (c-fn v t b) = refl
-vars-are (c-app a b) = refl
-vars-are (c-new t a) = refl
-vars-are (c-asg a b) = refl
-vars-are (c-read a) = refl
-vars-are (c-sum i a b) = refl
-vars-are (c-test a b c t) = refl
-vars-are (c-lim ks b) = refl
-vars-are (c-grant a b) = refl
-vars-are (c-newkey v r a b t) = refl
-vars-are (c-assoc a b) = refl
+unfolding varsBy binderOf
+vars-are k = at (rows.bound k)
+  where
+    at : {ps ts qs vs rs : List ℕ} → rows.Bound ps ts qs vs rs → varsBy (binderBy ps ts qs rs) ≡ vs
+    at rows.bound-none = refl
+    at rows.bound-type = refl
+    at rows.bound-keys = refl
 
 first-in : {x v : ℕ} (T : Ty) (Γ : List Entry) → List·Memᴰ x (v ∷ []) → VarIn x T (e-var v T ∷ Γ)
 first-in {x} T Γ (List·Memᴰ·head e) = subst (λ (y : ℕ). VarIn x T (e-var y T ∷ Γ)) e v-here
@@ -70,22 +61,8 @@ first-in T Γ (List·Memᴰ·tail m) = absurd (List·Memᴰ·not-nil m)
 
 var-in : (k : Cmd Ty) {x : ℕ} → List·Memᴰ x (bindsVar k) → (T : Ty) × VarIn x T (binds k)
 unfolding bindsVar binds
-var-in (c-num n) m = absurd (List·Memᴰ·not-nil m)
-var-in c-top m = absurd (List·Memᴰ·not-nil m)
-var-in (c-var v) m = absurd (List·Memᴰ·not-nil m)
-var-in (c-pair a b) m = absurd (List·Memᴰ·not-nil m)
-var-in (c-part a i) m = absurd (List·Memᴰ·not-nil m)
 var-in (c-fn v t b) m = (_, first-in _ _ m)
-var-in (c-app a b) m = absurd (List·Memᴰ·not-nil m)
-var-in (c-new t a) m = absurd (List·Memᴰ·not-nil m)
-var-in (c-asg a b) m = absurd (List·Memᴰ·not-nil m)
-var-in (c-read a) m = absurd (List·Memᴰ·not-nil m)
-var-in (c-sum i a b) m = absurd (List·Memᴰ·not-nil m)
-var-in (c-test a b c t) m = absurd (List·Memᴰ·not-nil m)
-var-in (c-lim ks b) m = absurd (List·Memᴰ·not-nil m)
-var-in (c-grant a b) m = absurd (List·Memᴰ·not-nil m)
 var-in (c-newkey v r a b t) m = (_, first-in _ _ m)
-var-in (c-assoc a b) m = absurd (List·Memᴰ·not-nil m)
 
 module _ {J : Job} (j : JobOk J) (scoped : treeRefusal (sourceOf J) ≡ none) where
   bound-in : (i x : ℕ) → Binds x (binderOf (nth (J .cmds) i)) → (T : Ty) × VarIn x T (binds (nth (sourceOf J .cmds) i))

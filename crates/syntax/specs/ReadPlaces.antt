@@ -9,7 +9,7 @@ use lib.ListN.{length, length-drop, drop}
 use lib.Dec.{eqb, ltb}
 use borrow.Author.Tests.{ltb-false, eqb-true}
 use Rattle.order.specs.OrderLaws.{length-snoc}
-use Rattle.syntax.specs.Commands.{Op, o-host, o-local, o-number, o-pair, o-cell, o-function, o-limit, o-grant, o-value, o-rights, o-end, opOf, operands, total, width, sectionOf, fields}
+use Rattle.syntax.specs.Commands.{Op, form, o-host, o-local, o-number, o-pair, o-cell, o-function, o-limit, o-grant, o-value, o-rights, o-end, opOf, operands, total, width, sectionOf, fields}
 use Rattle.syntax.specs.Commands.{x-number, x-top, x-variable, x-pair, x-part, x-function, x-apply, x-cell, x-assign, x-read, x-sum, x-test, x-limit, x-grant, x-newkey, x-associate}
 use Rattle.syntax.specs.Job.{Job}
 use Rattle.syntax.specs.Reading.{Refusal, State, nameOk, typeOk, hostValueOk, rightsOk, cmdOk, Written, written, given, enter, misplaced, full}
@@ -34,35 +34,46 @@ widest-few (suc (suc (suc zero))) = omega arith
 widest-few (suc (suc (suc (suc zero)))) = omega arith
 widest-few (suc (suc (suc (suc (suc n))))) = omega arith
 
-pub width-most : (op : Op) → width op ≤ widest (sectionOf op)
+-- what holds of every form
+record InBounds (op : Op) : Type 0 where
+  narrow : width op ≤ widest (sectionOf op)
+  low : form op .byte < 256
+
+in-bounds : (op : Op) → InBounds op
 unfolding width total operands sectionOf widest
-width-most o-host = omega arith
-width-most o-local = omega arith
-width-most o-number = omega arith
-width-most o-pair = omega arith
-width-most o-cell = omega arith
-width-most o-function = omega arith
-width-most o-limit = omega arith
-width-most o-grant = omega arith
-width-most o-value = omega arith
-width-most o-rights = omega arith
-width-most x-number = omega arith
-width-most x-top = omega arith
-width-most x-variable = omega arith
-width-most x-pair = omega arith
-width-most x-part = omega arith
-width-most x-function = omega arith
-width-most x-apply = omega arith
-width-most x-cell = omega arith
-width-most x-assign = omega arith
-width-most x-read = omega arith
-width-most x-sum = omega arith
-width-most x-test = omega arith
-width-most x-limit = omega arith
-width-most x-grant = omega arith
-width-most x-newkey = omega arith
-width-most x-associate = omega arith
-width-most o-end = omega arith
+in-bounds o-host = record { narrow = omega arith; low = omega arith }
+in-bounds o-local = record { narrow = omega arith; low = omega arith }
+in-bounds o-number = record { narrow = omega arith; low = omega arith }
+in-bounds o-pair = record { narrow = omega arith; low = omega arith }
+in-bounds o-cell = record { narrow = omega arith; low = omega arith }
+in-bounds o-function = record { narrow = omega arith; low = omega arith }
+in-bounds o-limit = record { narrow = omega arith; low = omega arith }
+in-bounds o-grant = record { narrow = omega arith; low = omega arith }
+in-bounds o-value = record { narrow = omega arith; low = omega arith }
+in-bounds o-rights = record { narrow = omega arith; low = omega arith }
+in-bounds x-number = record { narrow = omega arith; low = omega arith }
+in-bounds x-top = record { narrow = omega arith; low = omega arith }
+in-bounds x-variable = record { narrow = omega arith; low = omega arith }
+in-bounds x-pair = record { narrow = omega arith; low = omega arith }
+in-bounds x-part = record { narrow = omega arith; low = omega arith }
+in-bounds x-function = record { narrow = omega arith; low = omega arith }
+in-bounds x-apply = record { narrow = omega arith; low = omega arith }
+in-bounds x-cell = record { narrow = omega arith; low = omega arith }
+in-bounds x-assign = record { narrow = omega arith; low = omega arith }
+in-bounds x-read = record { narrow = omega arith; low = omega arith }
+in-bounds x-sum = record { narrow = omega arith; low = omega arith }
+in-bounds x-test = record { narrow = omega arith; low = omega arith }
+in-bounds x-limit = record { narrow = omega arith; low = omega arith }
+in-bounds x-grant = record { narrow = omega arith; low = omega arith }
+in-bounds x-newkey = record { narrow = omega arith; low = omega arith }
+in-bounds x-associate = record { narrow = omega arith; low = omega arith }
+in-bounds o-end = record { narrow = omega arith; low = omega arith }
+
+pub width-most : (op : Op) → width op ≤ widest (sectionOf op)
+width-most op = in-bounds op .narrow
+
+pub byte-low : (op : Op) → form op .byte < 256
+byte-low op = in-bounds op .low
 
 -- the most bytes that write the entries of a job
 unfoldable pub weight : Job → ℕ

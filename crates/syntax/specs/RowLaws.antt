@@ -142,15 +142,15 @@ module _ {T : Type 0} where
       at (inl w) = w
       at (inr w) = absurd (List·Memᴰ·not-nil (subst (λ z. List·Memᴰ n z) (having-nothing (form (row k .op) .roles) (row k .given)) w))
 
--- What a command binds: nothing; a variable of its type operand; or a variable and a name, which has keys
+-- What a command binds: nothing; a variable of its type operand; or a variable and a name, which has keys. (Variables of a type, types, variables of keys, all variables, names.)
 
-pub data Bound {T : Type 0} : List ℕ → List T → List ℕ → List ℕ → Type 0 where
-  bound-none : {ts : List T} → Bound [] ts [] []
-  bound-type : {v : ℕ} {t : T} → Bound (v ∷ []) (t ∷ []) [] []
-  bound-keys : {v r : ℕ} {ts : List T} → Bound [] ts (v ∷ []) (r ∷ [])
+pub data Bound {T : Type 0} : List ℕ → List T → List ℕ → List ℕ → List ℕ → Type 0 where
+  bound-none : {ts : List T} → Bound [] ts [] [] []
+  bound-type : {v : ℕ} {t : T} → Bound (v ∷ []) (t ∷ []) [] (v ∷ []) []
+  bound-keys : {v r : ℕ} {ts : List T} → Bound [] ts (v ∷ []) (v ∷ []) (r ∷ [])
 
-pub bound : {T : Type 0} (k : Cmd T) → Bound (ofRoles (r-parameter ∷ []) k) (typesOf k) (ofRoles (r-keypair ∷ []) k) (bindsName k)
-unfolding ofRoles typesOf bindsName
+pub bound : {T : Type 0} (k : Cmd T) → Bound (ofRoles (r-parameter ∷ []) k) (typesOf k) (ofRoles (r-keypair ∷ []) k) (bindsVar k) (bindsName k)
+unfolding ofRoles typesOf bindsVar bindsName
 bound (c-num n) = bound-none
 bound c-top = bound-none
 bound (c-var v) = bound-none
@@ -169,7 +169,7 @@ bound (c-newkey v r a b t) = bound-keys
 bound (c-assoc a b) = bound-none
 
 -- one name at most
-pub bound-few : {T : Type 0} {ps qs rs : List ℕ} {ts : List T} → Bound ps ts qs rs → length rs ≤ 1
+pub bound-few : {T : Type 0} {ps qs vs rs : List ℕ} {ts : List T} → Bound ps ts qs vs rs → length rs ≤ 1
 bound-few bound-none = omega arith
 bound-few bound-type = omega arith
 bound-few bound-keys = omega arith

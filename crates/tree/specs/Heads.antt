@@ -10,9 +10,10 @@ use lib.Dec.{eqb, ltb}
 use borrow.Author.Tests.{lt-ltb, le-ltb, ltb-true, ltb-false, ne-eqb, eqb-true}
 use Rattle.order.specs.Sets.{bit}
 use Rattle.order.specs.SetLaws.{bit-pow, bit-zero, lt-bit, lt-pow}
-use Rattle.syntax.specs.Commands.{Cmd, c-num, c-top, c-var, c-pair, c-part, c-fn, c-app, c-new, c-asg, c-read, c-sum, c-test, c-lim, c-grant, c-newkey, c-assoc}
-use Rattle.syntax.specs.Operands.{plain, inner, children}
-use Rattle.syntax.specs.Words.{headWord, slots, filled}
+use Rattle.syntax.specs.Commands.{Cmd, c-num, c-top, c-var, c-pair, c-part, c-fn, c-app, c-new, c-asg, c-read, c-sum, c-test, c-lim, c-grant, c-newkey, c-assoc, r-count, form, row}
+use Rattle.syntax.specs.Operands.{ofRoles, plain, inner, children}
+use Rattle.syntax.specs.Words.{packed, headRoles, headWord, slots, filled}
+use Rattle.syntax.specs.ReadPlaces.{byte-low}
 use Rattle.syntax.specs.WordLaws.{slots-few}
 use Rattle.syntax.specs.Tree.{count}
 use Rattle.names.specs.Ancestors.{oneOf}
@@ -50,63 +51,24 @@ one-past b n h = at (ltb b 64) refl
 
 -- a command's byte, and the rest of its head
 unfoldable pub byteOf : Cmd ℕ → ℕ
-byteOf (c-num n) = 0x30
-byteOf c-top = 0x31
-byteOf (c-var v) = 0x32
-byteOf (c-pair a b) = 0x33
-byteOf (c-part a i) = 0x34
-byteOf (c-fn v t b) = 0x35
-byteOf (c-app a b) = 0x36
-byteOf (c-new t a) = 0x37
-byteOf (c-asg a b) = 0x38
-byteOf (c-read a) = 0x39
-byteOf (c-sum i a b) = 0x3A
-byteOf (c-test a b c t) = 0x3B
-byteOf (c-lim ks b) = 0x3C
-byteOf (c-grant a b) = 0x3D
-byteOf (c-newkey v r a b t) = 0x3E
-byteOf (c-assoc a b) = 0x3F
+unfolding form row
+byteOf k = form (row k .op) .byte
 
 pub byte-is : (k : Cmd ℕ) → headWord k % 256 ≡ byteOf k
 unfolding headWord byteOf
-byte-is (c-num n) = omega arith
-byte-is c-top = omega arith
-byte-is (c-var v) = omega arith
-byte-is (c-pair a b) = omega arith
-byte-is (c-part a i) = omega arith
-byte-is (c-fn v t b) = omega arith
-byte-is (c-app a b) = omega arith
-byte-is (c-new t a) = omega arith
-byte-is (c-asg a b) = omega arith
-byte-is (c-read a) = omega arith
-byte-is (c-sum i a b) = omega arith
-byte-is (c-test a b c t) = omega arith
-byte-is (c-lim ks b) = omega arith
-byte-is (c-grant a b) = omega arith
-byte-is (c-newkey v r a b t) = omega arith
-byte-is (c-assoc a b) = omega arith
+byte-is k = at (form (row k .op) .byte) (packed (ofRoles headRoles k)) (byte-low (row k .op))
+  where
+    at : (b x : ℕ) → b < 256 → (b + 256 * x) % 256 ≡ b
+    at b x h = omega arith
 
 -- place i is an expression, by the byte and the number of keys
 unfoldable pub opAt : ℕ → ℕ → ℕ → Bool
 opAt b q i = cond (eqb b 0x3C) (cond (ltb i q) true (eqb i 4)) (ltb i (arityOf b))
 
+-- how many keys a 3C has; 0 for the others
 unfoldable pub keysOf : Cmd ℕ → ℕ
-keysOf (c-num n) = 0
-keysOf c-top = 0
-keysOf (c-var v) = 0
-keysOf (c-pair a b) = 0
-keysOf (c-part a i) = 0
-keysOf (c-fn v t b) = 0
-keysOf (c-app a b) = 0
-keysOf (c-new t a) = 0
-keysOf (c-asg a b) = 0
-keysOf (c-read a) = 0
-keysOf (c-sum i a b) = 0
-keysOf (c-test a b c t) = 0
-keysOf (c-lim ks b) = length ks
-keysOf (c-grant a b) = 0
-keysOf (c-newkey v r a b t) = 0
-keysOf (c-assoc a b) = 0
+unfolding ofRoles
+keysOf k = getD (ofRoles (r-count ∷ []) k) 0 0
 
 keys-is : (k : Cmd ℕ) (i : ℕ) → opAt (byteOf k) (headWord k / 256) i ≡ opAt (byteOf k) (keysOf k) i
 unfolding opAt byteOf keysOf headWord

@@ -193,7 +193,7 @@ module _ (ts : List TypeEntry) {D N : ℕ} {E : List TypeEntry} (ok : TableOk D 
   bound-at (c ∷ l) n t k Γ L f A e =
       one (newKeys l) (boundBy (map (mapCmd (tree ts)) l)) (boundVars (keysEnd n (bindsName c)) l) (bound c) (t 0) k (λ h. bound-at l (keysEnd n (bindsName c)) (λ i. t (suc i)) h Γ L f) A (subst (λ Δ. typeIn ((Δ ++ boundBy (map (mapCmd (tree ts)) l)) ++ Γ) x ≡ some A) (binds-map (tree ts) c) e)
     where
-      one : (m : List ℕ) (Δ : List Entry) (M : List Typing) {ps us qs rs : List ℕ} → Bound ps us qs rs → ((u : ℕ) → List·Memᴰ u us → u < length ts) → KeysAt E n (rs ++ m)
+      one : (m : List ℕ) (Δ : List Entry) (M : List Typing) {ps us qs vs rs : List ℕ} → Bound ps us qs vs rs → ((u : ℕ) → List·Memᴰ u us → u < length ts) → KeysAt E n (rs ++ m)
           → (KeysAt E (keysEnd n rs) m → (A : Ty) → typeIn (Δ ++ Γ) x ≡ some A → TreeAt E A (entryOf (M ++ L) x))
           → (A : Ty) → typeIn ((entriesOf ps (map (tree ts) us) qs rs ++ Δ) ++ Γ) x ≡ some A → TreeAt E A (entryOf ((typingsOf n ps us qs ++ M) ++ L) x)
       one m Δ M bound-none t k f A e = f k A e
