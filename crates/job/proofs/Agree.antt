@@ -24,7 +24,7 @@ use Rattle.names.specs.Ancestors.{namesIn, declaredOf, ancestorsBy, setOkBy}
 use Rattle.names.specs.Laws.{set-ok-by, rights-ok-by}
 use Rattle.names.specs.Pass.{ancestors-by}
 use Rattle.job.specs.Bytes.{fieldAt, sectionByte, misplacedBy, fullBy}
-use Rattle.job.specs.Entries.{namedOf, nameEntry, valueEntry, rightsEntry, formEntry, entryOf, judgedBy, entryIn, judgedIn}
+use Rattle.job.specs.Entries.{namedOf, nameEntry, valueEntry, rightsEntry, formEntry, entryOf, inRoom, judgedBy, entryIn, judgedIn}
 use Rattle.job.specs.Answer.{shapeOf}
 use Rattle.job.specs.declared.Entry.{Entry}
 use Rattle.job.specs.declared.Entry.the-variants.{Refuse, Named, Rights, Last}
@@ -204,25 +204,22 @@ agrees J names types depths k cur b o s e =
     x = written o (fieldsFrom (operands o) (b ∷ s) 1)
 
     reader : judgedIn b (b ∷ s) cur (shapeOf J) names types depths
-        ≡ cond (misplaced st (sectionOf o)) (Refuse 3) (cond (ltb (length s) (width o)) (Refuse 4) (cond (full J (sectionOf o)) (Refuse 5) (judgedW x J)))
+        ≡ cond (misplaced st (sectionOf o)) (Refuse 3) (inRoom (ltb (length s) (width o)) (full J (sectionOf o)) (judgedW x J))
     reader =
         ap (λ (w : ℕ). cond (eqb w 255) (Refuse 2)
         (cond (misplacedBy cur (sectionByte b) (length (J .cmds))) (Refuse 3)
-        (cond (leb (length (b ∷ s)) w) (Refuse 4)
-        (cond (fullBy (sectionByte b) (length (J .names)) (length (J .types)) (length (J .values)) (length (J .cmds))) (Refuse 5) (entryIn b (b ∷ s) names types depths (shapeOf J)))))) (width-is b o e)
+        (inRoom (leb (length (b ∷ s)) w) (fullBy (sectionByte b) (length (J .names)) (length (J .types)) (length (J .values)) (length (J .cmds))) (entryIn b (b ∷ s) names types depths (shapeOf J))))) (width-is b o e)
         ∙ ap (λ (c : Bool). cond c (Refuse 2)
         (cond (misplacedBy cur (sectionByte b) (length (J .cmds))) (Refuse 3)
-        (cond (ltb (length s) (width o)) (Refuse 4)
-        (cond (fullBy (sectionByte b) (length (J .names)) (length (J .types)) (length (J .values)) (length (J .cmds))) (Refuse 5) (entryIn b (b ∷ s) names types depths (shapeOf J)))))) (ne-eqb (width o) 255 (λ z. omega (arith, width-narrow o)))
+        (inRoom (ltb (length s) (width o)) (fullBy (sectionByte b) (length (J .names)) (length (J .types)) (length (J .values)) (length (J .cmds))) (entryIn b (b ∷ s) names types depths (shapeOf J))))) (ne-eqb (width o) 255 (λ z. omega (arith, width-narrow o)))
         ∙ ap (λ (c : ℕ). (cond (misplacedBy cur (sectionByte c) (length (J .cmds))) (Refuse 3)
-        (cond (ltb (length s) (width o)) (Refuse 4)
-        (cond (fullBy (sectionByte c) (length (J .names)) (length (J .types)) (length (J .values)) (length (J .cmds))) (Refuse 5) (entryIn c (b ∷ s) names types depths (shapeOf J)))))) (op-byte b o e)
-        ∙ ap₂ (λ (c d : Bool). cond c (Refuse 3) (cond (ltb (length s) (width o)) (Refuse 4) (cond d (Refuse 5) (entryIn (byteOf o) (b ∷ s) names types depths (shapeOf J))))) (sym (misplaced-is st o)) (sym (full-is J o))
-        ∙ ap (λ (y : Entry). cond (misplaced st (sectionOf o)) (Refuse 3) (cond (ltb (length s) (width o)) (Refuse 4) (cond (full J (sectionOf o)) (Refuse 5) y))) (entry-law J names types depths k (b ∷ s) o)
+        (inRoom (ltb (length s) (width o)) (fullBy (sectionByte c) (length (J .names)) (length (J .types)) (length (J .values)) (length (J .cmds))) (entryIn c (b ∷ s) names types depths (shapeOf J))))) (op-byte b o e)
+        ∙ ap₂ (λ (c d : Bool). cond c (Refuse 3) (inRoom (ltb (length s) (width o)) d (entryIn (byteOf o) (b ∷ s) names types depths (shapeOf J)))) (sym (misplaced-is st o)) (sym (full-is J o))
+        ∙ ap (λ (y : Entry). cond (misplaced st (sectionOf o)) (Refuse 3) (inRoom (ltb (length s) (width o)) (full J (sectionOf o)) y)) (entry-law J names types depths k (b ∷ s) o)
 
     at : (p q : Bool) → ltb (length s) (width o) ≡ q → (r : Bool)
         → Agrees J (sectionOf o) (width o) (length s) (cond p (refuse 3) (cond q (refuse 4) (cond r (refuse 5) (settle (sectionOf o) (enter (written o (fields (operands o) s)) J)))))
-        (cond p (Refuse 3) (cond q (Refuse 4) (cond r (Refuse 5) (judgedW x J))))
+        (cond p (Refuse 3) (inRoom q r (judgedW x J)))
     at true q z r = ag-refuse 3
     at false true z r = ag-refuse 4
     at false false z true = ag-refuse 5

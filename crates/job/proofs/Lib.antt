@@ -10,3 +10,4 @@ pub mod Going
 pub mod Whole
 pub mod Arms
 pub mod Ancestors
+pub mod Turn

@@ -1,11 +1,12 @@
 -- What the reader takes from the bytes of a job: operands, widths, sections, the rest.
-use Prim.Native.Nat.{ℕ, zero, suc, _+_, _*_, _/_, _%_, _^_}
+use Prim.Native.Nat.{ℕ, zero, suc, _+_, _-_, _*_, _/_, _%_, _^_}
 use mathlib.Core.Bool.{Bool, true, false, cond}
 use mathlib.Core.List.{List, [], _∷_}
 use mathlib.Core.Option.{Option, none, some}
 use lib.ListN.{length, getD, take, drop}
 use lib.Dec.{eqb, ltb, leb}
 use Rattle.syntax.specs.Commands.{Op, opOf, width, little}
+use Rattle.syntax.specs.Reading.{most-names, most-types, most-variables, most-expressions}
 use Rattle.job.specs.declared.Form.{Form}
 
 -- the operand of w bytes at `at`; 0 where the bytes end before it does
@@ -34,9 +35,9 @@ misplacedBy cur sec n = cond (ltb sec cur) true (cond (eqb sec 3) (eqb cur 3) (c
 
 -- number 5: by the numbers of declared names, types, host values and expressions
 unfoldable pub fullBy : ℕ → ℕ → ℕ → ℕ → ℕ → Bool
-fullBy sec n t v e = cond (eqb sec 0) (leb 62 n) (cond (eqb sec 1) (leb 256 t) (cond (eqb sec 2) (leb 64 v) (cond (eqb sec 4) (leb 512 e) false)))
+fullBy sec n t v e = cond (eqb sec 0) (leb (most-names - 2) n) (cond (eqb sec 1) (leb most-types t) (cond (eqb sec 2) (leb most-variables v) (cond (eqb sec 4) (leb most-expressions e) false)))
 
--- where the five places of an expression stand: one word for each last digit of the command byte, with place 0 in its last digit; 0 for a place that is not used
+-- where the five places of an expression stand: one word for each command byte from 0x30 on, with place 0 in its last digit; 0 for a place that is not used
 abbrev pub offsets : List ℕ
 offsets = 0x00000 ∷ 0x00000 ∷ 0x00000 ∷ 0x00031 ∷ 0x00001 ∷ 0x00024 ∷ 0x00031 ∷ 0x00013 ∷ 0x00031 ∷ 0x00001 ∷ 0x00042 ∷ 0x07531 ∷ 0xA8642 ∷ 0x00031 ∷ 0x00753 ∷ 0x00031 ∷ []
 
@@ -44,15 +45,19 @@ offsets = 0x00000 ∷ 0x00000 ∷ 0x00000 ∷ 0x00031 ∷ 0x00001 ∷ 0x00024 �
 abbrev pub kinds : List ℕ
 kinds = 0x00000 ∷ 0x00000 ∷ 0x00000 ∷ 0x00011 ∷ 0x00001 ∷ 0x00021 ∷ 0x00011 ∷ 0x00021 ∷ 0x00011 ∷ 0x00001 ∷ 0x00011 ∷ 0x02111 ∷ 0x11111 ∷ 0x00011 ∷ 0x00211 ∷ 0x00011 ∷ []
 
+-- the word of a command byte in these tables; 0 for a byte that is no expression's
+unfoldable pub rowOf : List ℕ → ℕ → ℕ
+rowOf l op = cond (ltb op 0x30) 0 (getD l (op - 0x30) 0)
+
 -- digit i of a word, from the right
 unfoldable pub digitOf : ℕ → ℕ → ℕ
 digitOf w i = w / 2 ^ (4 * i) % 16
 
 unfoldable pub offsetOf : ℕ → ℕ → ℕ
-offsetOf op i = digitOf (getD offsets (op % 16) 0) i
+offsetOf op i = digitOf (rowOf offsets op) i
 
 unfoldable pub kindOf : ℕ → ℕ → ℕ
-kindOf op i = digitOf (getD kinds (op % 16) 0) i
+kindOf op i = digitOf (rowOf kinds op) i
 
 -- place i of an expression
 unfoldable pub slotOf : List ℕ → ℕ → ℕ → ℕ

@@ -6,7 +6,7 @@ use lib.ListN.{length, getD, set}
 use lib.Dec.{eqb, ltb, leb}
 use Rattle.syntax.specs.Job.{Name}
 use Rattle.syntax.specs.Words.{typeBits}
-use Rattle.syntax.specs.Reading.{hostName, openName, localName}
+use Rattle.syntax.specs.Reading.{most-names, most-variables, most-depth, hostName, openName, localName}
 use Rattle.names.specs.Ancestors.{nameOf, namesIn, entered, declaredOf, ancestorsBy, setOkBy, rightsOkBy}
 use Rattle.job.specs.Bytes.{fieldAt, widthByte, sectionByte, misplacedBy, fullBy, formOf, slotsOk, limitOk}
 use Rattle.job.specs.declared.Form.{Form}
@@ -23,7 +23,7 @@ deeperOf x y = cond (ltb x y) y x
 
 -- a type whose deepest part has depth d
 unfoldable pub typedOf : ℕ → ℕ → ℕ → Entry
-typedOf w s d = cond (ltb d 16) (Typed w s (d + 1)) (Refuse 6)
+typedOf w s d = cond (ltb d most-depth) (Typed w s (d + 1)) (Refuse 6)
 
 -- the tables after an entry
 unfoldable pub namesAfter : Entry → Shape → List ℕ → List ℕ
@@ -38,7 +38,7 @@ namesAfter Last h t = t
 -- the ancestors of the names, after n of them
 unfoldable pub ancestorsAfter : Entry → ℕ → List ℕ → List ℕ
 ancestorsAfter (Refuse k) n t = t
-ancestorsAfter (Named w) n t = cond (ltb (n + 2) 64) (entered t (n + 2) (nameOf w)) t
+ancestorsAfter (Named w) n t = cond (ltb (n + 2) most-names) (entered t (n + 2) (nameOf w)) t
 ancestorsAfter (Typed w s d) n t = t
 ancestorsAfter (Valued w) n t = t
 ancestorsAfter (Rights s) n t = t
@@ -164,7 +164,7 @@ rightsEntry s anc ds = cond (rightsOkBy anc ds (fieldAt 8 s 1)) (Rights (fieldAt
 
 -- 30 to 3F: variables, binders, parts, after v host values
 unfoldable pub bindsOk : ℕ → ℕ → Bool
-bindsOk v x = cond (leb v x) (ltb x 64) false
+bindsOk v x = cond (leb v x) (ltb x most-variables) false
 
 -- x is i or one more
 unfoldable pub eitherOf : ℕ → ℕ → Bool
@@ -175,7 +175,7 @@ newKeyOk s ds v = cond (bindsOk v (fieldAt 1 s 1)) (localName ds (fieldAt 1 s 2)
 
 unfoldable pub leadOk : ℕ → List ℕ → List Name → ℕ → Bool
 leadOk op s ds v =
-    cond (eqb op 0x32) (ltb (fieldAt 1 s 1) 64)
+    cond (eqb op 0x32) (ltb (fieldAt 1 s 1) most-variables)
     (cond (eqb op 0x34) (eitherOf (fieldAt 1 s 3) 1)
     (cond (eqb op 0x35) (bindsOk v (fieldAt 1 s 1))
     (cond (eqb op 0x3A) (eitherOf (fieldAt 1 s 1) 0)

@@ -1,3 +1,5 @@
 pub mod Bytes
 pub mod Entries
 pub mod Answer
+pub mod Told
+pub mod Lent

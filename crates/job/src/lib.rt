@@ -1,6 +1,14 @@
 // Reading a job: its commands, the conditions on each of them, and the tables that they fill.
 use table::Expr;
+use table::MOST_DECLARED;
+use table::MOST_DEPTH;
+use table::MOST_EXPRESSIONS;
+use table::MOST_NAMES;
+use table::MOST_TYPES;
+use table::MOST_VARIABLES;
+use table::PLACES;
 pub use table::Refusal;
+use table::TYPE_ENTRIES;
 use table::at64;
 use table::byte_of;
 pub use table::clear16;
@@ -16,11 +24,13 @@ ghost use mathlib.Core.Bool.{true};
 ghost use lib.Dec.{ltb};
 ghost use Rattle.syntax.specs.Commands.{little};
 ghost use Rattle.job.specs.Bytes.{fieldAt, widthByte, sectionByte, restOf, misplacedBy, fullBy};
-ghost use Rattle.job.specs.Bytes.{digitOf, offsetOf, kindOf, slotOf, leadOf, formOf, slotOk, slotsOk, keyOk, limitOk};
+ghost use Rattle.job.specs.Bytes.{digitOf, rowOf, offsets, kinds, offsetOf, kindOf, slotOf, leadOf, formOf, slotOk, slotsOk, keyOk, limitOk};
 ghost use Rattle.names.specs.Ancestors.{namesIn, declaredOf, setOkBy};
-ghost use Rattle.job.specs.Entries.{partDepth, deeperOf, twoDepths, typedOf, fiveAt, shapeAfter, ancestorsAfter};
+ghost use Rattle.job.specs.Entries.{partDepth, deeperOf, twoDepths, typedOf, fiveAt, ancestorsAfter};
 ghost use Rattle.job.specs.Entries.{nameEntry, keyTypeOf, functionOf, typeBy, typeEntry, hostWordOk, valueEntry, rightsEntry};
-ghost use Rattle.job.specs.Answer.{refusedBy, stopsOf, stoppedOf, isJob, longEnough, longTables, Small, shapeOver, Put, Zeroed, Cleared, Filled, ReadTo};
+ghost use Rattle.job.specs.Answer.{refusedBy, isJob, longEnough, longTables, Small, shapeOver, Cleared};
+ghost use Rattle.job.specs.Told.{sortOf, numberOf, lentOf, stoppedBy, countedBy};
+ghost use Rattle.job.specs.Lent.{PutLent, ZeroedLent, FilledLent, ReadLent, Command};
 ghost use Rattle.job.specs.Entries.{bindsOk, eitherOf, newKeyOk, leadOk, placesOk, formEntry, entryOf, judgedBy};
 
 // How many entries of each kind a job has, and its rights.
@@ -238,21 +248,21 @@ fn full(sec: u8, h: Shape) -> bool
     ensures { λ r. ⌜ r ≡ fullBy sec (h .names) (h .types) (h .values) (h .cmds) ⌝ }
 {
     if sec == 0 {
-        return 62 <= h.names;
+        return MOST_DECLARED <= h.names;
     }
     if sec == 1 {
-        return 256 <= h.types;
+        return MOST_TYPES <= h.types;
     }
     if sec == 2 {
-        return 64 <= h.values;
+        return MOST_VARIABLES <= h.values;
     }
     if sec == 4 {
-        return 512 <= h.cmds;
+        return MOST_EXPRESSIONS <= h.cmds;
     }
     false
 }
 
-// Where the five places of an expression stand: one word for each last digit of the command byte, with place 0 in its last digit; 0 for a place that is not used.
+// Where the five places of an expression stand: one word for each command byte from 0x30 on, with place 0 in its last digit; 0 for a place that is not used.
 const OFFSETS: [u32; 16] = [
     0x00000,
     0x00000,
@@ -301,20 +311,45 @@ fn digit(w: u32, i: u8) -> u8
     d as u8
 }
 
+// The word of a command byte in these tables; 0 for a byte that is no expression's.
+fn offset_row(op: u8) -> u32
+    ensures { λ r. ⌜ r ≡ rowOf offsets op ⌝ }
+{
+    if op < 0x30 {
+        return 0;
+    }
+    let k = (op - 0x30) as usize;
+    if k < 16 {
+        return OFFSETS[k];
+    }
+    0
+}
+
+fn kind_row(op: u8) -> u32
+    ensures { λ r. ⌜ r ≡ rowOf kinds op ⌝ }
+{
+    if op < 0x30 {
+        return 0;
+    }
+    let k = (op - 0x30) as usize;
+    if k < 16 {
+        return KINDS[k];
+    }
+    0
+}
+
 fn offset(op: u8, i: u8) -> u8
     requires { ⌜ i < 5 ⌝ }
     ensures { λ r. ⌜ r ≡ offsetOf op i ⌝ }
 {
-    let k = (op % 16) as usize;
-    digit(OFFSETS[k], i)
+    digit(offset_row(op), i)
 }
 
 fn kind(op: u8, i: u8) -> u8
     requires { ⌜ i < 5 ⌝ }
     ensures { λ r. ⌜ r ≡ kindOf op i ⌝ }
 {
-    let k = (op % 16) as usize;
-    digit(KINDS[k], i)
+    digit(kind_row(op), i)
 }
 
 // Place i of an expression.
@@ -453,7 +488,7 @@ fn deeper(x: u8, y: u8) -> u8
 fn typed(w: u64, s: u64, d: u8) -> Entry
     ensures { λ r. ⌜ r ≡ typedOf w s d ⌝ }
 {
-    if d < 16 {
+    if d < MOST_DEPTH {
         return Entry::Typed(w, s, d + 1);
     }
     Entry::Refuse(6)
@@ -505,7 +540,7 @@ fn key_type(op: u8, q: u8, r: u8, n: usize) -> Entry
 }
 
 // 13: the effect is a reduced set of declared names.
-fn function_type(q: u8, a: u16, b: u16, s: u64, d: u8, anc: &[u64; 64], n: usize) -> Entry
+fn function_type(q: u8, a: u16, b: u16, s: u64, d: u8, anc: &[u64; MOST_NAMES], n: usize) -> Entry
     ensures { λ e. ⌜ e ≡ functionOf q a b s d (setOkBy (now (anc .entry)) n s) ⌝ }
 {
     if names::set_ok(n, anc, s) {
@@ -525,7 +560,7 @@ fn type_by<'a>(
     op: u8,
     q: u8,
     job: &'a [u8],
-    anc: &'a [u64; 64],
+    anc: &'a [u64; MOST_NAMES],
     n: usize,
     depths: &'a [u8],
     t: usize,
@@ -552,7 +587,7 @@ fn type_by<'a>(
 fn type_entry<'a>(
     op: u8,
     job: &'a [u8],
-    anc: &'a [u64; 64],
+    anc: &'a [u64; MOST_NAMES],
     n: usize,
     depths: &'a [u8],
     t: usize,
@@ -606,7 +641,7 @@ fn value_entry<'a>(job: &'a [u8], names: &'a [u16], n: usize, types: &'a [u64], 
 }
 
 // 21: a reduced set of 1 and host names.
-fn rights_entry<'a>(job: &'a [u8], anc: &'a [u64; 64], names: &'a [u16], n: usize) -> Entry
+fn rights_entry<'a>(job: &'a [u8], anc: &'a [u64; MOST_NAMES], names: &'a [u16], n: usize) -> Entry
     ensures { λ r. ⌜ r ≡ rightsEntry (now (job .entry)) (now (anc .entry)) (namesIn (now (names .entry)) n) ⌝ }
 {
     let s = op64(job, 1);
@@ -688,7 +723,7 @@ fn form_entry<'a>(op: u8, job: &'a [u8], names: &'a [u16], h: Shape) -> Entry
 fn entry_of<'a>(
     op: u8,
     job: &'a [u8],
-    anc: &'a [u64; 64],
+    anc: &'a [u64; MOST_NAMES],
     names: &'a [u16],
     types: &'a [u64],
     depths: &'a [u8],
@@ -712,7 +747,7 @@ fn judged<'a>(
     job: &'a [u8],
     cur: u8,
     h: Shape,
-    anc: &'a [u64; 64],
+    anc: &'a [u64; MOST_NAMES],
     names: &'a [u16],
     types: &'a [u64],
     depths: &'a [u8],
@@ -738,18 +773,48 @@ fn judged<'a>(
     entry_of(op, job, anc, names, types, depths, h)
 }
 
-// Whether reading stops here: at a refusal or at the end.
-fn stops(e: Entry) -> bool
-    ensures { λ r. ⌜ r ≡ stopsOf e ⌝ }
+// What came of a command: its section, and where reading stops 5 at the end of the job, 6 at a refusal.
+fn sort(e: Entry) -> u8
+    ensures { λ r. ⌜ r ≡ sortOf e ⌝ }
 {
     match e {
-        Entry::Refuse(_) => true,
-        Entry::Named(_) => false,
-        Entry::Typed(_, _, _) => false,
-        Entry::Valued(_) => false,
-        Entry::Rights(_) => false,
-        Entry::Formed(_) => false,
-        Entry::Last => true,
+        Entry::Refuse(_) => 6,
+        Entry::Named(_) => 0,
+        Entry::Typed(_, _, _) => 1,
+        Entry::Valued(_) => 2,
+        Entry::Rights(_) => 3,
+        Entry::Formed(_) => 4,
+        Entry::Last => 5,
+    }
+}
+
+// The number of a refusal; 0 for none.
+fn number(e: Entry) -> u8
+    ensures { λ r. ⌜ r ≡ numberOf e ⌝ }
+{
+    match e {
+        Entry::Refuse(n) => n,
+        Entry::Named(_) => 0,
+        Entry::Typed(_, _, _) => 0,
+        Entry::Valued(_) => 0,
+        Entry::Rights(_) => 0,
+        Entry::Formed(_) => 0,
+        Entry::Last => 0,
+    }
+}
+
+// The rights that a command lends; 0 for none.
+fn lent(e: Entry) -> u64
+    ensures { λ r. ⌜ r ≡ lentOf e ⌝ }
+{
+    match e {
+        Entry::Refuse(_) => 0,
+        Entry::Named(_) => 0,
+        Entry::Typed(_, _, _) => 0,
+        Entry::Valued(_) => 0,
+        Entry::Rights(s) => s,
+        Entry::Formed(_) => 0,
+        Entry::Last => 0,
     }
 }
 
@@ -763,24 +828,17 @@ fn refused(number: u8, place: usize) -> Answer
 }
 
 // The answer where reading stops: the command stands at `place`, and `left` bytes are left with it. After the end no byte may follow.
-fn stopped(e: Entry, h: Shape, place: usize, left: usize) -> Answer
+fn stopped(kind: u8, n: u8, g: Shape, place: usize, left: usize) -> Answer
     requires { ⌜ place < 9223372036854775808 ⌝ }
-    ensures { λ r. ⌜ r ≡ stoppedOf e h place left ⌝ }
+    ensures { λ r. ⌜ r ≡ stoppedBy kind n g place left ⌝ }
 {
-    match e {
-        Entry::Refuse(n) => refused(n, place),
-        Entry::Named(_) => refused(6, place),
-        Entry::Typed(_, _, _) => refused(6, place),
-        Entry::Valued(_) => refused(6, place),
-        Entry::Rights(_) => refused(6, place),
-        Entry::Formed(_) => refused(6, place),
-        Entry::Last => {
-            if left == 1 {
-                return Answer::Job(h);
-            }
-            refused(7, place + 1)
+    if kind == 5 {
+        if left == 1 {
+            return Answer::Job(g);
         }
+        return refused(7, place + 1);
     }
+    refused(n, place)
 }
 
 // One name, type, host value or expression more.
@@ -848,19 +906,18 @@ fn with_rights(g: Shape, s: u64) -> Shape
     }
 }
 
-// The counts with an entry more.
-fn counted(e: Entry, g: Shape) -> Shape
+// The counts with an entry more, of section `kind`, or with the rights s.
+fn counted(kind: u8, s: u64, g: Shape) -> Shape
     requires { ⌜ Small g ⌝ }
-    ensures { λ r. ⌜ r ≡ shapeAfter e g ⌝ }
+    ensures { λ r. ⌜ r ≡ countedBy kind s g ⌝ }
 {
-    match e {
-        Entry::Refuse(_) => g,
-        Entry::Named(_) => more_names(g),
-        Entry::Typed(_, _, _) => more_types(g),
-        Entry::Valued(_) => more_values(g),
-        Entry::Rights(s) => with_rights(g, s),
-        Entry::Formed(_) => more_cmds(g),
-        Entry::Last => g,
+    match kind {
+        0 => more_names(g),
+        1 => more_types(g),
+        2 => more_values(g),
+        3 => with_rights(g, s),
+        4 => more_cmds(g),
+        _ => g,
     }
 }
 
@@ -877,7 +934,7 @@ fn put(
     slots: &mut [u16],
 )
     requires { ⌜ Small g ⌝ }
-    ensures { λ _. ⌜ Put e g (now (depths .entry)) (now (names .entry)) (now (types .entry)) (now (sets .entry)) (now (values .entry)) (now (heads .entry)) (now (slots .entry)) (now (depths .exit)) (now (names .exit)) (now (types .exit)) (now (sets .exit)) (now (values .exit)) (now (heads .exit)) (now (slots .exit)) ⌝ }
+    ensures { λ _. ⌜ PutLent e g depths names types sets values heads slots ⌝ }
 {
     match e {
         Entry::Refuse(_) => {}
@@ -898,7 +955,7 @@ fn put(
 }
 
 // The ancestors of one name more, where the entry is a name; n names stand before it.
-fn enter(e: Entry, n: usize, anc: &mut [u64; 64])
+fn enter(e: Entry, n: usize, anc: &mut [u64; MOST_NAMES])
     requires { ⌜ n ≤ 65536 ⌝ }
     ensures { λ _. ⌜ now (anc .exit) ≡ ancestorsAfter e n (now (anc .entry)) ⌝ }
 {
@@ -931,7 +988,7 @@ fn clear_all(
     heads: &mut [u64],
     slots: &mut [u16],
 )
-    ensures { λ _. ⌜ Zeroed (now (names .entry)) (now (types .entry)) (now (sets .entry)) (now (values .entry)) (now (heads .entry)) (now (slots .entry)) (now (names .exit)) (now (types .exit)) (now (sets .exit)) (now (values .exit)) (now (heads .exit)) (now (slots .exit)) ⌝ }
+    ensures { λ _. ⌜ ZeroedLent names types sets values heads slots ⌝ }
 {
     clear16(names);
     clear64(types);
@@ -945,18 +1002,47 @@ fn clear_all(
 fn long_enough(n: usize, t: usize, s: usize, v: usize, h: usize, p: usize) -> bool
     ensures { λ r. ⌜ r ≡ longEnough n t s v h p ⌝ }
 {
-    if 64 <= n {
-        if 2304 <= t {
-            if 2304 <= s {
-                if 64 <= v {
-                    if 512 <= h {
-                        return 2560 <= p;
+    if MOST_NAMES <= n {
+        if TYPE_ENTRIES <= t {
+            if TYPE_ENTRIES <= s {
+                if MOST_VARIABLES <= v {
+                    if MOST_EXPRESSIONS <= h {
+                        return PLACES <= p;
                     }
                 }
             }
         }
     }
     false
+}
+
+// Reads the first command of a job: its entry goes into the tables, what came of it into `told` (its sort, and the number of a refusal) and
+// `rights`, and the unread rest of the job, from the next command on, is handed back. Where reading stops, the tables stay as they are.
+fn command<'a>(
+    job: &'a [u8],
+    cur: u8,
+    g: Shape,
+    anc: &mut [u64; MOST_NAMES],
+    depths: &mut [u8],
+    names: &mut [u16],
+    types: &mut [u64],
+    sets: &mut [u64],
+    values: &mut [u64],
+    heads: &mut [u64],
+    slots: &mut [u16],
+    told: &mut [u8; 2],
+    rights: &mut [u64; 1],
+) -> &'a [u8]
+    requires { ⌜ Small g ⌝ }
+    ensures { λ r. ⌜ Command job cur g anc depths names types sets values heads slots told rights (now r) ⌝ }
+{
+    let e = judged(job, cur, g, anc, names, types, depths);
+    put(e, g, depths, names, types, sets, values, heads, slots);
+    enter(e, g.names, anc);
+    told[0] = sort(e);
+    told[1] = number(e);
+    rights[0] = lent(e);
+    rest(job)
 }
 
 // Command by command from the first on: the tables, all zero, take the entries.
@@ -971,7 +1057,7 @@ fn fill(
 ) -> Answer
     requires { ⌜ longTables (now names) (now types) (now sets) (now values) (now heads) (now slots) ≡ true ⌝ }
     requires { ⌜ Cleared (now names) (now types) (now sets) (now values) (now heads) (now slots) ⌝ }
-    ensures { λ r. ⌜ Filled (now (job .entry)) r (now (names .exit)) (now (types .exit)) (now (sets .exit)) (now (values .exit)) (now (heads .exit)) (now (slots .exit)) (length (now (names .entry))) (length (now (types .entry))) (length (now (sets .entry))) (length (now (values .entry))) (length (now (heads .entry))) (length (now (slots .entry))) ⌝ }
+    ensures { λ r. ⌜ FilledLent job r names types sets values heads slots ⌝ }
 {
     let mut left = job;
     let mut cur: u8 = 0;
@@ -982,19 +1068,32 @@ fn fill(
         cmds: 0,
         rights: 0,
     };
-    let mut depths = [0u8; 256];
+    let mut depths = [0u8; MOST_TYPES];
     let mut anc = names::ancestors(names, 0);
+    let mut told = [0u8; 2];
+    let mut rights = [0u64; 1];
     while 0 < left.len() {
-        let e = judged(left, cur, g, &anc, names, types, &depths);
-        if stops(e) {
-            return stopped(e, g, job.len() - left.len(), left.len());
+        let next = command(
+            left,
+            cur,
+            g,
+            &mut anc,
+            &mut depths,
+            names,
+            types,
+            sets,
+            values,
+            heads,
+            slots,
+            &mut told,
+            &mut rights,
+        );
+        if 4 < told[0] {
+            return stopped(told[0], told[1], g, job.len() - left.len(), left.len());
         }
-        put(e, g, &mut depths, names, types, sets, values, heads, slots);
-        enter(e, g.names, &mut anc);
-        let more = counted(e, g);
+        let more = counted(told[0], rights[0], g);
         g = more;
         cur = section(first(left));
-        let next = rest(left);
         left = next;
     }
     refused(4, job.len())
@@ -1010,7 +1109,7 @@ pub fn read(
     heads: &mut [u64],
     slots: &mut [u16],
 ) -> Answer
-    ensures { λ r. ⌜ ReadTo (now (job .entry)) r (now (names .entry)) (now (types .entry)) (now (sets .entry)) (now (values .entry)) (now (heads .entry)) (now (slots .entry)) (now (names .exit)) (now (types .exit)) (now (sets .exit)) (now (values .exit)) (now (heads .exit)) (now (slots .exit)) ⌝ }
+    ensures { λ r. ⌜ ReadLent job r names types sets values heads slots ⌝ }
 {
     if long_enough(
         names.len(),

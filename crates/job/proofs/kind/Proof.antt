@@ -3,21 +3,15 @@ use borrow.Author.Needs.{needs}
 use Rattle.job.proofs.kind.Statement.{statement}
 use Rattle.job.proofs.kind.Tie as tie
 
-cast-k : tie.Need-cast-k
-cast-k c = search needs
-
-mul-digit : tie.Need-mul-digit
-mul-digit c = search needs
-
-array-read-digit : tie.Need-array-read-digit
-array-read-digit c = search needs
+kind-row-requires : tie.Need-kind-row-requires
+kind-row-requires c κs = search needs
 
 digit-requires : tie.Need-digit-requires
 digit-requires c κs = search needs
 
 returns : tie.Need-returns
 unfolding kindOf
-returns c = search needs
+returns c = simp (← c .before .kind-row .ensures) (c .digit .ensures)
 
 pub kind-spec : {M : Type 1} → statement M
-kind-spec = tie.close (tie.spec cast-k mul-digit array-read-digit digit-requires returns)
+kind-spec = tie.close (tie.spec kind-row-requires digit-requires returns)
