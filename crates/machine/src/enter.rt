@@ -1,0 +1,181 @@
+// Entering an expression: it gives its value, or a frame is pushed for its operands.
+use crate::Acted;
+use crate::Answer;
+use crate::Found;
+use crate::Thread;
+use crate::unkeyed;
+use store::BINDING_WORDS;
+use store::Bound;
+use store::Closure;
+use store::Expr;
+use store::FRAME_WORDS;
+use store::FUNCTION_WORDS;
+use store::Keys;
+use store::Kind;
+use store::MOST_BINDINGS;
+use store::MOST_FRAMES;
+use store::MOST_FUNCTIONS;
+ghost use mathlib.Core.Path.{_≡_};
+ghost use mathlib.Core.Option.{Option};
+ghost use Rattle.syntax.specs.Words.{codeIn};
+ghost use Rattle.semantics.specs.Machine.{most-bindings, Value as SValue};
+ghost use Rattle.semantics.specs.Step.{d-push, d-fn, seekIn, seek, variable, enterCmd};
+ghost use Rattle.store.specs.Meaning.{boundIn};
+ghost use Rattle.store.specs.Words.{linkIn};
+ghost use Rattle.store.specs.Tables.{listOf};
+ghost use Rattle.machine.specs.Meaning.{foundIn};
+ghost use Rattle.machine.specs.View.{Tables};
+ghost use Rattle.machine.specs.Inner.{acted, tried, deed, putFrames, putFunctions, putBindings, orElse, Works};
+
+// No chain of bindings is longer.
+const MOST_LINKS: u16 = MOST_BINDINGS as u16;
+
+// How many operands are worked out before the act.
+pub(crate) fn need(op: u64, x: u64) -> u8
+    ensures { λ r. ⌜ Works op x r ⌝ }
+{
+    match op {
+        0x33 => 2,
+        0x34 => 1,
+        0x36 => 2,
+        0x37 => 1,
+        0x38 => 2,
+        0x39 => 1,
+        0x3A => 2,
+        0x3B => 1,
+        0x3C => { if x < 4 { x as u8 } else { 4 } }
+        0x3D => 1,
+        0x3E => 1,
+        0x3F => 2,
+        _ => 0,
+    }
+}
+
+// The value of variable x, if that is what is bound.
+fn bound_to(b: Bound, x: u8) -> Found
+    ensures { λ r. ⌜ ((rest : Option SValue) → seekIn (boundIn b) x rest ≡ orElse (foundIn r) rest) ⌝ }
+{
+    match b {
+        Bound::Variable(y, v) => { if x == y { Found::At(v) } else { Found::Nothing } }
+        Bound::Name(_, _) => Found::Nothing,
+    }
+}
+
+// The newest binding of x from binding `from` on.
+fn lookup(bindings: &[u64; BINDING_WORDS], n: u16, x: u8, from: u16) -> Found
+    ensures { λ r. ⌜ foundIn r ≡ seek most-bindings (listOf linkIn (now (bindings .entry)) n) from x ⌝ }
+{
+    let mut p = from;
+    let mut left: u16 = MOST_LINKS;
+    while 0 < left {
+        if p == 0 {
+            return Found::Nothing;
+        }
+        if n < p {
+            return Found::Nothing;
+        }
+        let b = store::binding_at(bindings, p - 1);
+        let bound = b.bound;
+        let f = bound_to(bound, x);
+        if let Found::At(v) = f {
+            return Found::At(v);
+        }
+        p = b.next;
+        left = left - 1;
+    }
+    Found::Nothing
+}
+
+impl Thread {
+    fn push(self, e: Expr, first: Expr, frames: &mut [u64; FRAME_WORDS]) -> Acted
+        ensures { λ r. ⌜ ((w : Tables) → acted r (putFrames w (now (frames .exit))) ≡ tried self self (putFrames w (now (frames .entry))) (deed (d-push (e .0) (first .0)))) ⌝ }
+    {
+        let n = self.frames;
+        if n < MOST_FRAMES {
+            let now = self.now;
+            let on = now.on;
+            store::put_fresh(frames, n as u16, e, now.env, on);
+            let mut next = self;
+            next.frames = n + 1;
+            next.go(first, now.env, on)
+        } else {
+            self.stop(Answer::NoRoom)
+        }
+    }
+
+    fn function(self, x: u8, body: Expr, functions: &mut [u64; FUNCTION_WORDS]) -> Acted
+        ensures { λ r. ⌜ ((w : Tables) → acted r (putFunctions w (now (functions .exit))) ≡ tried self self (putFunctions w (now (functions .entry))) (deed (d-fn x (body .0)))) ⌝ }
+    {
+        let n = self.functions;
+        if n < MOST_FUNCTIONS {
+            let now = self.now;
+            store::put_closure(
+                functions,
+                n as u16,
+                Closure {
+                    var: x,
+                    body: body,
+                    env: now.env,
+                },
+            );
+            let mut next = self;
+            next.functions = n + 1;
+            let v = unkeyed(Kind::Function, n as u32);
+            next.give(v)
+        } else {
+            self.stop(Answer::NoRoom)
+        }
+    }
+
+    fn variable(self, x: u8, bindings: &[u64; BINDING_WORDS]) -> Acted
+        ensures { λ r. ⌜ ((w : Tables) → acted r (putBindings w (now (bindings .entry))) ≡ tried self self (putBindings w (now (bindings .entry))) (variable x)) ⌝ }
+    {
+        let now = self.now;
+        let n = store::cap(self.bindings, MOST_BINDINGS) as u16;
+        let found = lookup(bindings, n, x, now.env);
+        match found {
+            Found::At(v) => self.give(v),
+            Found::Nothing => self.stop(Answer::Stuck),
+        }
+    }
+
+    pub(crate) fn enter(
+        self,
+        e: Expr,
+        heads: &[u64],
+        slots: &[u16],
+        frames: &mut [u64; FRAME_WORDS],
+        functions: &mut [u64; FUNCTION_WORDS],
+        bindings: &[u64; BINDING_WORDS],
+    ) -> Acted
+        ensures { λ r. ⌜ ((w : Tables) → acted r (putBindings (putFunctions (putFrames w (now (frames .exit))) (now (functions .exit))) (now (bindings .entry))) ≡ tried self self (putBindings (putFunctions (putFrames w (now (frames .entry))) (now (functions .entry))) (now (bindings .entry))) (enterCmd (e .0) (codeIn (now (heads .entry)) (now (slots .entry)) (e .0)))) ⌝ }
+    {
+        let i = e.0 as usize;
+        let head = store::at64(heads, i);
+        let op = head % 256;
+        let x = head / 256 % 4294967296;
+        if 0 < need(op, x) {
+            let first = Expr(store::at16(slots, i * 5));
+            return self.push(e, first, frames);
+        }
+        match op {
+            0x31 => {
+                let v = unkeyed(Kind::Limit, 1);
+                self.give(v)
+            }
+            0x32 => self.variable((x % 256) as u8, bindings),
+            0x35 => {
+                let body = Expr(store::at16(slots, i * 5));
+                self.function((x % 256) as u8, body, functions)
+            }
+            0x3C => {
+                let now = self.now;
+                self.go(Expr(store::at16(slots, i * 5 + 4)), now.env, Keys(0, 0))
+            }
+            _ => {
+                let v = unkeyed(Kind::Number, x as u32);
+                self.give(v)
+            }
+        }
+    }
+}

@@ -1,0 +1,199 @@
+// Runs: steps one after another, counted; the machine's own step and run.
+use crate::Answer;
+use crate::Control;
+use crate::Ended;
+use crate::Machine;
+use crate::Outcome;
+use crate::Thread;
+use store::BINDING_WORDS;
+use store::CELL_WORDS;
+use store::FRAME_WORDS;
+use store::FUNCTION_WORDS;
+use store::KEY_BYTES;
+use store::PAIR_WORDS;
+ghost use mathlib.Core.Path.{_≡_};
+ghost use Rattle.syntax.specs.Words.{codeIn};
+ghost use Rattle.semantics.specs.Room.{isDone};
+ghost use Rattle.semantics.specs.Calls.{one-step, call, run};
+ghost use Rattle.machine.specs.Meaning.{answerIn};
+ghost use Rattle.machine.specs.View.{Tables, tables, view, seen, ranIn};
+ghost use Rattle.machine.specs.Inner.{isTaken, loopOf, ended, closing};
+
+fn is_taken(a: Answer) -> bool
+    ensures { λ r. ⌜ r ≡ isTaken a ⌝ }
+{
+    match a {
+        Answer::Taken => true,
+        Answer::Finished => false,
+        Answer::Spent => false,
+        Answer::NoRoom => false,
+        Answer::Stuck => false,
+        Answer::Denied => false,
+    }
+}
+
+// The answer of a run whose steps gave `a`.
+fn close(done: bool, a: Answer) -> Answer
+    ensures { λ r. ⌜ answerIn r ≡ closing done (answerIn a) ⌝ }
+{
+    match a {
+        Answer::Taken => {
+            if done {
+                Answer::Finished
+            } else {
+                Answer::Spent
+            }
+        }
+        Answer::Finished => Answer::Finished,
+        Answer::Spent => Answer::Spent,
+        Answer::NoRoom => Answer::NoRoom,
+        Answer::Stuck => Answer::Stuck,
+        Answer::Denied => Answer::Denied,
+    }
+}
+
+impl Thread {
+    // Up to n steps, one after another.
+    fn run(
+        self,
+        n: u64,
+        heads: &[u64],
+        slots: &[u16],
+        frames: &mut [u64; FRAME_WORDS],
+        cells: &mut [u64; CELL_WORDS],
+        keys: &mut [u8; KEY_BYTES],
+        pairs: &mut [u64; PAIR_WORDS],
+        functions: &mut [u64; FUNCTION_WORDS],
+        bindings: &mut [u64; BINDING_WORDS],
+    ) -> Ended
+        ensures { λ r. ⌜ ended r (tables (now (frames .exit)) (now (cells .exit)) (now (keys .exit)) (now (pairs .exit)) (now (functions .exit)) (now (bindings .exit))) ≡ loopOf (codeIn (now (heads .entry)) (now (slots .entry))) n 0 (view self (tables (now (frames .entry)) (now (cells .entry)) (now (keys .entry)) (now (pairs .entry)) (now (functions .entry)) (now (bindings .entry)))) ⌝ }
+    {
+        let mut m = self;
+        let mut taken: u64 = 0;
+        while taken < n {
+            let s = m.step(
+                heads,
+                slots,
+                frames,
+                cells,
+                keys,
+                pairs,
+                functions,
+                bindings,
+            );
+            let next = s.thread;
+            let a = s.answer;
+            if is_taken(a) {
+                m = next;
+                taken = taken + 1;
+            } else {
+                return Ended {
+                    thread: next,
+                    taken: taken,
+                    answer: a,
+                };
+            }
+        }
+        Ended {
+            thread: m,
+            taken: taken,
+            answer: Answer::Taken,
+        }
+    }
+
+    // No frame left and a value.
+    fn is_done(self) -> bool
+        ensures { λ r. ⌜ ((w : Tables) → r ≡ isDone (view self w)) ⌝ }
+    {
+        let now = self.now;
+        let control = now.control;
+        match control {
+            Control::Enter(_) => false,
+            Control::Hand(_) => self.frames == 0,
+        }
+    }
+}
+
+impl Machine {
+    // One step, by the loop of `run`: a second caller of the thread's step would keep it from being inlined there.
+    pub fn step(self, heads: &[u64], slots: &[u16]) -> Outcome
+        ensures { λ r. ⌜ ranIn r ≡ call (codeIn (now (heads .entry)) (now (slots .entry))) one-step (seen self) ⌝ }
+    {
+        let thread = self.thread;
+        let mut frames = self.frames;
+        let mut cells = self.cells;
+        let mut keys = self.keys;
+        let mut pairs = self.pairs;
+        let mut functions = self.functions;
+        let mut bindings = self.bindings;
+        let s = thread.run(
+            1,
+            heads,
+            slots,
+            &mut frames,
+            &mut cells,
+            &mut keys,
+            &mut pairs,
+            &mut functions,
+            &mut bindings,
+        );
+        let next = s.thread;
+        let answer = s.answer;
+        let m = Machine {
+            thread: next,
+            frames: frames,
+            cells: cells,
+            keys: keys,
+            pairs: pairs,
+            functions: functions,
+            bindings: bindings,
+        };
+        Outcome {
+            machine: m,
+            taken: s.taken,
+            answer: answer,
+        }
+    }
+
+    // Up to n steps.
+    pub fn run(self, n: u64, heads: &[u64], slots: &[u16]) -> Outcome
+        ensures { λ r. ⌜ ranIn r ≡ run (codeIn (now (heads .entry)) (now (slots .entry))) n 0 (seen self) ⌝ }
+    {
+        let thread = self.thread;
+        let mut frames = self.frames;
+        let mut cells = self.cells;
+        let mut keys = self.keys;
+        let mut pairs = self.pairs;
+        let mut functions = self.functions;
+        let mut bindings = self.bindings;
+        let s = thread.run(
+            n,
+            heads,
+            slots,
+            &mut frames,
+            &mut cells,
+            &mut keys,
+            &mut pairs,
+            &mut functions,
+            &mut bindings,
+        );
+        let next = s.thread;
+        let done = next.is_done();
+        let a = s.answer;
+        let answer = close(done, a);
+        let m = Machine {
+            thread: next,
+            frames: frames,
+            cells: cells,
+            keys: keys,
+            pairs: pairs,
+            functions: functions,
+            bindings: bindings,
+        };
+        Outcome {
+            machine: m,
+            taken: s.taken,
+            answer: answer,
+        }
+    }
+}

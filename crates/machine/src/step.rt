@@ -1,0 +1,243 @@
+// One step: an expression is entered, or a value goes to the newest frame, which acts when all its operands are in hand.
+use crate::Acted;
+use crate::Answer;
+use crate::Control;
+use crate::Thread;
+use crate::enter::need;
+use store::BINDING_WORDS;
+use store::CELL_WORDS;
+use store::Expr;
+use store::FRAME_WORDS;
+use store::FUNCTION_WORDS;
+use store::KEY_BYTES;
+use store::MOST_FRAMES;
+use store::PAIR_WORDS;
+use store::Value;
+ghost use mathlib.Core.Path.{_≡_};
+ghost use mathlib.Core.Bool.{cond};
+ghost use mathlib.Core.List.{[], _∷_, _++_};
+ghost use lib.ListN.{getD};
+ghost use lib.Dec.{ltb};
+ghost use Prim.Native.Nat.{_%_};
+ghost use Rattle.syntax.specs.Words.{codeIn};
+ghost use Rattle.semantics.specs.Step.{act, handTo, step};
+ghost use Rattle.store.specs.Meaning.{valueIn};
+ghost use Rattle.store.specs.Frames.{heldIn, handOf};
+ghost use Rattle.machine.specs.View.{Tables, tables};
+ghost use Rattle.machine.specs.Inner.{acted, stepped, tried, putCells, putKeys, putPairs, putFunctions, putBindings};
+
+// The value in hand at place j of a frame that holds so many; past them v.
+fn in_hand(frames: &[u64; FRAME_WORDS], top: u16, held: u8, j: u8, v: Value) -> Value
+    ensures { λ r. ⌜ valueIn r ≡ cond (ltb j held) (heldIn (now (frames .entry)) top j) (valueIn v) ⌝ }
+{
+    if j < held {
+        store::held_at(frames, top, j)
+    } else {
+        v
+    }
+}
+
+impl Thread {
+    // The acts on one value.
+    fn act_one(
+        self,
+        back: Thread,
+        at: Expr,
+        v: Value,
+        heads: &[u64],
+        slots: &[u16],
+        cells: &mut [u64; CELL_WORDS],
+        keys: &mut [u8; KEY_BYTES],
+        pairs: &mut [u64; PAIR_WORDS],
+        bindings: &mut [u64; BINDING_WORDS],
+    ) -> Acted
+        requires { ⌜ (getD (now heads) (at .0) 0 % 256 ≡ 60 → ⊥) ⌝ }
+        ensures { λ r. ⌜ ((w : Tables) → acted r (putBindings (putPairs (putKeys (putCells w (now (cells .exit))) (now (keys .exit))) (now (pairs .exit))) (now (bindings .exit))) ≡ tried self back (putBindings (putPairs (putKeys (putCells w (now (cells .entry))) (now (keys .entry))) (now (pairs .entry))) (now (bindings .entry))) (act (codeIn (now (heads .entry)) (now (slots .entry)) (at .0)) (valueIn v ∷ []))) ⌝ }
+    {
+        let i = at.0 as usize;
+        let head = store::at64(heads, i);
+        let op = head % 256;
+        let x = head / 256 % 4294967296;
+        let b = Expr(store::at16(slots, i * 5 + 1));
+        match op {
+            0x34 => self.act_part(back, x == 1, v, keys, pairs),
+            0x37 => self.act_cell(back, v, cells),
+            0x39 => self.act_read(back, v, keys, cells),
+            0x3B => self.act_test(back, b, Expr(store::at16(slots, i * 5 + 2)), v, keys),
+            0x3D => self.act_grant(back, b, v, keys),
+            0x3E => self.act_new_key(
+                back,
+                (x % 256) as u8,
+                (x / 256 % 256) as u8,
+                b,
+                v,
+                keys,
+                pairs,
+                bindings,
+            ),
+            _ => self.stop(Answer::Stuck),
+        }
+    }
+
+    // The acts on two values.
+    fn act_two(
+        self,
+        back: Thread,
+        at: Expr,
+        u: Value,
+        v: Value,
+        heads: &[u64],
+        slots: &[u16],
+        cells: &mut [u64; CELL_WORDS],
+        keys: &[u8; KEY_BYTES],
+        pairs: &mut [u64; PAIR_WORDS],
+        functions: &[u64; FUNCTION_WORDS],
+        bindings: &mut [u64; BINDING_WORDS],
+    ) -> Acted
+        requires { ⌜ (getD (now heads) (at .0) 0 % 256 ≡ 60 → ⊥) ⌝ }
+        ensures { λ r. ⌜ ((w : Tables) → acted r (putBindings (putFunctions (putPairs (putKeys (putCells w (now (cells .exit))) (now (keys .entry))) (now (pairs .exit))) (now (functions .entry))) (now (bindings .exit))) ≡ tried self back (putBindings (putFunctions (putPairs (putKeys (putCells w (now (cells .entry))) (now (keys .entry))) (now (pairs .entry))) (now (functions .entry))) (now (bindings .entry))) (act (codeIn (now (heads .entry)) (now (slots .entry)) (at .0)) (valueIn u ∷ valueIn v ∷ []))) ⌝ }
+    {
+        let i = at.0 as usize;
+        let head = store::at64(heads, i);
+        let op = head % 256;
+        let x = head / 256 % 4294967296;
+        match op {
+            0x33 => self.act_pair(back, u, v, pairs),
+            0x36 => self.act_apply(back, u, v, keys, functions, bindings),
+            0x38 => self.act_assign(back, u, v, keys, cells),
+            0x3A => self.act_sum(back, x == 0, u, v, keys),
+            0x3F => self.act_associate(back, u, v, keys),
+            _ => self.stop(Answer::Stuck),
+        }
+    }
+
+    // All operands are in hand: those of the frame that was popped, and v.
+    fn act(
+        self,
+        back: Thread,
+        at: Expr,
+        top: u16,
+        held: u8,
+        v: Value,
+        heads: &[u64],
+        slots: &[u16],
+        frames: &[u64; FRAME_WORDS],
+        cells: &mut [u64; CELL_WORDS],
+        keys: &mut [u8; KEY_BYTES],
+        pairs: &mut [u64; PAIR_WORDS],
+        functions: &[u64; FUNCTION_WORDS],
+        bindings: &mut [u64; BINDING_WORDS],
+    ) -> Acted
+        ensures { λ r. ⌜ acted r (tables (now (frames .entry)) (now (cells .exit)) (now (keys .exit)) (now (pairs .exit)) (now (functions .entry)) (now (bindings .exit))) ≡ tried self back (tables (now (frames .entry)) (now (cells .entry)) (now (keys .entry)) (now (pairs .entry)) (now (functions .entry)) (now (bindings .entry))) (act (codeIn (now (heads .entry)) (now (slots .entry)) (at .0)) (handOf held (heldIn (now (frames .entry)) top 0) (heldIn (now (frames .entry)) top 1) (heldIn (now (frames .entry)) top 2) ++ (valueIn v ∷ []))) ⌝ }
+    {
+        let i = at.0 as usize;
+        let head = store::at64(heads, i);
+        if head % 256 == 0x3C {
+            let a = in_hand(frames, top, held, 0, v);
+            let b = in_hand(frames, top, held, 1, v);
+            let c = in_hand(frames, top, held, 2, v);
+            let body = Expr(store::at16(slots, i * 5 + 4));
+            return self.act_limit(back, body, a, b, c, v, keys);
+        }
+        if held == 0 {
+            return self.act_one(back, at, v, heads, slots, cells, keys, pairs, bindings);
+        }
+        if held == 1 {
+            let u = store::held_at(frames, top, 0);
+            return self.act_two(
+                back,
+                at,
+                u,
+                v,
+                heads,
+                slots,
+                cells,
+                keys,
+                pairs,
+                functions,
+                bindings,
+            );
+        }
+        self.stop(Answer::Stuck)
+    }
+
+    // A value goes to the newest frame.
+    fn hand(
+        self,
+        v: Value,
+        heads: &[u64],
+        slots: &[u16],
+        frames: &mut [u64; FRAME_WORDS],
+        cells: &mut [u64; CELL_WORDS],
+        keys: &mut [u8; KEY_BYTES],
+        pairs: &mut [u64; PAIR_WORDS],
+        functions: &mut [u64; FUNCTION_WORDS],
+        bindings: &mut [u64; BINDING_WORDS],
+    ) -> Acted
+        ensures { λ r. ⌜ acted r (tables (now (frames .exit)) (now (cells .exit)) (now (keys .exit)) (now (pairs .exit)) (now (functions .exit)) (now (bindings .exit))) ≡ tried self self (tables (now (frames .entry)) (now (cells .entry)) (now (keys .entry)) (now (pairs .entry)) (now (functions .entry)) (now (bindings .entry))) (λ m. handTo (codeIn (now (heads .entry)) (now (slots .entry))) (valueIn v) (m .thread .frames) m) ⌝ }
+    {
+        let n = store::cap(self.frames, MOST_FRAMES) as u16;
+        if n == 0 {
+            return self.stop(Answer::Finished);
+        }
+        let top = n - 1;
+        let h = store::head_at(frames, top);
+        let at = h.at;
+        let on = h.on;
+        let held = h.held;
+        let i = at.0 as usize;
+        let head = store::at64(heads, i);
+        if held + 1 < need(head % 256, head / 256 % 4294967296) {
+            store::put_held(frames, top, v);
+            let next = Expr(store::at16(slots, i * 5 + ((held + 1) as usize)));
+            return self.go(next, h.env, on);
+        }
+        let back = self.resume(top, h.env, on);
+        self.act(
+            back,
+            at,
+            top,
+            held,
+            v,
+            heads,
+            slots,
+            frames,
+            cells,
+            keys,
+            pairs,
+            functions,
+            bindings,
+        )
+    }
+
+    pub(crate) fn step(
+        self,
+        heads: &[u64],
+        slots: &[u16],
+        frames: &mut [u64; FRAME_WORDS],
+        cells: &mut [u64; CELL_WORDS],
+        keys: &mut [u8; KEY_BYTES],
+        pairs: &mut [u64; PAIR_WORDS],
+        functions: &mut [u64; FUNCTION_WORDS],
+        bindings: &mut [u64; BINDING_WORDS],
+    ) -> Acted
+        ensures { λ r. ⌜ acted r (tables (now (frames .exit)) (now (cells .exit)) (now (keys .exit)) (now (pairs .exit)) (now (functions .exit)) (now (bindings .exit))) ≡ stepped self (tables (now (frames .entry)) (now (cells .entry)) (now (keys .entry)) (now (pairs .entry)) (now (functions .entry)) (now (bindings .entry))) (step (codeIn (now (heads .entry)) (now (slots .entry)))) ⌝ }
+    {
+        let now = self.now;
+        let control = now.control;
+        match control {
+            Control::Enter(e) => self.enter(e, heads, slots, frames, functions, bindings),
+            Control::Hand(v) => self.hand(
+                v,
+                heads,
+                slots,
+                frames,
+                cells,
+                keys,
+                pairs,
+                functions,
+                bindings,
+            ),
+        }
+    }
+}
