@@ -15,20 +15,20 @@ use Rattle.syntax.specs.WellScoped.{ScopedType}
 -- 8: "used other than once (the last: not at all)"
 
 -- expression c stands at place i among the operands of expression p
-pub record Operand (S : Src) (p i c : ℕ) : Type 0 where
+pub record UsedAt (S : Src) (p i c : ℕ) : Type 0 where
   pub is : getElem? (children (nth (S .cmds) p)) i ≡ some c
 
 -- c is an operand once: at this place, and at no other
 pub record UsedOnce (S : Src) (c : ℕ) : Type 0 where
   pub user : ℕ
   pub place : ℕ
-  pub used : Operand S user place c
-  pub only : (p i : ℕ) → Operand S p i c → (p ≡ user) × (i ≡ place)
+  pub used : UsedAt S user place c
+  pub only : (p i : ℕ) → UsedAt S p i c → (p ≡ user) × (i ≡ place)
 
 -- every expression but the last is an operand once, the last one never
 pub record UsedAsDue (S : Src) (e : ℕ) : Type 0 where
   pub once : e ≢ root S → UsedOnce S e
-  pub last : e ≡ root S → (p i : ℕ) → Operand S p i e → ⊥
+  pub last : e ≡ root S → (p i : ℕ) → UsedAt S p i e → ⊥
 
 -- 9: "binds a variable or name bound before"
 

@@ -19,7 +19,7 @@ use Rattle.syntax.specs.Operands.{nth, children}
 use Rattle.syntax.specs.Job.{Src}
 use Rattle.syntax.specs.ReadFormed.{mem-at}
 use Rattle.syntax.specs.Tree.{Entry, binds, varsOf, namesOf, memB, root, count, uses, usedRight, boundBy, bindsNew}
-use Rattle.syntax.specs.TreeFacts.{Operand, UsedOnce, UsedAsDue, BindsAnew}
+use Rattle.syntax.specs.TreeFacts.{UsedAt, UsedOnce, UsedAsDue, BindsAnew}
 use Rattle.syntax.specs.Scope.{memB→, →memB, count-mem, mem-count, uses-mem, mem-uses, varsOf-app, namesOf-app, binds-vars, vars-binds, binds-name, names-binds}
 
 -- 8
@@ -85,10 +85,10 @@ one-uses (k ∷ l) c f = at (one-count c (children k) (λ i j a b. f 0 i 0 j a b
         sum (suc m) (suc n) x y g h = absurd (both (omega arith) (omega arith))
 
 module _ (S : Src) (e : ℕ) where
-  place-uses : {p i : ℕ} → Operand S p i e → 1 ≤ uses (S .cmds) e
+  place-uses : {p i : ℕ} → UsedAt S p i e → 1 ≤ uses (S .cmds) e
   place-uses {p} {i} o = uses-mem (S .cmds) p e (getElem?-mem (children (nth (S .cmds) p)) i e (o .is)) .0
 
-  uses-place : 1 ≤ uses (S .cmds) e → (p : ℕ) × (i : ℕ) × Operand S p i e
+  uses-place : 1 ≤ uses (S .cmds) e → (p : ℕ) × (i : ℕ) × UsedAt S p i e
   uses-place h = let w = mem-uses (S .cmds) e h in let m = mem-at (w .1) in (w .0, m .0, record { is = m .1 })
 
   pub used→ : usedRight S e ≡ true → UsedAsDue S e
