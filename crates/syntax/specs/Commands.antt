@@ -108,7 +108,7 @@ pub record Form : Type 0 where
 abbrev pub form-of : ℕ → ℕ → List Role → Form
 form-of b s rs = record { byte = b; section = s; roles = rs }
 
--- one row a command: its byte, its section, and its operands in order
+-- one row a command: its byte, its section, and what its operands are for, in order
 unfoldable pub form : Op → Form
 form o-host = form-of 0x01 0 (r-name ∷ [])
 form o-local = form-of 0x02 0 (r-name ∷ [])
@@ -137,6 +137,40 @@ form x-grant = form-of 0x3D 4 (r-evaluated ∷ r-entered ∷ [])
 form x-newkey = form-of 0x3E 4 (r-keypair ∷ r-local ∷ r-evaluated ∷ r-inside ∷ r-type ∷ [])
 form x-associate = form-of 0x3F 4 (r-evaluated ∷ r-evaluated ∷ [])
 form o-end = form-of 0xFF 5 []
+
+-- what is given for an operand: numbers, one but for 3C's keys; or a type
+pub data Operand (T : Type 0) : Type 0 where
+  numbers : List ℕ → Operand T
+  type : T → Operand T
+
+abbrev pub one : {T : Type 0} → ℕ → Operand T
+one n = numbers (n ∷ [])
+
+pub record Row (T : Type 0) : Type 0 where
+  pub op : Op
+  pub given : List (Operand T)
+
+abbrev pub row-of : {T : Type 0} → Op → List (Operand T) → Row T
+row-of o l = record { op = o; given = l }
+
+-- an expression in its row: what is given for each operand
+unfoldable pub row : {T : Type 0} → Cmd T → Row T
+row (c-num n) = row-of x-number (one n ∷ [])
+row c-top = row-of x-top []
+row (c-var v) = row-of x-variable (one v ∷ [])
+row (c-pair a b) = row-of x-pair (one a ∷ one b ∷ [])
+row (c-part a i) = row-of x-part (one a ∷ one (cond i 1 2) ∷ [])
+row (c-fn v t b) = row-of x-function (one v ∷ type t ∷ one b ∷ [])
+row (c-app a b) = row-of x-apply (one a ∷ one b ∷ [])
+row (c-new t a) = row-of x-cell (type t ∷ one a ∷ [])
+row (c-asg a b) = row-of x-assign (one a ∷ one b ∷ [])
+row (c-read a) = row-of x-read (one a ∷ [])
+row (c-sum i a b) = row-of x-sum (one (cond i 0 1) ∷ one a ∷ one b ∷ [])
+row (c-test a b c t) = row-of x-test (one a ∷ one b ∷ one c ∷ type t ∷ [])
+row (c-lim ks b) = row-of x-limit (one (length ks) ∷ numbers ks ∷ numbers (replicate (4 - length ks) 0xFFFF) ∷ one b ∷ [])
+row (c-grant a b) = row-of x-grant (one a ∷ one b ∷ [])
+row (c-newkey v r a b t) = row-of x-newkey (one v ∷ one r ∷ one a ∷ one b ∷ type t ∷ [])
+row (c-assoc a b) = row-of x-associate (one a ∷ one b ∷ [])
 
 pub record Coded : Type 0 where
   pub byte : ℕ
@@ -185,37 +219,3 @@ little (b ∷ l) = b + 256 * little l
 unfoldable pub fields : List ℕ → List ℕ → List ℕ
 fields [] s = []
 fields (w ∷ l) s = little (take w s) ∷ fields l (drop w s)
-
--- what is given for an operand: numbers, one but for 3C's keys; or a type
-pub data Operand (T : Type 0) : Type 0 where
-  numbers : List ℕ → Operand T
-  type : T → Operand T
-
-abbrev pub one : {T : Type 0} → ℕ → Operand T
-one n = numbers (n ∷ [])
-
-pub record Row (T : Type 0) : Type 0 where
-  pub op : Op
-  pub given : List (Operand T)
-
-abbrev pub row-of : {T : Type 0} → Op → List (Operand T) → Row T
-row-of o l = record { op = o; given = l }
-
--- an expression's command and its operands, in the order of its form
-unfoldable pub row : {T : Type 0} → Cmd T → Row T
-row (c-num n) = row-of x-number (one n ∷ [])
-row c-top = row-of x-top []
-row (c-var v) = row-of x-variable (one v ∷ [])
-row (c-pair a b) = row-of x-pair (one a ∷ one b ∷ [])
-row (c-part a i) = row-of x-part (one a ∷ one (cond i 1 2) ∷ [])
-row (c-fn v t b) = row-of x-function (one v ∷ type t ∷ one b ∷ [])
-row (c-app a b) = row-of x-apply (one a ∷ one b ∷ [])
-row (c-new t a) = row-of x-cell (type t ∷ one a ∷ [])
-row (c-asg a b) = row-of x-assign (one a ∷ one b ∷ [])
-row (c-read a) = row-of x-read (one a ∷ [])
-row (c-sum i a b) = row-of x-sum (one (cond i 0 1) ∷ one a ∷ one b ∷ [])
-row (c-test a b c t) = row-of x-test (one a ∷ one b ∷ one c ∷ type t ∷ [])
-row (c-lim ks b) = row-of x-limit (one (length ks) ∷ numbers ks ∷ numbers (replicate (4 - length ks) 0xFFFF) ∷ one b ∷ [])
-row (c-grant a b) = row-of x-grant (one a ∷ one b ∷ [])
-row (c-newkey v r a b t) = row-of x-newkey (one v ∷ one r ∷ one a ∷ one b ∷ type t ∷ [])
-row (c-assoc a b) = row-of x-associate (one a ∷ one b ∷ [])
