@@ -30,7 +30,7 @@ use Rattle.job.specs.declared.Entry.{Entry}
 use Rattle.job.specs.declared.Entry.the-variants.{Refuse, Named, Rights, Last}
 use Rattle.job.proofs.Ops.{byteOf, op-byte, width-narrow, width-is, misplaced-is, full-is, fieldsFrom, fields-from}
 use Rattle.job.proofs.Entered.{okW, extended, enter-is, entryW, judgedW}
-use Rattle.job.proofs.Exprs as exprs
+use Rattle.job.proofs.ExprLaws as exprs
 use Rattle.job.proofs.TypeLaws as typed
 use Rattle.job.proofs.ValueLaws as valued
 

@@ -29,11 +29,11 @@ sectionByte b = cond (ltb b 0x10) 0 (cond (ltb b 0x20) 1 (cond (eqb b 0x20) 2 (c
 unfoldable pub restOf : List ℕ → List ℕ
 restOf s = drop (widthByte (getD s 0 0) + 1) s
 
--- number 3: in section `cur`, a command of section `sec`, after n expressions
+-- refusal 3: in section `cur`, a command of section `sec`, after n expressions
 unfoldable pub misplacedBy : ℕ → ℕ → ℕ → Bool
 misplacedBy cur sec n = cond (ltb sec cur) true (cond (eqb sec 3) (eqb cur 3) (cond (ltb sec 4) false (cond (ltb cur 3) true (cond (eqb sec 5) (eqb n 0) false))))
 
--- number 5: by the numbers of declared names, types, host values and expressions
+-- refusal 5: by the numbers of declared names, types, host values and expressions
 unfoldable pub fullBy : ℕ → ℕ → ℕ → ℕ → ℕ → Bool
 fullBy sec n t v e = cond (eqb sec 0) (leb (most-names - 2) n) (cond (eqb sec 1) (leb most-types t) (cond (eqb sec 2) (leb most-variables v) (cond (eqb sec 4) (leb most-expressions e) false)))
 
@@ -98,7 +98,7 @@ slotsOk op f n t =
     false)
     false
 
--- 3C: key i of c, among n expressions
+-- 0x3C: key i of c, among n expressions
 unfoldable pub keyOk : ℕ → ℕ → ℕ → ℕ → Bool
 keyOk i c x n = cond (ltb i c) (ltb x n) (eqb x 0xFFFF)
 

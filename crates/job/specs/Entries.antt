@@ -113,25 +113,25 @@ shapeAfter Last h = h
 
 -- What the command comes to, by section: names, types, host values, rights, expressions. `s` starts at the command byte.
 
--- 01, 02: `d` and `h` say whether the upper name u is declared and is a host name or 1
+-- 0x01, 0x02: `d` and `h` say whether the upper name u is declared and is a host name or 1
 abbrev pub namedOf : ℕ → ℕ → Bool → Bool → Entry
 namedOf op u d h = cond (eqb u 0) (Refuse 6) (cond d (cond (eqb op 1) (cond h (Named (u + 256)) (Refuse 6)) (Named (u + 512))) (Refuse 6))
 
 unfoldable pub nameEntry : ℕ → List ℕ → List ℕ → ℕ → Entry
 nameEntry op s names n = namedOf op (fieldAt 1 s 1) (declaredOf n (fieldAt 1 s 1)) (hostName (namesIn names n) (fieldAt 1 s 1))
 
--- 14, 15
+-- 0x14, 0x15
 unfoldable pub keyTypeOf : ℕ → ℕ → ℕ → Bool → Entry
 keyTypeOf op q r d = cond (eqb r 0) (Refuse 6) (cond d (typedOf (typeBits op q r 0) 0 0) (Refuse 6))
 
--- 13
+-- 0x13
 unfoldable pub functionOf : ℕ → ℕ → ℕ → ℕ → ℕ → Bool → Entry
 functionOf q a b s d ok = cond ok (typedOf (typeBits 0x13 q a b) s d) (Refuse 6)
 
 unfoldable pub twoDepths : List ℕ → ℕ → ℕ → ℕ → ℕ
 twoDepths depths t a b = deeperOf (partDepth depths t a) (partDepth depths t b)
 
--- 10 to 15, by the key q; t types are declared, and n names with these ancestors
+-- 0x10 to 0x15, by the key q; t types are declared, and n names with these ancestors
 unfoldable pub typeBy : ℕ → ℕ → List ℕ → List ℕ → ℕ → List ℕ → ℕ → Entry
 typeBy op q s anc n depths t =
     cond (eqb op 0x10) (typedOf (typeBits op q 0 0) 0 0)
@@ -144,7 +144,7 @@ typeBy op q s anc n depths t =
 unfoldable pub typeEntry : ℕ → List ℕ → List ℕ → ℕ → List ℕ → ℕ → Entry
 typeEntry op s anc n depths t = cond (declaredOf n (fieldAt 1 s 1)) (typeBy op (fieldAt 1 s 1) s anc n depths t) (Refuse 6)
 
--- 20
+-- 0x20
 abbrev pub valuedOf : Bool → ℕ → ℕ → Entry
 valuedOf ok ty n = cond ok (Valued (0x20 + 256 * ty + 16777216 * n)) (Refuse 6)
 
@@ -158,11 +158,11 @@ unfoldable pub valueEntry : List ℕ → List Name → List ℕ → ℕ → Entr
 valueEntry s ds types t =
     valuedOf (cond (ltb (fieldAt 2 s 1) t) (hostWordOk types ds (getD types (fieldAt 2 s 1) 0) (fieldAt 4 s 3)) false) (fieldAt 2 s 1) (fieldAt 4 s 3)
 
--- 21
+-- 0x21
 unfoldable pub rightsEntry : List ℕ → List ℕ → List Name → Entry
 rightsEntry s anc ds = cond (rightsOkBy anc ds (fieldAt 8 s 1)) (Rights (fieldAt 8 s 1)) (Refuse 6)
 
--- 30 to 3F: variables, binders, parts, after v host values
+-- 0x30 to 0x3F: variables, binders, parts, after v host values
 unfoldable pub bindsOk : ℕ → ℕ → Bool
 bindsOk v x = cond (leb v x) (ltb x most-variables) false
 
@@ -197,11 +197,11 @@ entryOf op s anc names types depths h =
     (cond (eqb (sectionByte op) 4) (formEntry op s (namesIn names (h .names)) h)
     Last))))
 
--- 4 where the input ends first, then 5
+-- refusal 4 where the input ends first, then 5
 abbrev pub inRoom : Bool → Bool → Entry → Entry
 inRoom ends full e = cond ends (Refuse 4) (cond full (Refuse 5) e)
 
--- 2, 3, 4, 5 and 6 in this order
+-- refusals 2, 3, 4, 5 and 6 in this order
 unfoldable pub judgedBy : ℕ → List ℕ → ℕ → Shape → List ℕ → List ℕ → List ℕ → List ℕ → Entry
 judgedBy b s cur h anc names types depths =
     cond (eqb (widthByte b) 255) (Refuse 2)

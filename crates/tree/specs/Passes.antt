@@ -11,7 +11,7 @@ use Rattle.syntax.specs.Reading.{Refusal, most-names, most-types, most-variable
 use Rattle.syntax.specs.Tree.{firstBad, orElse, numbered}
 use Rattle.names.specs.Ancestors.{oneOf}
 
--- how many of the first places of a command's operands are expressions; 3C has its own rule
+-- how many of the first places of a command's operands are expressions; 0x3C has its own rule
 unfoldable pub arityOf : ℕ → ℕ
 arityOf b =
     cond (eqb b 0x33) 2
@@ -28,11 +28,11 @@ arityOf b =
     (cond (eqb b 0x3F) 2
     0)))))))))))
 
--- place i of the command with this head is an expression; of 3C the keys that are used, and the body
+-- place i of the command with this head is an expression; of 0x3C the keys that are used, and the body
 unfoldable pub isOperand : ℕ → ℕ → Bool
 isOperand w i = cond (eqb (w % 256) 0x3C) (cond (ltb i (w / 256)) true (eqb i 4)) (ltb i (arityOf (w % 256)))
 
--- place i is the body of a binder: of 35 and 3E
+-- place i is the body of a binder: of 0x35 and 0x3E
 unfoldable pub isBody : ℕ → ℕ → Bool
 isBody w i = cond (eqb (w % 256) 0x35) (eqb i 0) (cond (eqb (w % 256) 0x3E) (eqb i 1) false)
 
@@ -46,7 +46,7 @@ boundName w = cond (eqb (w % 256) 0x3E) (w / 65536 % 256) 64
 unfoldable pub boundOf : Bool → ℕ → ℕ
 boundOf isName w = cond isName (boundName w) (boundVar w)
 
--- 8: the uses of each expression, no more than 2 told apart; the places from the last down
+-- refusal 8: the uses of each expression, no more than 2 told apart; the places from the last down
 unfoldable pub oneMore : ℕ → ℕ
 oneMore x = cond (ltb x 2) (x + 1) 2
 
@@ -67,7 +67,7 @@ countsBy heads slots n = counted heads slots (n * 5) (replicate most-expressions
 unfoldable pub rightCount : List ℕ → ℕ → ℕ → Bool
 rightCount counts n e = eqb (getD counts e 0) (cond (eqb (e + 1) n) 0 1)
 
--- 9: what the expressions before e bind
+-- refusal 9: what the expressions before e bind
 unfoldable pub before : Bool → List ℕ → ℕ → ℕ
 before isName heads zero = 0
 before isName heads (suc e) = bitOr (before isName heads e) (oneOf (boundOf isName (getD heads e 0)))
@@ -75,7 +75,7 @@ before isName heads (suc e) = bitOr (before isName heads e) (oneOf (boundOf isNa
 unfoldable pub isNew : List ℕ → ℕ → Bool
 isNew heads e = cond (bit (before false heads e) (boundVar (getD heads e 0))) false (not (bit (before true heads e) (boundName (getD heads e 0))))
 
--- 10: the host's variables; its names with 0 and 1
+-- refusal 10: the host's variables; its names with 0 and 1
 unfoldable pub hostVars : ℕ → ℕ
 hostVars n = cond (ltb n most-variables) (1 * 2 ^ n % 2 ^ 64 - 1) 0xFFFFFFFFFFFFFFFF
 
@@ -138,7 +138,7 @@ unfoldable pub isScoped : List ℕ → List ℕ → List ℕ → List ℕ → Li
 isScoped heads slots masks vars names e =
     cond (varFits (getD heads e 0) (getD vars e 0)) (eqb (bitOr (operandNames masks slots e (getD heads e 0)) (getD names e 0)) (getD names e 0)) false
 
--- 8 before 9 before 10
+-- refusal 8 before 9 before 10
 unfoldable pub scopeRefusal : List ℕ → List ℕ → ℕ → List ℕ → ℕ → List ℕ → List ℕ → ℕ → ℕ → Option Refusal
 scopeRefusal heads slots n names nnames types sets ntypes nvalues =
     numbered 10

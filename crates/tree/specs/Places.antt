@@ -7,11 +7,11 @@ use lib.ListN.{getD}
 use lib.Dec.{eqb, ltb}
 use Rattle.tree.specs.Passes.{arityOf, tallied, inheritedBy, putIn}
 
--- the last place is an operand: the body of 3C
+-- the last place is an operand: the body of 0x3C
 unfoldable pub lastIsOperand : ℕ → Bool
 lastIsOperand w = eqb (w % 256) 0x3C
 
--- how many of the first four places are operands; of 3C the keys that are used
+-- how many of the first four places are operands; of 0x3C the keys that are used
 unfoldable pub firstOperands : ℕ → ℕ
 firstOperands w = cond (eqb (w % 256) 0x3C) (cond (ltb (w / 256) 4) (w / 256) 4) (arityOf (w % 256))
 
@@ -24,11 +24,11 @@ unfoldable pub atFirst : (ℕ → List ℕ → List ℕ) → ℕ → List ℕ �
 atFirst act zero l = l
 atFirst act (suc i) l = atFirst act i (act i l)
 
--- 8: place i of expression e is a use
+-- refusal 8: place i of expression e is a use
 unfoldable pub tallyAt : List ℕ → ℕ → ℕ → List ℕ → List ℕ
 tallyAt slots e i l = tallied l (getD slots (e * 5 + i) 0)
 
--- 10: expression e passes its scope to c, its operand in place i
+-- refusal 10: expression e passes its scope to c, its operand in place i
 unfoldable pub inheritTo : Bool → List ℕ → ℕ → ℕ → ℕ → ℕ → List ℕ
 inheritTo isName sc w i e c = putIn sc c (inheritedBy isName w i (getD sc e 0))
 
@@ -42,6 +42,6 @@ passTo sc e c = putIn sc c (getD sc e 0)
 unfoldable pub passAt : List ℕ → ℕ → ℕ → List ℕ → List ℕ
 passAt slots e i sc = passTo sc e (getD slots (e * 5 + i) 0)
 
--- 9: the command binds a variable, or a variable and a name
+-- refusal 9: the command binds a variable, or a variable and a name
 unfoldable pub isBinder : ℕ → Bool
 isBinder w = cond (eqb (w % 256) 0x35) true (eqb (w % 256) 0x3E)

@@ -32,7 +32,7 @@ pub enum Answer {
     Refused(u8, Expr),
 }
 
-// How many of the first places of a command's operands are expressions; 3C has its own rule.
+// How many of the first places of a command's operands are expressions; 0x3C has its own rule.
 fn arity(byte: u64) -> usize
     ensures { λ r. ⌜ r ≡ arityOf byte ⌝ }
 {
@@ -53,14 +53,14 @@ fn arity(byte: u64) -> usize
     }
 }
 
-// Whether the last place of the command with this head is an expression: the body of 3C.
+// Whether the last place of the command with this head is an expression: the body of 0x3C.
 fn ends_in_operand(head: u64) -> bool
     ensures { λ r. ⌜ r ≡ lastIsOperand head ⌝ }
 {
     head % 256 == 0x3C
 }
 
-// How many of the first four places of the command with this head are expressions. Of 3C these are the keys that are used.
+// How many of the first four places of the command with this head are expressions. Of 0x3C these are the keys that are used.
 fn first_operands(head: u64) -> usize
     ensures { λ r. ⌜ r ≡ firstOperands head ⌝ }
 {
@@ -75,7 +75,7 @@ fn first_operands(head: u64) -> usize
     arity(byte)
 }
 
-// Whether place i is the body of a binder: of 35 and 3E.
+// Whether place i is the body of a binder: of 0x35 and 0x3E.
 fn is_body(head: u64, i: usize) -> bool
     ensures { λ r. ⌜ r ≡ isBody head i ⌝ }
 {
@@ -89,7 +89,7 @@ fn is_body(head: u64, i: usize) -> bool
     false
 }
 
-// Whether the command is a binder: 35 or 3E.
+// Whether the command is a binder: 0x35 or 0x3E.
 fn is_binder(head: u64) -> bool
     ensures { λ r. ⌜ r ≡ isBinder head ⌝ }
 {
@@ -191,7 +191,7 @@ fn right_count(x: u8, e: usize, n: usize) -> bool
     x == 1
 }
 
-// 8: the lowest expression that is not used once; the last is not used at all.
+// Refusal 8: the lowest expression that is not used once; the last is not used at all.
 fn misused(counts: &[u8; MOST_EXPRESSIONS], cmds: usize) -> Answer
     requires { ⌜ cmds ≤ 512 ⌝ }
     ensures { λ r. ⌜ refusalOf r ≡ numbered 8 (firstBad (rightCount (now (counts .entry)) cmds) 0 cmds) ⌝ }
@@ -219,7 +219,7 @@ fn is_new(vars: u64, locals: u64, head: u64) -> bool
     true
 }
 
-// 9: the lowest expression that binds a variable or a name bound before.
+// Refusal 9: the lowest expression that binds a variable or a name bound before.
 fn rebound(heads: &[u64], cmds: usize) -> Answer
     requires { ⌜ cmds ≤ 512 ⌝ }
     ensures { λ r. ⌜ refusalOf r ≡ numbered 9 (firstBad (isNew (now (heads .entry))) 0 cmds) ⌝ }
@@ -491,7 +491,7 @@ fn within(m: u64, s: u64) -> bool
     both == s
 }
 
-// 10: the lowest expression with a variable, or a name in its type operand, out of scope.
+// Refusal 10: the lowest expression with a variable, or a name in its type operand, out of scope.
 fn unscoped<'a>(
     heads: &'a [u64],
     slots: &'a [u16],
@@ -519,7 +519,7 @@ fn unscoped<'a>(
     Answer::Tree
 }
 
-// 10, with the scopes.
+// Refusal 10, with the scopes.
 fn scope_check<'a>(
     heads: &'a [u64],
     slots: &'a [u16],
@@ -563,7 +563,7 @@ fn in_limits(cmds: usize, nnames: usize, ntypes: usize) -> bool
     true
 }
 
-// 8 before 9 before 10.
+// Refusal 8 before 9 before 10.
 fn table_check<'a>(
     heads: &'a [u64],
     slots: &'a [u16],
@@ -602,7 +602,7 @@ fn table_check<'a>(
 
 // The first refusal of the job that the tables hold: cmds heads with five places each, nnames names from entry 2 on, ntypes types with
 // their sets, nvalues host values. For other tables it is what the same passes find in them. Where there is no expression or a count
-// is past its limit, the tables hold no job: 8 at the first expression.
+// is past its limit, the tables hold no job: refusal 8 at the first expression.
 pub fn tree<'a>(
     heads: &'a [u64],
     slots: &'a [u16],
