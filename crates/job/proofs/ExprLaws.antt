@@ -1,12 +1,12 @@
 -- Expressions: the words that the reader makes of the operands are those of the expression, and its test is reading's.
 use mathlib.Core.Path.{_≡_, refl, sym, ap, _∙_}
-use Prim.Native.Nat.{ℕ, zero, suc, _+_, _*_}
+use Prim.Native.Nat.{ℕ, zero, suc, _+_, _*_, _≤_, _<_}
 use native.Mathlib.Omega.{arith}
 use mathlib.Core.Bool.{Bool, true, false, cond}
 use mathlib.Core.List.{List, [], _∷_}
 use lib.ListN.{length, take, drop}
 use lib.Dec.{eqb, ltb, leb}
-use borrow.Author.Tests.{eqb-true}
+use borrow.Author.Tests.{eqb-true, le-leb, lt-leb}
 use Rattle.order.specs.Bools.{_and_, _or_}
 use Rattle.order.specs.Sets.{all-of}
 use Rattle.syntax.specs.Commands.{Cmd, c-part, c-sum, c-lim}
@@ -137,6 +137,15 @@ ok-if : (b : Bool) (k : Cmd ℕ) (w : Written) (J : Job) → judgedW (cond b (w-
 unfolding judgedW okW entryW
 ok-if true k w J = refl
 ok-if false k w J = refl
+
+-- a bound variable is below 64 and none of the v host values
+pub binds-own : (v x : ℕ) → v ≤ x → ltb x 64 ≡ bindsOk v x
+unfolding bindsOk
+binds-own v x h = sym (ap (λ (b : Bool). cond b (ltb x 64) false) (le-leb v x h))
+
+pub binds-host : (v x : ℕ) → x < v → false ≡ bindsOk v x
+unfolding bindsOk
+binds-host v x h = sym (ap (λ (b : Bool). cond b (ltb x 64) false) (lt-leb v x h))
 
 module _ (s : List ℕ) (J : Job) where
   pub law-x-number : formEntry (byteOf x-number) s (J .names) (shapeOf J) ≡ judgedW (written x-number (fieldsFrom (operands x-number) s 1)) J

@@ -2,9 +2,9 @@
 use mathlib.Core.Path.{_≡_, refl, sym, ap, _∙_}
 use Prim.Native.Nat.{ℕ, _+_, _-_, _*_, _≤_, _<_}
 use native.Mathlib.Omega.{arith}
-use mathlib.Core.List.{List, [], _∷_, _++_}
-use lib.ListN.{length, getD, set, take, drop, replicate, length-drop, drop-of-length-le}
-use lib.Seq.{take-all, set-out}
+use mathlib.Core.List.{List, [], _∷_}
+use lib.ListN.{length, getD, take, drop, length-drop, drop-of-length-le}
+use lib.Seq.{take-all}
 use Rattle.syntax.specs.Commands.{little}
 use Rattle.job.specs.Bytes.{restOf, widthByte}
 
@@ -45,10 +45,6 @@ little-eight (a ∷ b ∷ c ∷ d ∷ s) h = let z : take 4 s ≡ s = take-all 4
 pub take-rest : (n : ℕ) (l : List ℕ) → take (length l - n) (drop n l) ≡ drop n l
 take-rest n l = take-all (length l - n) (drop n l) (simp length-drop (omega arith))
 
--- a store past the end changes nothing
-pub set-past : (l : List ℕ) (i a : ℕ) → length l ≤ i → l ≡ set l i a
-set-past l i a h = sym (set-out l i a h)
-
 pub drop-past : (n : ℕ) (l : List ℕ) → length l < n → [] ≡ drop n l
 drop-past n l h = sym (drop-of-length-le l {i = n} (omega arith))
 
@@ -58,13 +54,6 @@ part-width at w = omega arith
 pub first-none : (s : List ℕ) → length s ≤ 0 → 0 ≡ getD s 0 0
 first-none [] h = refl
 first-none (a ∷ s) h = absurd (omega arith)
-
--- a list filled from the front
-pub fill-all : (n : ℕ) (d s : List ℕ) → s ≡ replicate n 0 ++ drop n d → n ≤ length d → length d ≤ n → s ≡ replicate (length d) 0
-fill-all n d s e h k = let z : n ≡ length d = omega arith in e ∙ simp (z, lib.Seq.drop-length, mathlib.Core.List.append-nil)
-
-pub fill-next : (n : ℕ) (d s : List ℕ) → s ≡ replicate n 0 ++ drop n d → n < length d → set s n 0 ≡ replicate (n + 1) 0 ++ drop (n + 1) d
-fill-next n d s e h = ap (λ (l : List ℕ). set l n 0) e ∙ borrow.Author.Fill.fill-more n 0 d h
 
 -- nothing is left after a command whose operands are missing
 pub rest-short : (s : List ℕ) (b w : ℕ) → b ≡ getD s 0 0 → w ≡ widthByte b → length s < w + 1 → [] ≡ restOf s

@@ -8,7 +8,7 @@ use mathlib.Core.List.{List}
 use mathlib.Core.Option.{some}
 use lib.ListN.{length, getD}
 use lib.Dec.{eqb, ltb, leb}
-use borrow.Author.Tests.{le-ltb, ltb-true, ltb-false}
+use borrow.Author.Tests.{lt-ltb, le-ltb, ltb-true, ltb-false}
 use Rattle.order.specs.Bools.{_and_}
 use Rattle.syntax.specs.Types.{TypeEntry, e-num, e-pair, e-cell, e-fn, e-lim, e-grant, entryTree, tree, depth}
 use Rattle.syntax.specs.TypeLaws.{tree-new}
@@ -32,7 +32,11 @@ pub typed-is : (w s d : ℕ) → typedOf w s d ≡ cond (leb (suc d) 16) (Typed 
 unfolding typedOf
 typed-is w s d = ap (λ (k : ℕ). cond (ltb d 16) (Typed w s k) (Refuse 6)) (add-one d)
 
-typed-deep : (w s d : ℕ) → 16 ≤ d → typedOf w s d ≡ Refuse 6
+pub typed-low : (w s d : ℕ) → d < 16 → Typed w s (d + 1) ≡ typedOf w s d
+unfolding typedOf
+typed-low w s d h = sym (ap (λ (b : Bool). cond b (Typed w s (d + 1)) (Refuse 6)) (lt-ltb d 16 h))
+
+pub typed-deep : (w s d : ℕ) → 16 ≤ d → typedOf w s d ≡ Refuse 6
 unfolding typedOf
 typed-deep w s d h = ap (λ (b : Bool). cond b (Typed w s (d + 1)) (Refuse 6)) (le-ltb d 16 h)
 

@@ -1,11 +1,12 @@
 // Typing by numbers: from the tables of a job, the type entry and the effect of each expression, and the entries that the job makes.
 use infer::Typing;
-use names::at16;
-use names::at64;
+use table::at16;
+use table::at64;
+use table::put16;
+use table::put64;
 use types::Entry;
 ghost use mathlib.Core.Path.{_≡_};
 ghost use Prim.Native.Nat.{_%_, _≤_};
-ghost use lib.ListN.{set};
 ghost use Rattle.syntax.specs.Words.{typeBits, typeWord, setWord, codeIn};
 ghost use Rattle.types.specs.Entry.{entryOf};
 ghost use Rattle.infer.specs.Answer.{made, resultIn};
@@ -29,23 +30,6 @@ pub enum Next {
 pub enum Passed {
     Whole,
     Halted(u8, u16),
-}
-
-// A store, and nothing past the end.
-fn put16(s: &mut [u16], i: usize, x: u16)
-    ensures { λ _. ⌜ now (s .exit) ≡ set (now (s .entry)) i x ⌝ }
-{
-    if i < s.len() {
-        s[i] = x;
-    }
-}
-
-fn put64(s: &mut [u64], i: usize, x: u64)
-    ensures { λ _. ⌜ now (s .exit) ≡ set (now (s .entry)) i x ⌝ }
-{
-    if i < s.len() {
-        s[i] = x;
-    }
 }
 
 // The number of an entry, as operands have it.

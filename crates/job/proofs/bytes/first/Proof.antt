@@ -1,4 +1,3 @@
-use Rattle.job.proofs.Leaves.{fill-all, set-past}
 use lib.ListN.{List·getD-eq-default}
 use borrow.Author.Needs.{needs}
 use Rattle.job.proofs.bytes.first.Statement.{statement}
@@ -11,7 +10,7 @@ returns : tie.Need-returns
 returns c = search needs
 
 returns-2 : tie.Need-returns-2
-returns-2 c = let h0 = c .if1 .left in simp (List·getD-eq-default, set-past, fill-all)
+returns-2 c = let h0 = c .if1 .left in simp (List·getD-eq-default)
 
 pub first-spec : {M : Type 1} → statement M
 first-spec = tie.close (tie.spec shared-slice-read-result returns returns-2)

@@ -1,5 +1,5 @@
 use Rattle.job.proofs.Leaves.{rest-short}
-use Rattle.job.proofs.Leaves.{fill-all, set-past, take-rest}
+use Rattle.job.proofs.Leaves.{take-rest}
 use Rattle.job.specs.Bytes.{restOf}
 use borrow.Author.Needs.{needs}
 use Rattle.job.proofs.bytes.rest.Statement.{statement}
@@ -31,7 +31,7 @@ slice-aggregate-result c = search needs
 
 returns : tie.Need-returns
 unfolding restOf
-returns c = let h0 = c .before .if1 .taken in simp (take-rest, set-past, fill-all, ← c .before .before .width .ensures, ← c .before .before .before .first .ensures)
+returns c = let h0 = c .before .if1 .taken in simp (take-rest, ← c .before .before .width .ensures, ← c .before .before .before .first .ensures)
 
 returns-2 : tie.Need-returns-2
 returns-2 c = rest-short _ _ _ (c .before .before .before .first .ensures) (c .before .before .width .ensures) (c .before .if1 .left)

@@ -1,4 +1,3 @@
-use Rattle.job.proofs.Leaves.{fill-all, set-past}
 use Rattle.job.specs.Entries.{partDepth}
 use borrow.Author.Tests.{le-ltb, lt-ltb}
 use lib.ListN.{List·getD-eq-default}
@@ -15,7 +14,7 @@ returns c = simp (lt-ltb _ _ (c .before .before .if1 .taken))
 
 returns-2 : tie.Need-returns-2
 unfolding partDepth
-returns-2 c = let h0 = c .if2 .left in simp (List·getD-eq-default, set-past, fill-all, lt-ltb _ _ (c .before .if1 .taken))
+returns-2 c = let h0 = c .if2 .left in simp (List·getD-eq-default, lt-ltb _ _ (c .before .if1 .taken))
 
 returns-3 : tie.Need-returns-3
 unfolding partDepth

@@ -1,5 +1,5 @@
-use Rattle.job.specs.Entries.{typedOf}
-use borrow.Author.Tests.{le-ltb, lt-ltb}
+use mathlib.Core.Path.{sym}
+use Rattle.job.proofs.TypeLaws.{typed-low, typed-deep}
 use borrow.Author.Needs.{needs}
 use Rattle.job.proofs.declared.typed.Statement.{statement}
 use Rattle.job.proofs.declared.typed.Tie as tie
@@ -8,12 +8,10 @@ add-t5 : tie.Need-add-t5
 add-t5 c = search needs
 
 returns : tie.Need-returns
-unfolding typedOf
-returns c = simp (lt-ltb _ _ (c .if1 .taken))
+returns c = typed-low _ _ _ (c .if1 .taken)
 
 returns-2 : tie.Need-returns-2
-unfolding typedOf
-returns-2 c = simp (le-ltb _ _ (c .if1 .left))
+returns-2 c = sym (typed-deep _ _ _ (c .if1 .left))
 
 pub typed-spec : {M : Type 1} → statement M
 typed-spec = tie.close (tie.spec add-t5 returns returns-2)
