@@ -77,7 +77,7 @@ all-called {heads} {slots} (next-call {cs = cs} {o = o} h t) =
     ap (λ l. ranIn o ∷ l) (all-called t) ∙ ap (λ (r : Ran). r ∷ calls (codeIn heads slots) cs (r .machine)) (called h)
 
 -- an accepted job is free of 8 to 10
-accepted-tree : (bytes : List ℕ) (J : Job) {T : Ty} {e : Effect} → verdictOf bytes ≡ accept T e → reading bytes ≡ read J → treeRefusal (sourceOf J) ≡ none
+pub accepted-tree : (bytes : List ℕ) (J : Job) {T : Ty} {e : Effect} → verdictOf bytes ≡ accept T e → reading bytes ≡ read J → treeRefusal (sourceOf J) ≡ none
 unfolding verdictOf judgeRead judge unless
 accepted-tree bytes J {T} {e} v i = at (treeRefusal (sourceOf J)) refl (sym (ap judgeRead i) ∙ v)
   where
@@ -86,11 +86,11 @@ accepted-tree bytes J {T} {e} v i = at (treeRefusal (sourceOf J)) refl (sym (ap 
     at (some q) f g = absurd (let h : refuse q ≡ accept T e = rw f at g in let z : _≡_ {A = ℕ} 0 1 = cc in omega arith)
 
 -- the start of a job that is read and free of 8 to 10
-start-is : (w : JobTables) (bytes : List ℕ) (J : Job) → starting.short w ≡ false → reading bytes ≡ read J → treeRefusal (sourceOf J) ≡ none → startWith w bytes ≡ started (startOf (sourceOf J))
+pub start-is : (w : JobTables) (bytes : List ℕ) (J : Job) → starting.short w ≡ false → reading bytes ≡ read J → treeRefusal (sourceOf J) ≡ none → startWith w bytes ≡ started (startOf (sourceOf J))
 unfolding startWith starting.starting startRead starting.unless
 start-is w bytes J a i t = rw (a, i, t)
 
-after-is : (w : JobTables) (bytes : List ℕ) (J : Job) → starting.short w ≡ false → reading bytes ≡ read J → treeRefusal (sourceOf J) ≡ none → tablesAfterStart w bytes ≡ filledBy J w
+pub after-is : (w : JobTables) (bytes : List ℕ) (J : Job) → starting.short w ≡ false → reading bytes ≡ read J → treeRefusal (sourceOf J) ≡ none → tablesAfterStart w bytes ≡ filledBy J w
 unfolding tablesAfterStart starting.starting startRead starting.unless keptOn filledRead
 after-is w bytes J a i t = rw (a, i, t)
 

@@ -1,17 +1,20 @@
 -- Running a job: it is started, and if that is not refused the calls are made on its machine.
 use mathlib.Core.Path.{_≡_}
-use Prim.Native.Nat.{ℕ}
-use mathlib.Core.List.{List, [], _∷_}
-use lib.ListN.{length, set}
+use Prim.Native.Nat.{ℕ, _*_}
+use mathlib.Core.Bool.{Bool, true, false}
+use mathlib.Core.List.{List, [], _∷_, _++_}
+use lib.ListN.{length, set, drop}
 use Rattle.syntax.specs.Commands.{Cmd}
 use Rattle.syntax.specs.Words.{codeIn}
 use Rattle.syntax.specs.Reading.{Refusal}
 use Rattle.semantics.specs.Machine.{Machine as Clean}
+use Rattle.semantics.specs.Calls.{calls}
 use Rattle.semantics.specs.Starting.{Started, started, unstarted, JobTables, startWith, tablesAfterStart}
 use Rattle.store.specs.Tables.{capped}
 use Rattle.machine.specs.declared.Thread.{Thread}
-use Rattle.calls.specs.Words.{over}
+use Rattle.calls.specs.Words.{callsIn, resultWords, lastOf, over}
 use Rattle.calls.specs.Made.{Made}
+use Rattle.session.specs.Session.{roomFor}
 
 -- the cells, keys, pairs, functions, frames and bindings that a machine uses
 unfoldable pub roomWords : Clean → List ℕ
@@ -26,11 +29,25 @@ unfoldable pub numberOf : Started → ℕ
 numberOf (started m) = 0
 numberOf (unstarted q) = q .number
 
+-- the start of a job whose calls have room for their answers; 1 where they have none, and nothing is written then but the place
+unfoldable pub openedWith : Bool → JobTables → List ℕ → Started
+openedWith true w s = startWith w s
+openedWith false w s = unstarted (record { number = 1; place = 0 })
+
+unfoldable pub openedTables : Bool → JobTables → List ℕ → JobTables
+openedTables true w s = tablesAfterStart w s
+openedTables false w s = w
+
 -- the calls `words` on machine m: a and a' are the answers before and after, k and k' the rooms
 pub record Goes (code : ℕ → Cmd ℕ) (words : List ℕ) (m : Clean) (a a' k k' : List ℕ) : Type 0 where
   pub last : Clean
   pub made : Made code words m a a' last
   pub rooms : k' ≡ over k (roomWords last)
+
+-- the same with all answers written
+pub record Ran (code : ℕ → Cmd ℕ) (words : List ℕ) (m : Clean) (a a' k k' : List ℕ) : Type 0 where
+  pub answers : a' ≡ resultWords (calls code (callsIn words) m) ++ drop (2 * length words) a
+  pub rooms : k' ≡ over k (roomWords (lastOf code (callsIn words) m))
 
 -- a refusal writes its place and makes no call
 pub record Stops (q : Refusal) (a a' k k' : List ℕ) : Type 0 where
@@ -39,7 +56,7 @@ pub record Stops (q : Refusal) (a a' k k' : List ℕ) : Type 0 where
 
 -- the answer r to `bytes` with the lent tables w, which are x afterwards, and the calls `words` with the answers and rooms
 pub record Runs (bytes : List ℕ) (r : ℕ) (words : List ℕ) (w x : JobTables) (a a' k k' : List ℕ) : Type 0 where
-  pub tables : x ≡ tablesAfterStart w bytes
-  pub number : r ≡ numberOf (startWith w bytes)
-  pub goes : (m : Clean) → startWith w bytes ≡ started m → Goes (codeIn (x .heads) (x .slots)) words m a a' k k'
-  pub stops : (q : Refusal) → startWith w bytes ≡ unstarted q → Stops q a a' k k'
+  pub tables : x ≡ openedTables (roomFor words a) w bytes
+  pub number : r ≡ numberOf (openedWith (roomFor words a) w bytes)
+  pub goes : (m : Clean) → openedWith (roomFor words a) w bytes ≡ started m → Ran (codeIn (x .heads) (x .slots)) words m a a' k k'
+  pub stops : (q : Refusal) → openedWith (roomFor words a) w bytes ≡ unstarted q → Stops q a a' k k'

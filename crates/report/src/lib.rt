@@ -22,7 +22,7 @@ pub struct Text {
 }
 
 // A text with nothing written.
-fn empty() -> Text
+pub fn empty() -> Text
     ensures { λ r. ⌜ textOf r ≡ [] ⌝ }
 {
     Text {

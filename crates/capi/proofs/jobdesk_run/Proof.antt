@@ -1,4 +1,4 @@
-use Rattle.capi.proofs.Laws.{runs-started, runs-refused}
+use Rattle.capi.proofs.Laws.{runs-short, runs-started, runs-refused}
 use borrow.Author.Needs.{needs}
 use Rattle.capi.proofs.jobdesk_run.Statement.{statement}
 use Rattle.capi.proofs.jobdesk_run.Tie as tie
@@ -10,114 +10,101 @@ use Rattle.capi.proofs.put.Reads as put-reads
 use Rattle.capi.proofs.wide.Reads as wide-reads
 use Rattle.capi.proofs.wide8.Reads as wide8-reads
 
--- src/lib.rt:95:9
-start-requires : tie.Need-start-requires
-start-requires c κs = search needs
-
--- src/lib.rt:99:17
-enum-told : tie.Need-enum-told
-enum-told c = search needs
-
--- src/lib.rt:100:13
-go-requires : tie.Need-go-requires
-go-requires c κs = search needs
-
--- src/lib.rt:103:23
-enum-known-told : tie.Need-enum-known-told
-enum-known-told c = search needs
-
--- src/lib.rt:104:27
-wide-requires : tie.Need-wide-requires
-wide-requires c κs = search needs
-
--- src/lib.rt:104:13
 put-requires : tie.Need-put-requires
 put-requires c κs = search needs
 
--- src/lib.rt:105:13
+same-length : tie.Need-same-length
+same-length c = c .before .rooms .given
+
+returns : tie.Need-returns
+returns c = runs-short _ _ _ _ _ _ (c .before .before .before .before .if1 .taken) (c .before .before .put .ensures)
+
+start-requires : tie.Need-start-requires
+start-requires c κs = search needs
+
+enum-told : tie.Need-enum-told
+enum-told c = search needs
+
+go-requires : tie.Need-go-requires
+go-requires c κs = search needs
+
+enum-known-told : tie.Need-enum-known-told
+enum-known-told c = search needs
+
+wide-requires : tie.Need-wide-requires
+wide-requires c κs = search needs
+
+put-requires-2 : tie.Need-put-requires-2
+put-requires-2 c κs = search needs
+
 wide8-requires : tie.Need-wide8-requires
 wide8-requires c κs = search needs
 
--- src/lib.rt:80:1
-same-length : tie.Need-same-length
-same-length c = search needs
-
--- src/lib.rt:80:1
 same-length-2 : tie.Need-same-length-2
-same-length-2 c = search needs
+same-length-2 c = c .before .before .before .before .before .before .before .before .before .before .before .before .before .before .before .before .before .before .before .before .before .before .before .names .given
 
--- src/lib.rt:80:1
 same-length-3 : tie.Need-same-length-3
-same-length-3 c = search needs
+same-length-3 c = c .before .before .before .before .before .before .before .before .before .before .before .before .before .before .before .before .before .before .before .before .before .types .given
 
--- src/lib.rt:80:1
 same-length-4 : tie.Need-same-length-4
-same-length-4 c = search needs
+same-length-4 c = c .before .before .before .before .before .before .before .before .before .before .before .before .before .before .before .before .before .before .before .sets .given
 
--- src/lib.rt:80:1
 same-length-5 : tie.Need-same-length-5
-same-length-5 c = search needs
+same-length-5 c = c .before .before .before .before .before .before .before .before .before .before .before .before .before .before .before .before .before .values .given
 
--- src/lib.rt:80:1
 same-length-6 : tie.Need-same-length-6
-same-length-6 c = search needs
+same-length-6 c = c .before .before .before .before .before .before .before .before .before .before .before .before .before .before .before .heads .given
 
--- src/lib.rt:80:1
 same-length-7 : tie.Need-same-length-7
-same-length-7 c = search needs
+same-length-7 c = c .before .before .before .before .before .before .before .before .before .before .before .before .before .slots .given
 
--- src/lib.rt:80:1
 same-length-8 : tie.Need-same-length-8
-same-length-8 c = search needs
+same-length-8 c = c .before .before .before .answers .given
 
--- src/lib.rt:80:1
-returns : tie.Need-returns
-returns c = runs-started (c .before .before .before .before .before .before .before .before .before .before .before .before .before .before .before .before .before .before .before .before .before .before .before .before .start .result) (c .before .before .before .before .before .before .before .before .before .before .before .before .before .before .before .before .before .before .before .before .before .before .before .before .start .ensures) (c .before .before .before .before .before .before .before .before .before .before .enum-told .given .1) (c .before .before .before .before .go .ensures)
-
--- src/lib.rt:80:1
 same-length-9 : tie.Need-same-length-9
-same-length-9 c = search needs
+same-length-9 c = c .before .rooms2 .given
 
--- src/lib.rt:80:1
-same-length-10 : tie.Need-same-length-10
-same-length-10 c = search needs
-
--- src/lib.rt:80:1
-same-length-11 : tie.Need-same-length-11
-same-length-11 c = search needs
-
--- src/lib.rt:80:1
-same-length-12 : tie.Need-same-length-12
-same-length-12 c = search needs
-
--- src/lib.rt:80:1
-same-length-13 : tie.Need-same-length-13
-same-length-13 c = search needs
-
--- src/lib.rt:80:1
-same-length-14 : tie.Need-same-length-14
-same-length-14 c = search needs
-
--- src/lib.rt:80:1
-same-length-15 : tie.Need-same-length-15
-same-length-15 c = search needs
-
--- src/lib.rt:80:1
 returns-2 : tie.Need-returns-2
-returns-2 c = runs-refused (c .before .before .before .before .before .before .before .before .before .before .before .before .before .before .before .before .before .before .before .before .before .start .result) (c .before .before .before .before .before .before .before .before .before .before .before .before .before .before .before .before .before .before .before .before .before .start .ensures) _ _ (c .before .before .before .before .before .before .before .told .given .1) (c .wide8 .ensures) (c .before .before .before .before .wide .ensures) (c .before .before .before .put .ensures)
+returns-2 c = runs-started _ _ _ (c .before .before .before .before .before .before .before .before .before .before .before .before .before .before .before .before .before .before .before .before .before .before .before .before .start .result) (c .before .before .before .before .before .before .before .before .before .before .before .before .before .before .before .before .before .before .before .before .before .before .before .before .start .ensures) (c .before .before .before .before .before .before .before .before .before .before .before .before .before .before .before .before .before .before .before .before .before .before .before .before .before .before .before .before .before .before .before .if1 .left) (c .before .before .before .before .before .before .before .before .before .before .enum-told .given .1) (c .before .before .before .before .go .ensures)
+
+same-length-10 : tie.Need-same-length-10
+same-length-10 c = c .before .before .before .before .before .before .before .before .before .before .before .before .before .before .before .before .before .before .before .before .names .given
+
+same-length-11 : tie.Need-same-length-11
+same-length-11 c = c .before .before .before .before .before .before .before .before .before .before .before .before .before .before .before .before .before .before .types .given
+
+same-length-12 : tie.Need-same-length-12
+same-length-12 c = c .before .before .before .before .before .before .before .before .before .before .before .before .before .before .before .before .sets .given
+
+same-length-13 : tie.Need-same-length-13
+same-length-13 c = c .before .before .before .before .before .before .before .before .before .before .before .before .before .before .values .given
+
+same-length-14 : tie.Need-same-length-14
+same-length-14 c = c .before .before .before .before .before .before .before .before .before .before .before .before .heads .given
+
+same-length-15 : tie.Need-same-length-15
+same-length-15 c = c .before .before .before .before .before .before .before .before .before .before .slots .given
+
+same-length-16 : tie.Need-same-length-16
+same-length-16 c = c .before .before .rooms3 .given
+
+returns-3 : tie.Need-returns-3
+returns-3 c = runs-refused _ _ _ (c .before .before .before .before .before .before .before .before .before .before .before .before .before .before .before .before .before .before .before .before .before .start .result) (c .before .before .before .before .before .before .before .before .before .before .before .before .before .before .before .before .before .before .before .before .before .start .ensures) (c .before .before .before .before .before .before .before .before .before .before .before .before .before .before .before .before .before .before .before .before .before .before .before .before .before .before .before .before .if1 .left) _ _ (c .before .before .before .before .before .before .before .told .given .1) (c .wide8 .ensures) (c .before .before .before .before .wide .ensures) (c .before .before .before .put2 .ensures)
 
 pub jobdesk-run-spec : {M : Type 1} → statement M
 jobdesk-run-spec =
     tie.close
     (tie.spec
+    put-requires
+    same-length
+    returns
     start-requires
     enum-told
     go-requires
     enum-known-told
     wide-requires
-    put-requires
+    put-requires-2
     wide8-requires
-    same-length
     same-length-2
     same-length-3
     same-length-4
@@ -125,12 +112,13 @@ jobdesk-run-spec =
     same-length-6
     same-length-7
     same-length-8
-    returns
     same-length-9
+    returns-2
     same-length-10
     same-length-11
     same-length-12
     same-length-13
     same-length-14
     same-length-15
-    returns-2)
+    same-length-16
+    returns-3)

@@ -1,0 +1,56 @@
+-- A session for C and Rust: a job is checked and, if it is accepted, started and called. `SessionTo` has what that gives, demand 3 among it.
+use mathlib.Core.Path.{_≡_}
+use Prim.Native.Nat.{ℕ, _*_}
+use mathlib.Core.Bool.{Bool, true, false}
+use mathlib.Core.List.{List, _++_}
+use lib.ListN.{length, drop}
+use lib.Dec.{ltb}
+use Rattle.order.specs.Bools.{_or_}
+use Rattle.typing.specs.Tables.{Tables}
+use Rattle.machine.specs.View.{seen}
+use Rattle.calls.specs.Words.{over}
+use Rattle.session.specs.declared.Held.{Held}
+use Rattle.session.specs.Session.{SessionTo}
+use Rattle.capi.specs.Checks.{numberFor, outWords}
+use Rattle.capi.specs.Results.{valueWords, cellWords}
+
+-- the slices for what a session gives: answers, value, cells, and what is told of the verdict
+pub record Lent : Type 0 where
+  pub answers : List ℕ
+  pub value : List ℕ
+  pub cells : List ℕ
+  pub out : List ℕ
+
+abbrev pub lent : List ℕ → List ℕ → List ℕ → List ℕ → Lent
+lent a v c o = record { answers = a; value = v; cells = c; out = o }
+
+-- one of them is too short
+unfoldable pub lentShort : List ℕ → List ℕ → List ℕ → List ℕ → List ℕ → Bool
+lentShort words a v c o = ltb (length a) (2 * length words) or ltb (length v) 2 or ltb (length c) 512 or ltb (length o) 2
+
+-- what is told of a session that ended, as far as there are places
+pub record Reported (h : Held) (r : ℕ) (v v' c c' o o' : List ℕ) : Type 0 where
+  pub number : r ≡ numberFor (h .verdict)
+  pub value : v' ≡ over v (valueWords (seen (h .machine)))
+  pub cells : c' ≡ over c (cellWords (seen (h .machine)))
+  pub out : o' ≡ over o (outWords (h .verdict))
+
+-- a session that ended, all of it told
+pub record Ended (bytes words : List ℕ) (r : ℕ) (w x : Tables) (l k : Lent) : Type 0 where
+  pub held : Held
+  pub to : SessionTo bytes words held w x (l .answers) (k .answers)
+  pub number : r ≡ numberFor (held .verdict)
+  pub value : k .value ≡ valueWords (seen (held .machine)) ++ drop 2 (l .value)
+  pub cells : k .cells ≡ cellWords (seen (held .machine)) ++ drop 512 (l .cells)
+  pub out : k .out ≡ outWords (held .verdict) ++ drop 2 (l .out)
+
+-- 1, and nothing is written
+pub record Untouched (r : ℕ) (w x : Tables) (l k : Lent) : Type 0 where
+  pub number : r ≡ 1
+  pub tables : x ≡ w
+  pub lent-same : k ≡ l
+
+-- the answer r to `bytes` and the calls `words` with the lent tables w and slices l, which are x and k afterwards
+pub record Sessions (bytes words : List ℕ) (r : ℕ) (w x : Tables) (l k : Lent) : Type 0 where
+  pub short : lentShort words (l .answers) (l .value) (l .cells) (l .out) ≡ true → Untouched r w x l k
+  pub long : lentShort words (l .answers) (l .value) (l .cells) (l .out) ≡ false → Ended bytes words r w x l k
