@@ -16,6 +16,7 @@ ghost use Rattle.typing.specs.Layout as layout;
 ghost use Rattle.typing.specs.Numbered.{keyIn, resultAt};
 ghost use Rattle.names.specs.Ancestors.{reduceBy, touchBy};
 ghost use Rattle.types.specs.Entry.{entryOf};
+ghost use Rattle.types.specs.Known.{Known};
 ghost use Rattle.infer.specs.Answer.{made, resultIn};
 ghost use Rattle.infer.specs.Ops.{opsBy};
 ghost use Rattle.infer.specs.Commands as by;
@@ -52,10 +53,19 @@ fn touched(anc: &[u64; 64], q: Name, s: u64) -> u64
 }
 
 // Whether type a is a subtype of type t. One of them is a declared type, which is no deeper than 16.
-fn fits<'a>(anc: &'a [u64; 64], types: &'a [u64], sets: &'a [u64], a: u16, t: u16) -> bool
-    ensures { λ r. ⌜ r ≡ by.fitsBy (now (anc .entry)) (now (types .entry)) (now (sets .entry)) a t ⌝ }
+fn fits<'a>(
+    anc: &'a [u64; 64],
+    types: &'a [u64],
+    sets: &'a [u64],
+    a: u16,
+    t: u16,
+    known: &mut [u64],
+) -> bool
+    requires { ⌜ Known (now anc) (now types) (now sets) (now known) ⌝ }
+    ensures { λ r. ⌜ (r ≡ by.fitsBy (now (anc .entry)) (now (types .entry)) (now (sets .entry)) a t)
+        × Known (now (anc .entry)) (now (types .entry)) (now (sets .entry)) (now (known .exit)) ⌝ }
 {
-    types::below(16, anc, types, sets, a, t)
+    types::below(16, anc, types, sets, a, t, known)
 }
 
 // 30, 31, 32.
@@ -115,13 +125,16 @@ fn apply<'a>(
     sets: &'a [u64],
     x: Operand,
     y: Operand,
+    known: &mut [u64],
 ) -> Typing
-    ensures { λ r. ⌜ resultIn r ≡ by.applyBy (now (anc .entry)) (now (types .entry)) (now (sets .entry)) x y ⌝ }
+    requires { ⌜ Known (now anc) (now types) (now sets) (now known) ⌝ }
+    ensures { λ r. ⌜ (resultIn r ≡ by.applyBy (now (anc .entry)) (now (types .entry)) (now (sets .entry)) x y)
+        × Known (now (anc .entry)) (now (types .entry)) (now (sets .entry)) (now (known .exit)) ⌝ }
 {
     let Entry::Function(q, t, u, l) = entry_at(types, sets, x.ty) else {
         return Typing::Wrong(11);
     };
-    if fits(anc, types, sets, y.ty, t) {
+    if fits(anc, types, sets, y.ty, t, known) {
         let s = join(l, join(x.effect, y.effect));
         return Typing::Points(u, touched(anc, q, s));
     }
@@ -129,10 +142,19 @@ fn apply<'a>(
 }
 
 // 37.
-fn cell<'a>(anc: &'a [u64; 64], types: &'a [u64], sets: &'a [u64], t: u16, x: Operand) -> Typing
-    ensures { λ r. ⌜ resultIn r ≡ by.cellBy (now (anc .entry)) (now (types .entry)) (now (sets .entry)) t x ⌝ }
+fn cell<'a>(
+    anc: &'a [u64; 64],
+    types: &'a [u64],
+    sets: &'a [u64],
+    t: u16,
+    x: Operand,
+    known: &mut [u64],
+) -> Typing
+    requires { ⌜ Known (now anc) (now types) (now sets) (now known) ⌝ }
+    ensures { λ r. ⌜ (resultIn r ≡ by.cellBy (now (anc .entry)) (now (types .entry)) (now (sets .entry)) t x)
+        × Known (now (anc .entry)) (now (types .entry)) (now (sets .entry)) (now (known .exit)) ⌝ }
 {
-    if fits(anc, types, sets, x.ty, t) {
+    if fits(anc, types, sets, x.ty, t, known) {
         return Typing::Makes(Entry::Cell(Name(0), t), x.effect);
     }
     Typing::Wrong(12)
@@ -145,13 +167,16 @@ fn assign<'a>(
     sets: &'a [u64],
     x: Operand,
     y: Operand,
+    known: &mut [u64],
 ) -> Typing
-    ensures { λ r. ⌜ resultIn r ≡ by.assignBy (now (anc .entry)) (now (types .entry)) (now (sets .entry)) x y ⌝ }
+    requires { ⌜ Known (now anc) (now types) (now sets) (now known) ⌝ }
+    ensures { λ r. ⌜ (resultIn r ≡ by.assignBy (now (anc .entry)) (now (types .entry)) (now (sets .entry)) x y)
+        × Known (now (anc .entry)) (now (types .entry)) (now (sets .entry)) (now (known .exit)) ⌝ }
 {
     let Entry::Cell(q, t) = entry_at(types, sets, x.ty) else {
         return Typing::Wrong(11);
     };
-    if fits(anc, types, sets, y.ty, t) {
+    if fits(anc, types, sets, y.ty, t, known) {
         return Typing::Points(t, touched(anc, q, join(x.effect, y.effect)));
     }
     Typing::Wrong(12)
@@ -190,16 +215,19 @@ fn test<'a>(
     y: Operand,
     z: Operand,
     t: u16,
+    known: &mut [u64],
 ) -> Typing
-    ensures { λ r. ⌜ resultIn r ≡ by.testBy (now (anc .entry)) (now (types .entry)) (now (sets .entry)) x y z t ⌝ }
+    requires { ⌜ Known (now anc) (now types) (now sets) (now known) ⌝ }
+    ensures { λ r. ⌜ (resultIn r ≡ by.testBy (now (anc .entry)) (now (types .entry)) (now (sets .entry)) x y z t)
+        × Known (now (anc .entry)) (now (types .entry)) (now (sets .entry)) (now (known .exit)) ⌝ }
 {
     let Entry::Number(q) = entry_at(types, sets, x.ty) else {
         return Typing::Wrong(11);
     };
-    if fits(anc, types, sets, y.ty, t) {} else {
+    if fits(anc, types, sets, y.ty, t, known) {} else {
         return Typing::Wrong(12);
     }
-    if fits(anc, types, sets, z.ty, t) {} else {
+    if fits(anc, types, sets, z.ty, t, known) {} else {
         return Typing::Wrong(12);
     }
     let s = join(x.effect, join(y.effect, z.effect));
@@ -288,8 +316,11 @@ fn new_key<'a>(
     x: Operand,
     y: Operand,
     t: u16,
+    known: &mut [u64],
 ) -> Typing
-    ensures { λ b. ⌜ resultIn b ≡ by.newKeyBy (now (anc .entry)) (now (types .entry)) (now (sets .entry)) (now (names .entry)) r x y t ⌝ }
+    requires { ⌜ Known (now anc) (now types) (now sets) (now known) ⌝ }
+    ensures { λ b. ⌜ (resultIn b ≡ by.newKeyBy (now (anc .entry)) (now (types .entry)) (now (sets .entry)) (now (names .entry)) r x y t)
+        × Known (now (anc .entry)) (now (types .entry)) (now (sets .entry)) (now (known .exit)) ⌝ }
 {
     let Entry::Limit(q, u) = entry_at(types, sets, x.ty) else {
         return Typing::Wrong(11);
@@ -297,7 +328,7 @@ fn new_key<'a>(
     if is_upper(names, r, u) {} else {
         return Typing::Wrong(11);
     }
-    if fits(anc, types, sets, y.ty, t) {} else {
+    if fits(anc, types, sets, y.ty, t, known) {} else {
         return Typing::Wrong(12);
     }
     let s = join(x.effect, names::raise(Name(r), u, y.effect));
@@ -383,31 +414,36 @@ fn two<'a>(
     effects: &'a [u64],
     names: &'a [u16],
     anc: &'a [u64; 64],
+    known: &mut [u64],
 ) -> Typing
-    requires { ⌜ (at ≤ 327675) × (x ≡ by.operandAt (now slots) (now entries) (now effects) at) ⌝ }
+    requires { ⌜ (at ≤ 327675) × (x ≡ by.operandAt (now slots) (now entries) (now effects) at) × Known (now anc) (now types) (now sets) (now known) ⌝ }
     ensures { λ r. ⌜ ((var : ℕ → ℕ) → resultIn r
         ≡ resultAt (opsBy (now (anc .entry)) (now (names .entry))) var (entryIn (now (types .entry)) (now (sets .entry)))
-        (λ a. getD (now (entries .entry)) a 0) (λ a. getD (now (effects .entry)) a 0) (by.twoIn (now (slots .entry)) w at)) ⌝ }
+        (λ a. getD (now (entries .entry)) a 0) (λ a. getD (now (effects .entry)) a 0) (by.twoIn (now (slots .entry)) w at))
+        × Known (now (anc .entry)) (now (types .entry)) (now (sets .entry)) (now (known .exit)) ⌝ }
 {
     let y = operand_at(slots, entries, effects, at + 1);
     match w % 256 {
         0x33 => return pair(anc, x, y),
-        0x36 => return apply(anc, types, sets, x, y),
-        0x38 => return assign(anc, types, sets, x, y),
+        0x36 => return apply(anc, types, sets, x, y, known),
+        0x38 => return assign(anc, types, sets, x, y, known),
         0x3A => return sum(anc, types, sets, x, y),
         0x3B => {
             let z = operand_at(slots, entries, effects, at + 2);
-            return test(anc, types, sets, x, y, z, at16(slots, at + 3));
+            return test(anc, types, sets, x, y, z, at16(slots, at + 3), known);
         }
         0x3D => return grant(anc, types, sets, x, y),
-        0x3E => return new_key(anc, types, sets, names, local(w), x, y, at16(slots, at + 2)),
+        0x3E => {
+            let t = at16(slots, at + 2);
+            return new_key(anc, types, sets, names, local(w), x, y, t, known);
+        }
         0x3F => return associate(anc, types, sets, x, y),
         _ => return number(),
     }
 }
 
 // Expression e: its command is in heads and slots, the entries and effects of the expressions before it in entries and effects, and
-// the entries of the variables in vars.
+// the entries of the variables in vars. What is known of comparisons is right, and stays so.
 pub fn result<'a>(
     e: u16,
     heads: &'a [u64],
@@ -419,11 +455,14 @@ pub fn result<'a>(
     vars: &'a [u16; 64],
     names: &'a [u16],
     anc: &'a [u64; 64],
+    known: &mut [u64],
 ) -> Typing
-    ensures { λ r. ⌜ resultIn r
+    requires { ⌜ Known (now anc) (now types) (now sets) (now known) ⌝ }
+    ensures { λ r. ⌜ (resultIn r
         ≡ resultAt (opsBy (now (anc .entry)) (now (names .entry))) (λ v. getD (now (vars .entry)) v 0)
         (entryIn (now (types .entry)) (now (sets .entry))) (λ a. getD (now (entries .entry)) a 0)
-        (λ a. getD (now (effects .entry)) a 0) (codeIn (now (heads .entry)) (now (slots .entry)) e) ⌝ }
+        (λ a. getD (now (effects .entry)) a 0) (codeIn (now (heads .entry)) (now (slots .entry)) e))
+        × Known (now (anc .entry)) (now (types .entry)) (now (sets .entry)) (now (known .exit)) ⌝ }
 {
     let w = at64(heads, e as usize);
     let at = (e as usize) * 5;
@@ -434,9 +473,21 @@ pub fn result<'a>(
         0x32 => return variable(vars, low(w)),
         0x34 => return part(anc, types, sets, x, lead(w)),
         0x35 => return function(at16(slots, at + 1), x),
-        0x37 => return cell(anc, types, sets, at16(slots, at + 1), x),
+        0x37 => return cell(anc, types, sets, at16(slots, at + 1), x, known),
         0x39 => return read(anc, types, sets, x),
         0x3C => return limit(anc, types, sets, slots, entries, effects, at, lead(w)),
-        _ => return two(w, at, x, slots, types, sets, entries, effects, names, anc),
+        _ => return two(
+            w,
+            at,
+            x,
+            slots,
+            types,
+            sets,
+            entries,
+            effects,
+            names,
+            anc,
+            known,
+        ),
     }
 }

@@ -1,6 +1,6 @@
 -- Laws that the functions' proofs cite: binders and entries by their kinds, and one turn of each loop.
 use mathlib.Core.Path.{_≡_, refl, sym, ap, _∙_, subst}
-use Prim.Native.Nat.{ℕ, suc, _+_, _-_, _/_, _%_, _<_, _≤_}
+use Prim.Native.Nat.{ℕ, zero, suc, _+_, _-_, _/_, _%_, _<_, _≤_}
 use native.Mathlib.Omega.{arith}
 use mathlib.Core.Bool.{Bool, true, false, cond}
 use mathlib.Core.List.{List, [], _∷_}
@@ -18,6 +18,8 @@ use Rattle.types.specs.declared.Entry.the-variants.{Number, Pair, Cell, Limit, 
 use Rattle.types.specs.declared.Entry.the-variants as entry
 use Rattle.types.specs.Entry.{entryOf}
 use Rattle.types.proofs.Entry.{the-type}
+use Rattle.types.specs.Known.{Known}
+use Rattle.types.proofs.Known.{known-none}
 use Rattle.numbering.proofs.Binder.{the-type as binders}
 use Rattle.infer.specs.Answer.{made}
 use Rattle.numbering.specs.declared.Binder.{Binder}
@@ -180,3 +182,12 @@ begun anc names values heads slots nt nv nc types sets entries effects {a = a} {
     subst (λ (o : Out). Ended o a ps qs rs ss)
     (ap (λ (x : Bound). afterBinders anc names heads slots nc x sets entries effects) (q ∙ ap (λ (u : List ℕ). boundFrom heads slots nc 0 (bound nt types u)) p))
     h
+
+-- a memory of words that are 0 is right
+pub none-known : (anc types sets : List ℕ) (n : ℕ) → Known anc types sets (replicate n 0)
+none-known anc types sets n = known-none anc types sets (zeros n)
+  where
+    zeros : (n i : ℕ) → _≡_ {A = ℕ} (getD (replicate n 0) i 0) 0
+    zeros zero i = refl
+    zeros (suc n) zero = refl
+    zeros (suc n) (suc i) = zeros n i

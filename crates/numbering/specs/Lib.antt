@@ -3,3 +3,4 @@ pub mod Pass
 pub mod OpsLaws
 pub mod BinderLaws
 pub mod Right
+pub mod Typed

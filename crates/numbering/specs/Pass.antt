@@ -5,6 +5,7 @@ use mathlib.Core.List.{List}
 use lib.ListN.{getD, set, replicate}
 use Rattle.syntax.specs.Words.{typeWord, setWord, codeIn, entryIn}
 use Rattle.typing.specs.Numbered.{Result, makes, points, wrong, resultAt}
+use Rattle.types.specs.Known.{Known}
 use Rattle.infer.specs.Ops.{opsBy}
 use Rattle.numbering.specs.declared.Next.{Next}
 use Rattle.numbering.specs.declared.Next.the-variants.{Count, Stop}
@@ -42,6 +43,10 @@ pub record Settled (r : Result) (e : ℕ) (w : Work) (n : Next) (ts ss os es : L
   pub sets : ss ≡ settled r e w .sets
   pub entries : os ≡ settled r e w .entries
   pub effects : es ≡ settled r e w .effects
+
+-- what was known of comparisons is right of the tables afterwards
+pub record Kept (types sets known types' sets' known' : List ℕ) : Type 0 where
+  pub right : (anc : List ℕ) → Known anc types sets known → Known anc types' sets' known'
 
 -- the answer, and the tables afterwards
 pub record Out : Type 0 where

@@ -9,9 +9,11 @@ ghost use mathlib.Core.Path.{_≡_};
 ghost use Prim.Native.Nat.{_%_, _≤_};
 ghost use Rattle.syntax.specs.Words.{typeBits, typeWord, setWord, codeIn};
 ghost use Rattle.types.specs.Entry.{entryOf};
+ghost use Rattle.types.specs.Known.{Known};
 ghost use Rattle.infer.specs.Answer.{made, resultIn};
 ghost use Rattle.numbering.specs.Binders.{binderOf, storeKey, bound, boundOne, boundFrom, hostsFrom};
-ghost use Rattle.numbering.specs.Pass.{work, Settled, typedFrom, Ended, numberedBy};
+ghost use Rattle.numbering.specs.Pass.{work, Settled, Kept, typedFrom, Ended};
+ghost use Rattle.numbering.specs.Typed.{Typed};
 
 // What an expression binds: a function's variable with the entry of its type, or a variable and a local name by 3E.
 pub enum Binder {
@@ -146,7 +148,7 @@ fn hosts(values: &[u64], n: u16, vars: &mut [u16; 64])
     }
 }
 
-// Writes the result of expression e, when n entries stand in the type table.
+// Writes the result of expression e, when n entries stand in the type table. What is known of comparisons stays right.
 fn settle(
     t: Typing,
     e: u16,
@@ -155,13 +157,16 @@ fn settle(
     sets: &mut [u64],
     entries: &mut [u16],
     effects: &mut [u64],
+    known: &mut [u64],
 ) -> Next
     requires { ⌜ n ≤ 524288 ⌝ }
     ensures { λ r. ⌜ Settled (resultIn t) e (work n (now (types .entry)) (now (sets .entry)) (now (entries .entry)) (now (effects .entry))) r
-        (now (types .exit)) (now (sets .exit)) (now (entries .exit)) (now (effects .exit)) ⌝ }
+        (now (types .exit)) (now (sets .exit)) (now (entries .exit)) (now (effects .exit))
+        × Kept (now (types .entry)) (now (sets .entry)) (now (known .entry)) (now (types .exit)) (now (sets .exit)) (now (known .exit)) ⌝ }
 {
     match t {
         Typing::Makes(x, s) => {
+            types::make_room(types, n, known);
             put64(types, n, type_word(x));
             put64(sets, n, set_word(x));
             put16(entries, e as usize, short(n));
@@ -190,8 +195,9 @@ fn type_all<'a>(
     sets: &mut [u64],
     entries: &mut [u16],
     effects: &mut [u64],
+    known: &mut [u64],
 ) -> Passed
-    requires { ⌜ n ≤ 262144 ⌝ }
+    requires { ⌜ (n ≤ 262144) × Known (now anc) (now types) (now sets) (now known) ⌝ }
     ensures { λ r. ⌜ Ended (typedFrom (now (anc .entry)) (now (names .entry)) (now (vars .entry)) (now (heads .entry)) (now (slots .entry)) cmds 0 (work n (now (types .entry)) (now (sets .entry)) (now (entries .entry)) (now (effects .entry)))) r (now (types .exit)) (now (sets .exit)) (now (entries .exit)) (now (effects .exit)) ⌝ }
 {
     let mut count = n;
@@ -208,8 +214,9 @@ fn type_all<'a>(
             vars,
             names,
             anc,
+            known,
         );
-        match settle(t, e, count, types, sets, entries, effects) {
+        match settle(t, e, count, types, sets, entries, effects, known) {
             Next::Count(m) => count = m,
             Next::Stop(k) => return Passed::Halted(k, e),
         }
@@ -219,7 +226,7 @@ fn type_all<'a>(
 }
 
 // From the tables of a job with so many declared types, host values and expressions: the entries of each 3E, then for each
-// expression its entry and its effect, and the entry that it makes. The first refusal ends it.
+// expression its entry and its effect, and the entry that it makes. The first refusal ends it. This is typing by numbers.
 pub fn number_all<'a>(
     names: &'a [u16],
     anc: &'a [u64; 64],
@@ -234,14 +241,31 @@ pub fn number_all<'a>(
     entries: &mut [u16],
     effects: &mut [u64],
 ) -> Passed
-    ensures { λ r. ⌜ Ended
-        (numberedBy (now (anc .entry)) (now (names .entry)) (now (values .entry)) (now (heads .entry)) (now (slots .entry)) declared given cmds
-        (now (types .entry)) (now (sets .entry)) (now (entries .entry)) (now (effects .entry))) r
+    ensures { λ r. ⌜ Typed (now (anc .entry)) (now (names .entry)) (now (values .entry)) (now (heads .entry)) (now (slots .entry)) declared given cmds
+        (now (types .entry)) (now (sets .entry)) (now (entries .entry)) (now (effects .entry)) r
         (now (types .exit)) (now (sets .exit)) (now (entries .exit)) (now (effects .exit)) ⌝ }
 {
     let mut vars = [0u16; 64];
     hosts(values, given, &mut vars);
     let n = bind(heads, slots, cmds, declared, types, &mut vars);
+    if declared < 6 { // a memory is not worth its cost: no comparison looks at more than 63 pairs
+        let mut known = [0u64; 1];
+        return type_all(
+            names,
+            anc,
+            &vars,
+            heads,
+            slots,
+            cmds,
+            n,
+            types,
+            sets,
+            entries,
+            effects,
+            &mut known,
+        );
+    }
+    let mut known = [0u64; 1021];
     type_all(
         names,
         anc,
@@ -254,5 +278,6 @@ pub fn number_all<'a>(
         sets,
         entries,
         effects,
+        &mut known,
     )
 }

@@ -1,18 +1,15 @@
 -- Comparison of two entries by their words: kinds first, then keys, then what the kind has.
 use mathlib.Core.Path.{_≡_, refl, sym, _∙_}
-use Prim.Native.Nat.{ℕ, zero, suc, _-_, _/_, _%_}
-use native.Mathlib.Numerals.{sub-one}
-use mathlib.Core.Bool.{Bool, true, false, cond, true≢false, false≢true}
-use mathlib.Core.List.{List}
+use Prim.Native.Nat.{ℕ, _/_, _%_}
+use mathlib.Core.Bool.{Bool, true, false, cond}
 use mathlib.Core.Logic.{_≢_}
 use mathlib.Core.Option.{none}
-use lib.ListN.{getD}
 use lib.Dec.{eqb}
 use borrow.Author.Tests.{eqb-true, eqb-false, eq-eqb, ne-eqb}
 use Rattle.order.specs.Bools.{_and_}
 use Rattle.order.specs.Effects.{Effect}
-use Rattle.syntax.specs.Words.{entryBits, entryIn}
-use Rattle.typing.specs.Entries.{ifNum, ifPair, ifCell, ifFn, ifLim, ifGrant, sameEntry, subEntry, superEntry, sameIn, subIn, superIn}
+use Rattle.syntax.specs.Words.{entryBits}
+use Rattle.typing.specs.Entries.{ifNum, ifPair, ifCell, ifFn, ifLim, ifGrant, levelBy}
 
 -- the kinds of entry
 data Kind : ℕ → Type 0 where
@@ -138,14 +135,18 @@ and-three true true z = refl
 and-three true false z = refl
 and-three false y z = refl
 
-and-four : (x y z w : Bool) → (x and y and z and w) ≡ cond x (cond y (cond z w false) false) false
+-- the last test may come second
+and-four : (x y z w : Bool) → (x and y and z and w) ≡ cond x (cond w (cond y z false) false) false
 unfolding _and_
-and-four true true true w = refl
-and-four true true false w = refl
-and-four true false z w = refl
+and-four true true true true = refl
+and-four true true true false = refl
+and-four true true false true = refl
+and-four true true false false = refl
+and-four true false z true = refl
+and-four true false z false = refl
 and-four false y z w = refl
 
-never : (x y : Bool) → false ≡ cond x (cond y false false) false
+pub never : (x y : Bool) → false ≡ cond x (cond y false false) false
 never true true = refl
 never true false = refl
 never false y = refl
@@ -164,187 +165,92 @@ byKind k l keys pairs cells functions owners =
     false)
     false
 
--- The three comparisons, by words
-
-same-words : {k l : ℕ} → Kind k → Kind l → (p a b s q c d t : ℕ) (rec : ℕ → ℕ → Bool)
-    → sameEntry (entryBits k p a b s) (entryBits l q c d t) rec ≡
-    byKind k l (eqb p q) (cond (rec a c) (rec b d) false) (rec a c) (cond (rec a c) (cond (rec b d) (eqb s t) false) false) (eqb (a % 256) (c % 256))
-unfolding sameEntry entryBits byKind
-same-words k-num h p a b s q c d t rec = rw (if-num q c d t h (λ r. eqb p r), ← one (eqb p q))
-same-words k-pair h p a b s q c d t rec = rw (if-pair q c d t h (λ r x y. eqb p r and rec a x and rec b y), and-three (eqb p q) (rec a c) (rec b d))
-same-words k-cell h p a b s q c d t rec = rw (if-cell q c d t h (λ r x. eqb p r and rec a x), and-two (eqb p q) (rec a c))
-same-words k-fn h p a b s q c d t rec = rw (if-fn q c d t h (λ r x y u. eqb p r and rec a x and rec b y and eqb s u), and-four (eqb p q) (rec a c) (rec b d) (eqb s t))
-same-words k-lim h p a b s q c d t rec = rw (if-lim q c d t h (λ r x. eqb p r and eqb (a % 256) x), and-two (eqb p q) (eqb (a % 256) (c % 256)))
-same-words k-grant h p a b s q c d t rec = rw (if-grant q c d t h (λ r x. eqb p r and eqb (a % 256) x), and-two (eqb p q) (eqb (a % 256) (c % 256)))
-same-words {k} {l} (k-none n0 n1 n2 n3 n4 n5) h p a b s q c d t rec =
-    simp (ne-eqb k 0x10 n0, ne-eqb k 0x11 n1, ne-eqb k 0x12 n2, ne-eqb k 0x13 n3, ne-eqb k 0x14 n4, ne-eqb k 0x15 n5)
-    (never (eqb k l) (eqb p q))
-
-module _ (bl : ℕ → ℕ → Bool) (eb : Effect → Effect → Bool) where
-  sub-words : {k l : ℕ} → Kind k → Kind l → (p a b s q c d t : ℕ) (sub super same : ℕ → ℕ → Bool)
-      → subEntry bl eb (entryBits k p a b s) (entryBits l q c d t) sub super same ≡
-      byKind k l (bl p q) (cond (sub a c) (sub b d) false) (same a c) (cond (super a c) (cond (sub b d) (eb s t) false) false) (eqb (a % 256) (c % 256))
-  unfolding subEntry entryBits byKind
-  sub-words k-num h p a b s q c d t sub super same = rw (if-num q c d t h (λ r. bl p r), ← one (bl p q))
-  sub-words k-pair h p a b s q c d t sub super same = rw (if-pair q c d t h (λ r x y. bl p r and sub a x and sub b y), and-three (bl p q) (sub a c) (sub b d))
-  sub-words k-cell h p a b s q c d t sub super same = rw (if-cell q c d t h (λ r x. bl p r and same a x), and-two (bl p q) (same a c))
-  sub-words k-fn h p a b s q c d t sub super same =
-      rw (if-fn q c d t h (λ r x y u. bl p r and super a x and sub b y and eb s u), and-four (bl p q) (super a c) (sub b d) (eb s t))
-  sub-words k-lim h p a b s q c d t sub super same = rw (if-lim q c d t h (λ r x. bl p r and eqb (a % 256) x), and-two (bl p q) (eqb (a % 256) (c % 256)))
-  sub-words k-grant h p a b s q c d t sub super same = rw (if-grant q c d t h (λ r x. bl p r and eqb (a % 256) x), and-two (bl p q) (eqb (a % 256) (c % 256)))
-  sub-words {k} {l} (k-none n0 n1 n2 n3 n4 n5) h p a b s q c d t sub super same =
-      simp (ne-eqb k 0x10 n0, ne-eqb k 0x11 n1, ne-eqb k 0x12 n2, ne-eqb k 0x13 n3, ne-eqb k 0x14 n4, ne-eqb k 0x15 n5)
-      (never (eqb k l) (bl p q))
-
-  super-words : {k l : ℕ} → Kind k → Kind l → (p a b s q c d t : ℕ) (sub super same : ℕ → ℕ → Bool)
-      → superEntry bl eb (entryBits k p a b s) (entryBits l q c d t) sub super same ≡
-      byKind k l (bl q p) (cond (super a c) (super b d) false) (same a c) (cond (sub a c) (cond (super b d) (eb t s) false) false) (eqb (a % 256) (c % 256))
-  unfolding superEntry entryBits byKind
-  super-words k-num h p a b s q c d t sub super same = rw (if-num q c d t h (λ r. bl r p), ← one (bl q p))
-  super-words k-pair h p a b s q c d t sub super same = rw (if-pair q c d t h (λ r x y. bl r p and super a x and super b y), and-three (bl q p) (super a c) (super b d))
-  super-words k-cell h p a b s q c d t sub super same = rw (if-cell q c d t h (λ r x. bl r p and same a x), and-two (bl q p) (same a c))
-  super-words k-fn h p a b s q c d t sub super same =
-      rw (if-fn q c d t h (λ r x y u. bl r p and sub a x and super b y and eb u s), and-four (bl q p) (sub a c) (super b d) (eb t s))
-  super-words k-lim h p a b s q c d t sub super same = rw (if-lim q c d t h (λ r x. bl r p and eqb (a % 256) x), and-two (bl q p) (eqb (a % 256) (c % 256)))
-  super-words k-grant h p a b s q c d t sub super same = rw (if-grant q c d t h (λ r x. bl r p and eqb (a % 256) x), and-two (bl q p) (eqb (a % 256) (c % 256)))
-  super-words {k} {l} (k-none n0 n1 n2 n3 n4 n5) h p a b s q c d t sub super same =
-      simp (ne-eqb k 0x10 n0, ne-eqb k 0x11 n1, ne-eqb k 0x12 n2, ne-eqb k 0x13 n3, ne-eqb k 0x14 n4, ne-eqb k 0x15 n5)
-      (never (eqb k l) (bl q p))
-
--- One level of a comparison
-
 -- the first and the second part of a word, and a key's own name
-abbrev firstOf : ℕ → ℕ
+abbrev pub firstOf : ℕ → ℕ
 firstOf w = w / 65536 % 65536
 
-abbrev secondOf : ℕ → ℕ
+abbrev pub secondOf : ℕ → ℕ
 secondOf w = w / 4294967296 % 65536
 
--- the answer for the words x and y and their sets s and t, where N tests keys, F effects, R two parts, R' the arguments of functions and C the contents of cells
-abbrev levelOf : (ℕ → ℕ → Bool) → (ℕ → ℕ → Bool) → (ℕ → ℕ → Bool) → (ℕ → ℕ → Bool) → (ℕ → ℕ → Bool) → ℕ → ℕ → ℕ → ℕ → Bool
-levelOf N R R' C F x y s t =
-    byKind (x % 256) (y % 256) (N (x / 256 % 256) (y / 256 % 256))
-    (cond (R (firstOf x) (firstOf y)) (R (secondOf x) (secondOf y)) false)
-    (C (firstOf x) (firstOf y))
-    (cond (R' (firstOf x) (firstOf y)) (cond (R (secondOf x) (secondOf y)) (F s t) false) false)
+-- the answer for the words x and y and their sets s and t
+abbrev pub levelOf : (ℕ → ℕ → Bool) → (ℕ → ℕ → Bool) → (ℕ → ℕ → Bool) → (ℕ → ℕ → Bool) → (ℕ → ℕ → Bool) → ℕ → ℕ → ℕ → ℕ → Bool
+levelOf ky ef rec arg eq x y s t =
+    byKind (x % 256) (y % 256) (ky (x / 256 % 256) (y / 256 % 256))
+    (cond (rec (firstOf x) (firstOf y)) (rec (secondOf x) (secondOf y)) false)
+    (eq (firstOf x) (firstOf y))
+    (cond (ef s t) (cond (arg (firstOf x) (firstOf y)) (rec (secondOf x) (secondOf y)) false) false)
     (eqb (firstOf x % 256) (firstOf y % 256))
 
-pub record Level (N R R' C F : ℕ → ℕ → Bool) (v : Bool) (x y s t : ℕ) : Type 0 where
-  pub by : v ≡ levelOf N R R' C F x y s t
+-- one level of a comparison by words
+module _ (ky : ℕ → ℕ → Bool) (ef : Effect → Effect → Bool) (rec arg eq : ℕ → ℕ → Bool) where
+  of-kinds : {k l : ℕ} → Kind k → Kind l → (p a b s q c d t : ℕ)
+      → levelBy ky ef rec arg eq (entryBits k p a b s) (entryBits l q c d t) ≡
+      byKind k l (ky p q) (cond (rec a c) (rec b d) false) (eq a c) (cond (ef s t) (cond (arg a c) (rec b d) false) false) (eqb (a % 256) (c % 256))
+  unfolding levelBy entryBits byKind
+  of-kinds k-num h p a b s q c d t = rw (if-num q c d t h (λ r. ky p r), ← one (ky p q))
+  of-kinds k-pair h p a b s q c d t = rw (if-pair q c d t h (λ r x y. ky p r and rec a x and rec b y), and-three (ky p q) (rec a c) (rec b d))
+  of-kinds k-cell h p a b s q c d t = rw (if-cell q c d t h (λ r x. ky p r and eq a x), and-two (ky p q) (eq a c))
+  of-kinds k-fn h p a b s q c d t = rw (if-fn q c d t h (λ r x y u. ky p r and arg a x and rec b y and ef s u), and-four (ky p q) (arg a c) (rec b d) (ef s t))
+  of-kinds k-lim h p a b s q c d t = rw (if-lim q c d t h (λ r x. ky p r and eqb (a % 256) x), and-two (ky p q) (eqb (a % 256) (c % 256)))
+  of-kinds k-grant h p a b s q c d t = rw (if-grant q c d t h (λ r x. ky p r and eqb (a % 256) x), and-two (ky p q) (eqb (a % 256) (c % 256)))
+  of-kinds {k} {l} (k-none n0 n1 n2 n3 n4 n5) h p a b s q c d t =
+      simp (ne-eqb k 0x10 n0, ne-eqb k 0x11 n1, ne-eqb k 0x12 n2, ne-eqb k 0x13 n3, ne-eqb k 0x14 n4, ne-eqb k 0x15 n5)
+      (never (eqb k l) (ky p q))
 
--- the test of two heads with the words the other way round
-pub turned : (bl : ℕ → ℕ → Bool) (x y : ℕ) {r : Bool}
-    → r ≡ cond (eqb (y % 256) (x % 256)) (bl (y / 256 % 256) (x / 256 % 256)) false → r ≡ cond (eqb (x % 256) (y % 256)) (bl (y / 256 % 256) (x / 256 % 256)) false
-turned bl x y {r} h = at (eqb (x % 256) (y % 256)) refl
-  where
-    at : (b : Bool) → eqb (x % 256) (y % 256) ≡ b → r ≡ cond b (bl (y / 256 % 256) (x / 256 % 256)) false
-    at true e = rw (eq-eqb (y % 256) (x % 256) (sym (eqb-true (x % 256) (y % 256) e))) at h
-    at false e = rw (ne-eqb (y % 256) (x % 256) (back (eqb-false (x % 256) (y % 256) e))) at h
+  pub of-words : (x y s t : ℕ)
+      → levelBy ky ef rec arg eq (entryBits (x % 256) (x / 256 % 256) (firstOf x) (secondOf x) s) (entryBits (y % 256) (y / 256 % 256) (firstOf y) (secondOf y) t) ≡ levelOf ky ef rec arg eq x y s t
+  of-words x y s t = of-kinds (kindOf (x % 256)) (kindOf (y % 256)) _ _ _ _ _ _ _ _
 
-both : (k l : ℕ) (n : Bool) {r : Bool} → r ≡ cond (eqb k l) n false → r ≡ true → (k ≡ l) × (n ≡ true)
-both k l n {r} h f = at (eqb k l) refl h
-  where
-    at : (b : Bool) → eqb k l ≡ b → r ≡ cond b n false → (k ≡ l) × (n ≡ true)
-    at true e z = (eqb-true k l e, sym z ∙ f)
-    at false e z = absurd (false≢true (sym z ∙ f))
+-- The answer v of a level, kind after kind
 
-module _ {N R R' C F : ℕ → ℕ → Bool} {v : Bool} {x y s t : ℕ} (h : Level N R R' C F v x y s t) {n : Bool} (hn : n ≡ cond (eqb (x % 256) (y % 256)) (N (x / 256 % 256) (y / 256 % 256)) false) where
-  pub heads-differ : n ≡ false → false ≡ v
+pub record Level (ky ef rec arg eq : ℕ → ℕ → Bool) (v : Bool) (x y s t : ℕ) : Type 0 where
+  pub by : v ≡ levelOf ky ef rec arg eq x y s t
+
+module _ {ky ef rec arg eq : ℕ → ℕ → Bool} {v : Bool} {x y s t : ℕ} (h : Level ky ef rec arg eq v x y s t) {k l : ℕ} (hk : k ≡ x % 256) (hl : l ≡ y % 256) where
+  pub kinds-differ : k ≢ l → v ≡ false
   unfolding byKind
-  heads-differ f = at (eqb (x % 256) (y % 256)) (N (x / 256 % 256) (y / 256 % 256)) (sym hn ∙ f) _ ∙ sym (h .by)
-    where
-      at : (b m : Bool) → cond b m false ≡ false → (w : Bool) → false ≡ cond b (cond m w false) false
-      at true true z w = absurd (true≢false z)
-      at true false z w = refl
-      at false m z w = refl
+  kinds-differ n = simp (h .by, ← hk, ← hl, ne-eqb k l n)
 
-  module _ (g : n ≡ true) {k : ℕ} (hk : k ≡ x % 256) where
-    of-kind : {z : ℕ} → k ≡ z → v ≡ byKind z z true (cond (R (firstOf x) (firstOf y)) (R (secondOf x) (secondOf y)) false) (C (firstOf x) (firstOf y))
-        (cond (R' (firstOf x) (firstOf y)) (cond (R (secondOf x) (secondOf y)) (F s t) false) false) (eqb (firstOf x % 256) (firstOf y % 256))
-    of-kind m = let u = both (x % 256) (y % 256) _ hn g in simp (h .by, u .1, ← u .0, ← hk, m)
-
-    pub numbers : k ≡ 0x10 → true ≡ v
+  module _ (e : k ≡ l) {p q : ℕ} (hp : p ≡ x / 256 % 256) (hq : q ≡ y / 256 % 256) {n : Bool} (hn : n ≡ ky p q) where
+    pub keys-differ : n ≡ false → v ≡ false
     unfolding byKind
-    numbers m = sym (of-kind m)
+    keys-differ f = simp (h .by, ← hk, ← hl, eq-eqb k l e, ← hp, ← hq, ← hn, f)
 
-    pub keys : k ≢ 0x10 → k ≢ 0x11 → k ≢ 0x12 → k ≢ 0x13 → {o : Bool}
-        → o ≡ cond (eqb (x % 256) 0x14) (eqb (firstOf x % 256) (firstOf y % 256)) (cond (eqb (x % 256) 0x15) (eqb (firstOf x % 256) (firstOf y % 256)) false) → o ≡ v
-    unfolding byKind
-    keys n0 n1 n2 n3 ho = simp (of-kind refl, ne-eqb k 0x10 n0, ne-eqb k 0x11 n1, ne-eqb k 0x12 n2, ne-eqb k 0x13 n3, eq-eqb k k refl) (simp (← hk) at ho)
+    module _ (f : n ≡ true) where
+      of-kind : v ≡ byKind k k true (cond (rec (firstOf x) (firstOf y)) (rec (secondOf x) (secondOf y)) false) (eq (firstOf x) (firstOf y))
+          (cond (ef s t) (cond (arg (firstOf x) (firstOf y)) (rec (secondOf x) (secondOf y)) false) false) (eqb (firstOf x % 256) (firstOf y % 256))
+      of-kind = simp (h .by, ← hk, ← hl, ← e, ← hp, ← hq, ← hn, f)
 
-    module _ {a b : ℕ} (ha : a ≡ firstOf x) (hb : b ≡ firstOf y) {r : Bool} where
-      pub cells : k ≡ 0x12 → r ≡ C a b → r ≡ v
+      pub numbers : k ≡ 0x10 → v ≡ true
       unfolding byKind
-      cells m hr = simp (of-kind m, ← ha, ← hb) hr
+      numbers m = simp (of-kind, m)
 
-      pub pairs-first : k ≡ 0x11 → r ≡ R a b → r ≡ false → false ≡ v
+      pub limits : k ≡ 0x14 → {o : ℕ} → o ≡ firstOf x % 256 → {r : ℕ} → r ≡ firstOf y % 256 → v ≡ eqb o r
       unfolding byKind
-      pairs-first m hr f = simp (of-kind m, ← ha, ← hb, ← hr, f)
+      limits m ho hr = simp (of-kind, m, ← ho, ← hr)
 
-      pub functions-first : k ≡ 0x13 → r ≡ R' a b → r ≡ false → false ≡ v
+      pub grants : k ≡ 0x15 → {o : ℕ} → o ≡ firstOf x % 256 → {r : ℕ} → r ≡ firstOf y % 256 → v ≡ eqb o r
       unfolding byKind
-      functions-first m hr f = simp (of-kind m, ← ha, ← hb, ← hr, f)
+      grants m ho hr = simp (of-kind, m, ← ho, ← hr)
 
-      module _ {c d : ℕ} (hc : c ≡ secondOf x) (hd : d ≡ secondOf y) {o : Bool} where
-        pub pairs : k ≡ 0x11 → r ≡ R a b → r ≡ true → o ≡ R c d → o ≡ v
+      pub others : k ≢ 0x10 → k ≢ 0x11 → k ≢ 0x12 → k ≢ 0x13 → k ≢ 0x14 → k ≢ 0x15 → v ≡ false
+      unfolding byKind
+      others n0 n1 n2 n3 n4 n5 = simp (of-kind, ne-eqb k 0x10 n0, ne-eqb k 0x11 n1, ne-eqb k 0x12 n2, ne-eqb k 0x13 n3, ne-eqb k 0x14 n4, ne-eqb k 0x15 n5, eq-eqb k k refl)
+
+      pub no-effects : k ≡ 0x13 → {i : ℕ} → i ≡ s → {j : ℕ} → j ≡ t → {w : Bool} → w ≡ ef i j → w ≡ false → v ≡ false
+      unfolding byKind
+      no-effects m hi hj hw g = simp (of-kind, m, ← hi, ← hj, ← hw, g)
+
+      module _ {a b : ℕ} (ha : a ≡ firstOf x) (hb : b ≡ firstOf y) where
+        pub cells : k ≡ 0x12 → v ≡ eq a b
         unfolding byKind
-        pairs m hr f ho = simp (of-kind m, ← ha, ← hb, ← hr, f, ← hc, ← hd) ho
+        cells m = simp (of-kind, m, ha, hb)
 
-        pub functions-second : k ≡ 0x13 → r ≡ R' a b → r ≡ true → o ≡ R c d → o ≡ false → false ≡ v
-        unfolding byKind
-        functions-second m hr f ho z = simp (of-kind m, ← ha, ← hb, ← hr, f, ← hc, ← hd, ← ho, z)
+        module _ {c d : ℕ} (hc : c ≡ secondOf x) (hd : d ≡ secondOf y) where
+          pub pairs : k ≡ 0x11 → v ≡ cond (rec a b) (rec c d) false
+          unfolding byKind
+          pairs m = simp (of-kind, m, ha, hb, hc, hd)
 
-        pub functions : k ≡ 0x13 → r ≡ R' a b → r ≡ true → o ≡ R c d → o ≡ true → {i j : ℕ} → i ≡ s → j ≡ t → {w : Bool} → w ≡ F i j → w ≡ v
-        unfolding byKind
-        functions m hr f ho z hi hj hw = simp (of-kind m, ← ha, ← hb, ← hr, f, ← hc, ← hd, ← ho, z, ← hi, ← hj) hw
-
--- The three comparisons of entries a and b of a table
-
-same-step : (types sets : List ℕ) (a b : ℕ) (d : ℕ) → (d ≡ 0 → ⊥) → sameIn d (entryIn types sets) a b ≡
-    levelOf (λ p q. eqb p q) (sameIn (d - 1) (entryIn types sets)) (sameIn (d - 1) (entryIn types sets)) (sameIn (d - 1) (entryIn types sets)) (λ s t. eqb s t)
-    (getD types a 0) (getD types b 0) (getD sets a 0) (getD sets b 0)
-unfolding sameIn entryIn
-same-step types sets a b zero h = absurd (h refl)
-same-step types sets a b (suc d) h = rw sub-one (same-words (kindOf (getD types a 0 % 256)) (kindOf (getD types b 0 % 256)) _ _ _ _ _ _ _ _ _)
-
-pub same-none : (types sets : List ℕ) (a b : ℕ) (d : ℕ) → d ≡ 0 → false ≡ sameIn d (entryIn types sets) a b
-unfolding sameIn
-same-none types sets a b d e = rw e
-
-pub same-level : (types sets : List ℕ) (a b : ℕ) (d : ℕ) → (d ≡ 0 → ⊥) → {x : ℕ} → x ≡ getD types a 0 → {y : ℕ} → y ≡ getD types b 0
-    → Level (λ p q. eqb p q) (sameIn (d - 1) (entryIn types sets)) (sameIn (d - 1) (entryIn types sets)) (sameIn (d - 1) (entryIn types sets)) (λ s t. eqb s t)
-    (sameIn d (entryIn types sets) a b) x y (getD sets a 0) (getD sets b 0)
-same-level types sets a b d n hx hy = record { by = simp (hx, hy) (same-step types sets a b d n) }
-
-module _ (bl : ℕ → ℕ → Bool) (eb : Effect → Effect → Bool) (types sets : List ℕ) (a b : ℕ) where
-  sub-step : (d : ℕ) → (d ≡ 0 → ⊥) → subIn bl eb d (entryIn types sets) a b ≡
-      levelOf bl (subIn bl eb (d - 1) (entryIn types sets)) (superIn bl eb (d - 1) (entryIn types sets)) (sameIn (d - 1) (entryIn types sets)) eb
-      (getD types a 0) (getD types b 0) (getD sets a 0) (getD sets b 0)
-  unfolding subIn entryIn
-  sub-step zero h = absurd (h refl)
-  sub-step (suc d) h = rw sub-one (sub-words bl eb (kindOf (getD types a 0 % 256)) (kindOf (getD types b 0 % 256)) _ _ _ _ _ _ _ _ _ _ _)
-
-  super-step : (d : ℕ) → (d ≡ 0 → ⊥) → superIn bl eb d (entryIn types sets) a b ≡
-      levelOf (λ p q. bl q p) (superIn bl eb (d - 1) (entryIn types sets)) (subIn bl eb (d - 1) (entryIn types sets)) (sameIn (d - 1) (entryIn types sets)) (λ s t. eb t s)
-      (getD types a 0) (getD types b 0) (getD sets a 0) (getD sets b 0)
-  unfolding subIn entryIn
-  super-step zero h = absurd (h refl)
-  super-step (suc d) h = rw sub-one (super-words bl eb (kindOf (getD types a 0 % 256)) (kindOf (getD types b 0 % 256)) _ _ _ _ _ _ _ _ _ _ _)
-
-  pub sub-none : (d : ℕ) → d ≡ 0 → false ≡ subIn bl eb d (entryIn types sets) a b
-  unfolding subIn
-  sub-none d e = rw e
-
-  pub super-none : (d : ℕ) → d ≡ 0 → false ≡ superIn bl eb d (entryIn types sets) a b
-  unfolding subIn
-  super-none d e = rw e
-
-  pub sub-level : (d : ℕ) → (d ≡ 0 → ⊥) → {x : ℕ} → x ≡ getD types a 0 → {y : ℕ} → y ≡ getD types b 0
-      → Level bl (subIn bl eb (d - 1) (entryIn types sets)) (superIn bl eb (d - 1) (entryIn types sets)) (sameIn (d - 1) (entryIn types sets)) eb
-      (subIn bl eb d (entryIn types sets) a b) x y (getD sets a 0) (getD sets b 0)
-  sub-level d n hx hy = record { by = simp (hx, hy) (sub-step d n) }
-
-  pub super-level : (d : ℕ) → (d ≡ 0 → ⊥) → {x : ℕ} → x ≡ getD types a 0 → {y : ℕ} → y ≡ getD types b 0
-      → Level (λ p q. bl q p) (superIn bl eb (d - 1) (entryIn types sets)) (subIn bl eb (d - 1) (entryIn types sets)) (sameIn (d - 1) (entryIn types sets)) (λ s t. eb t s)
-      (superIn bl eb d (entryIn types sets) a b) x y (getD sets a 0) (getD sets b 0)
-  super-level d n hx hy = record { by = simp (hx, hy) (super-step d n) }
+          pub functions : k ≡ 0x13 → {i : ℕ} → i ≡ s → {j : ℕ} → j ≡ t → {w : Bool} → w ≡ ef i j → w ≡ true → v ≡ cond (arg a b) (rec c d) false
+          unfolding byKind
+          functions m hi hj hw g = simp (of-kind, m, ← hi, ← hj, ← hw, g, ha, hb, hc, hd)

@@ -1,14 +1,16 @@
--- A table of comparisons that are known to hold: each of its words that is not 0 packs a comparison, its levels and its two entries.
+-- A memory of comparisons that hold: each of its words that is not 0 packs a comparison, its levels and its two entries.
 use mathlib.Core.Path.{_≡_}
-use Prim.Native.Nat.{ℕ, _+_, _*_, _<_}
-use mathlib.Core.Bool.{Bool, true, cond}
+use Prim.Native.Nat.{ℕ, _+_, _*_, _-_, _%_, _<_}
+use mathlib.Core.Bool.{Bool, true, false, cond}
 use mathlib.Core.List.{List}
-use mathlib.Core.Logic.{_≢_, _⊎_}
-use lib.ListN.{getD}
+use mathlib.Core.Logic.{_≢_}
+use lib.ListN.{getD, set}
 use lib.Dec.{eqb}
 use Rattle.syntax.specs.Words.{entryIn}
 use Rattle.typing.specs.Entries.{sameIn, subIn, superIn}
 use Rattle.names.specs.Ancestors.{belowBy, effBelowBy}
+use Rattle.types.specs.declared.Rest.{Rest}
+use Rattle.types.specs.declared.Rest.the-variants.{Never, Holds, Cells, Pairs, Functions}
 
 -- comparisons by number: 1 is below, 2 above, any other equality
 unfoldable pub pick : {A : Type 0} → ℕ → A → A → A → A
@@ -27,19 +29,29 @@ unfoldable pub comparedIn : List ℕ → List ℕ → List ℕ → ℕ → ℕ �
 comparedIn anc types sets rel d a b =
     pick rel (sameIn d (entryIn types sets) a b) (subIn (belowBy anc) (effBelowBy anc) d (entryIn types sets) a b) (superIn (belowBy anc) (effBelowBy anc) d (entryIn types sets) a b)
 
+-- what is left of a comparison of d levels after its first level
+unfoldable pub leftOf : List ℕ → List ℕ → List ℕ → ℕ → ℕ → Rest → Bool
+leftOf anc types sets rel d Never = false
+leftOf anc types sets rel d Holds = true
+leftOf anc types sets rel d (Cells x y) = comparedIn anc types sets 0 (d - 1) x y
+leftOf anc types sets rel d (Pairs x y z w) = cond (comparedIn anc types sets rel (d - 1) x y) (comparedIn anc types sets rel (d - 1) z w) false
+leftOf anc types sets rel d (Functions x y z w) = cond (comparedIn anc types sets (turnedOf rel) (d - 1) x y) (comparedIn anc types sets rel (d - 1) z w) false
+
+unfoldable pub settledAs : Bool → Rest
+settledAs on = cond on Holds Never
+
 -- a comparison in one word; no two have the same, and with a level or more it is not 0
 abbrev pub packOf : ℕ → ℕ → ℕ → ℕ → ℕ
 packOf rel d a b = rel * 1099511627776 + d * 4294967296 + b * 65536 + a
+
+-- the one place for a word
+abbrev pub slotOf : ℕ → ℕ
+slotOf w = w % 1021
 
 -- each word that is a comparison is one that holds
 pub record Known (anc types sets known : List ℕ) : Type 0 where
   pub holds : (i rel d a b : ℕ) → d ≢ 0 → d < 256 → a < 65536 → b < 65536 → getD known i 0 ≡ packOf rel d a b → comparedIn anc types sets rel d a b ≡ true
 
--- the word w stands in the table
-pub record Found (known : List ℕ) (w : ℕ) : Type 0 where
-  pub place : ℕ
-  pub stands : getD known place 0 ≡ w
-
--- a table with the word w at some places, and the rest as before
-pub record Wrote (before after : List ℕ) (w : ℕ) : Type 0 where
-  pub each : (i : ℕ) → (getD after i 0 ≡ getD before i 0) ⊎ (getD after i 0 ≡ w)
+-- what is remembered is right after entry n is written, whatever is written
+pub record Stays (types : List ℕ) (n : ℕ) (before after : List ℕ) : Type 0 where
+  pub right : (anc sets : List ℕ) (w s : ℕ) → Known anc types sets before → Known anc (set types n w) (set sets n s) after

@@ -38,7 +38,7 @@ same-length-4 : tie.Need-same-length-4
 same-length-4 c = search needs
 
 returns : tie.Need-returns
-returns c = λ bytes J given scoped. typed-halted given scoped (c .before .before .before .before .before .before .before .before .before .before .before .before .before .before .before .before .before .before .before .before .ancestors .ensures) (c .before .before .before .before .before .before .before .before .before .before .before .before .before .before .before .before .before .before .narrow .ensures) (c .before .before .before .before .before .before .before .before .before .before .before .before .before .before .before .before .before .narrow2 .ensures) (c .before .before .before .before .before .before .before .before .before .before .before .before .before .before .before .before .narrow3 .ensures) (c .before .before .before .before .before .before .before .before .before .before .before .number-all .ensures) ((c .before .n .given .1))
+returns c = λ bytes J given scoped. typed-halted given scoped (c .before .before .before .before .before .before .before .before .before .before .before .before .before .before .before .before .before .before .before .before .ancestors .ensures) (c .before .before .before .before .before .before .before .before .before .before .before .before .before .before .before .before .before .before .narrow .ensures) (c .before .before .before .before .before .before .before .before .before .before .before .before .before .before .before .before .before .narrow2 .ensures) (c .before .before .before .before .before .before .before .before .before .before .before .before .before .before .before .before .narrow3 .ensures) (c .before .before .before .before .before .before .before .before .before .before .before .number-all .ensures .by) ((c .before .n .given .1))
 
 enum-told : tie.Need-enum-told
 enum-told c = search needs
@@ -68,7 +68,7 @@ same-length-8 : tie.Need-same-length-8
 same-length-8 c = search needs
 
 returns-2 : tie.Need-returns-2
-returns-2 c = λ bytes J given scoped. typed-within given scoped (c .before .before .before .before .before .before .before .before .before .before .before .before .before .before .before .before .before .before .before .before .before .before .before .before .before .before .before .ancestors .ensures) (c .before .before .before .before .before .before .before .before .before .before .before .before .before .before .before .before .before .before .before .before .before .before .before .before .before .narrow .ensures) (c .before .before .before .before .before .before .before .before .before .before .before .before .before .before .before .before .before .before .before .before .before .before .before .before .narrow2 .ensures) (c .before .before .before .before .before .before .before .before .before .before .before .before .before .before .before .before .before .before .before .before .before .before .before .narrow3 .ensures) (c .before .before .before .before .before .before .before .before .before .before .before .before .before .before .before .before .before .before .number-all .ensures) (is-whole _ (c .before .before .before .before .before .before .before .before .before .match .keys2)) (c .before .before .before .before .before .before .before .last .ensures) (c .before .before .before .before .before .at64 .ensures) (c .before .before .before .eff-below .ensures) (c .before .before .if1 .taken) (c .at16 .ensures)
+returns-2 c = λ bytes J given scoped. typed-within given scoped (c .before .before .before .before .before .before .before .before .before .before .before .before .before .before .before .before .before .before .before .before .before .before .before .before .before .before .before .ancestors .ensures) (c .before .before .before .before .before .before .before .before .before .before .before .before .before .before .before .before .before .before .before .before .before .before .before .before .before .narrow .ensures) (c .before .before .before .before .before .before .before .before .before .before .before .before .before .before .before .before .before .before .before .before .before .before .before .before .narrow2 .ensures) (c .before .before .before .before .before .before .before .before .before .before .before .before .before .before .before .before .before .before .before .before .before .before .before .narrow3 .ensures) (c .before .before .before .before .before .before .before .before .before .before .before .before .before .before .before .before .before .before .number-all .ensures .by) (is-whole _ (c .before .before .before .before .before .before .before .before .before .match .keys2)) (c .before .before .before .before .before .before .before .last .ensures) (c .before .before .before .before .before .at64 .ensures) (c .before .before .before .eff-below .ensures) (c .before .before .if1 .taken) (c .at16 .ensures)
 
 same-length-9 : tie.Need-same-length-9
 same-length-9 c = search needs
@@ -83,7 +83,7 @@ same-length-12 : tie.Need-same-length-12
 same-length-12 c = search needs
 
 returns-3 : tie.Need-returns-3
-returns-3 c = λ bytes J given scoped. typed-beyond given scoped (c .before .before .before .before .before .before .before .before .before .before .before .before .before .before .before .before .before .before .before .before .before .before .before .before .before .ancestors .ensures) (c .before .before .before .before .before .before .before .before .before .before .before .before .before .before .before .before .before .before .before .before .before .before .before .narrow .ensures) (c .before .before .before .before .before .before .before .before .before .before .before .before .before .before .before .before .before .before .before .before .before .before .narrow2 .ensures) (c .before .before .before .before .before .before .before .before .before .before .before .before .before .before .before .before .before .before .before .before .before .narrow3 .ensures) (c .before .before .before .before .before .before .before .before .before .before .before .before .before .before .before .before .number-all .ensures) (is-whole _ (c .before .before .before .before .before .before .before .match .keys2)) (c .before .before .before .before .before .last .ensures) (c .before .before .before .at64 .ensures) (c .before .eff-below .ensures) (c .if1 .left)
+returns-3 c = λ bytes J given scoped. typed-beyond given scoped (c .before .before .before .before .before .before .before .before .before .before .before .before .before .before .before .before .before .before .before .before .before .before .before .before .before .ancestors .ensures) (c .before .before .before .before .before .before .before .before .before .before .before .before .before .before .before .before .before .before .before .before .before .before .before .narrow .ensures) (c .before .before .before .before .before .before .before .before .before .before .before .before .before .before .before .before .before .before .before .before .before .before .narrow2 .ensures) (c .before .before .before .before .before .before .before .before .before .before .before .before .before .before .before .before .before .before .before .before .before .narrow3 .ensures) (c .before .before .before .before .before .before .before .before .before .before .before .before .before .before .before .before .number-all .ensures .by) (is-whole _ (c .before .before .before .before .before .before .before .match .keys2)) (c .before .before .before .before .before .last .ensures) (c .before .before .before .at64 .ensures) (c .before .eff-below .ensures) (c .if1 .left)
 
 pub typed-spec : {M : Type 1} → statement M
 typed-spec =

@@ -22,14 +22,14 @@ number-requires c κs = search needs
 
 returns : tie.Need-returns
 unfolding resultAt codeIn decode fits
-returns c = simp (← (c .before .before .before .at64 .ensures), (c .before .match .keys1), (c .number .ensures))
+returns c = (simp (← (c .before .before .before .at64 .ensures), (c .before .match .keys1), (c .number .ensures)), c .before .before .before .before .before .before .before .before .before .before .before .before .pre)
 
 top-requires : tie.Need-top-requires
 top-requires c κs = search needs
 
 returns-2 : tie.Need-returns-2
 unfolding resultAt codeIn decode fits
-returns-2 c = simp (← (c .before .before .before .at64 .ensures), (c .before .match .keys2), (c .top .ensures))
+returns-2 c = (simp (← (c .before .before .before .at64 .ensures), (c .before .match .keys2), (c .top .ensures)), c .before .before .before .before .before .before .before .before .before .before .before .before .pre)
 
 low-requires : tie.Need-low-requires
 low-requires c κs = search needs
@@ -39,7 +39,7 @@ variable-requires c κs = search needs
 
 returns-3 : tie.Need-returns-3
 unfolding resultAt codeIn decode fits
-returns-3 c = simp (← (c .before .before .before .before .at64 .ensures), (c .before .before .match .keys3), (c .variable .ensures), (c .before .low .ensures))
+returns-3 c = (simp (← (c .before .before .before .before .at64 .ensures), (c .before .before .match .keys3), (c .variable .ensures), (c .before .low .ensures)), c .before .before .before .before .before .before .before .before .before .before .before .before .before .pre)
 
 lead-requires : tie.Need-lead-requires
 lead-requires c κs = search needs
@@ -49,7 +49,7 @@ part-requires c κs = search needs
 
 returns-4 : tie.Need-returns-4
 unfolding resultAt codeIn decode fits
-returns-4 c = simp (← (c .before .before .before .before .at64 .ensures), (c .before .before .match .keys4), (c .part .ensures), (c .before .lead .ensures), (c .before .before .before .operand-at .ensures))
+returns-4 c = (simp (← (c .before .before .before .before .at64 .ensures), (c .before .before .match .keys4), (c .part .ensures), (c .before .lead .ensures), (c .before .before .before .operand-at .ensures)), c .before .before .before .before .before .before .before .before .before .before .before .before .before .pre)
 
 add-at16 : tie.Need-add-at16
 add-at16 c = search needs
@@ -62,7 +62,7 @@ function-requires c κs = search needs
 
 returns-5 : tie.Need-returns-5
 unfolding resultAt codeIn decode fits
-returns-5 c = simp (← (c .before .before .before .before .at64 .ensures), (c .before .before .match .keys5), (c .function .ensures), (c .before .at16 .ensures), (c .before .before .before .operand-at .ensures))
+returns-5 c = (simp (← (c .before .before .before .before .at64 .ensures), (c .before .before .match .keys5), (c .function .ensures), (c .before .at16 .ensures), (c .before .before .before .operand-at .ensures)), c .before .before .before .before .before .before .before .before .before .before .before .before .before .pre)
 
 add-at16-2 : tie.Need-add-at16-2
 add-at16-2 c = search needs
@@ -73,33 +73,39 @@ at16-requires-2 c κs = search needs
 cell-requires : tie.Need-cell-requires
 cell-requires c κs = search needs
 
+same-length : tie.Need-same-length
+same-length c = search needs
+
 returns-6 : tie.Need-returns-6
 unfolding resultAt codeIn decode fits
-returns-6 c = simp (← (c .before .before .before .before .at64 .ensures), (c .before .before .match .keys6), (c .cell .ensures), (c .before .at162 .ensures), (c .before .before .before .operand-at .ensures))
+returns-6 c = (simp (← (c .before .before .before .before .before .before .before .at64 .ensures), (c .before .before .before .before .before .match .keys6), (c .before .before .cell .ensures .0), (c .before .before .before .before .at162 .ensures), (c .before .before .before .before .before .before .operand-at .ensures)), c .before .before .cell .ensures .1)
 
 read-requires : tie.Need-read-requires
 read-requires c κs = search needs
 
 returns-7 : tie.Need-returns-7
 unfolding resultAt codeIn decode fits
-returns-7 c = simp (← (c .before .before .before .at64 .ensures), (c .before .match .keys7), (c .read .ensures), (c .before .before .operand-at .ensures))
+returns-7 c = (simp (← (c .before .before .before .at64 .ensures), (c .before .match .keys7), (c .read .ensures), (c .before .before .operand-at .ensures)), c .before .before .before .before .before .before .before .before .before .before .before .before .pre)
 
 lead-requires-2 : tie.Need-lead-requires-2
 lead-requires-2 c κs = search needs
 
 limit-requires : tie.Need-limit-requires
-limit-requires c κs = omega (arith, (c .before .before .before .before .before .before .before .before .before .before .before .fits .e))
+limit-requires c κs = search needs
 
 returns-8 : tie.Need-returns-8
 unfolding resultAt codeIn decode
-returns-8 c = simp (← (c .before .before .before .before .at64 .ensures), (c .before .before .match .keys8), (c .limit .ensures), (c .before .lead2 .ensures)) (keys-any (c .before .before .before .before .before .before .before .before .before .before .before .before .args .anc .now) (c .before .before .before .before .before .before .before .before .before .before .before .before .args .names .now) (λ v. getD (c .before .before .before .before .before .before .before .before .before .before .before .before .args .vars .now) v 0) (entryIn (c .before .before .before .before .before .before .before .before .before .before .before .before .args .types .now) (c .before .before .before .before .before .before .before .before .before .before .before .before .args .sets .now)) (λ a. getD (c .before .before .before .before .before .before .before .before .before .before .before .before .args .entries .now) a 0) (λ a. getD (c .before .before .before .before .before .before .before .before .before .before .before .before .args .effects .now) a 0) _ _ _ _)
+returns-8 c = (simp (← (c .before .before .before .before .at64 .ensures), (c .before .before .match .keys8), (c .limit .ensures), (c .before .lead2 .ensures)) (keys-any (c .before .before .before .before .before .before .before .before .before .before .before .before .before .args .anc .now) (c .before .before .before .before .before .before .before .before .before .before .before .before .before .args .names .now) (λ v. getD (c .before .before .before .before .before .before .before .before .before .before .before .before .before .args .vars .now) v 0) (entryIn (c .before .before .before .before .before .before .before .before .before .before .before .before .before .args .types .now) (c .before .before .before .before .before .before .before .before .before .before .before .before .before .args .sets .now)) (λ a. getD (c .before .before .before .before .before .before .before .before .before .before .before .before .before .args .entries .now) a 0) (λ a. getD (c .before .before .before .before .before .before .before .before .before .before .before .before .before .args .effects .now) a 0) _ _ _ _), c .before .before .before .before .before .before .before .before .before .before .before .before .before .pre)
 
 two-requires : tie.Need-two-requires
-two-requires c κs = (omega (arith, (c .before .before .before .before .before .before .before .before .before .before .fits .e)), (c .before .operand-at .ensures))
+two-requires c κs = search needs
+
+same-length-2 : tie.Need-same-length-2
+same-length-2 c = search needs
 
 returns-9 : tie.Need-returns-9
 unfolding resultAt codeIn decode
-returns-9 c = simp (← (c .before .before .before .at64 .ensures), ne-eqb _ _ (c .before .match .rest .1), ne-eqb _ _ (c .before .match .rest .0 .1), ne-eqb _ _ (c .before .match .rest .0 .0 .1), ne-eqb _ _ (c .before .match .rest .0 .0 .0 .1), ne-eqb _ _ (c .before .match .rest .0 .0 .0 .0 .1), ne-eqb _ _ (c .before .match .rest .0 .0 .0 .0 .0 .1), ne-eqb _ _ (c .before .match .rest .0 .0 .0 .0 .0 .0 .1)) ((c .two .ensures) (λ v. getD ((c .before .before .before .before .before .before .before .before .before .before .before .args .vars) .now) v 0))
+returns-9 c = (simp (← (c .before .before .before .before .before .before .at64 .ensures), ne-eqb _ _ (c .before .before .before .before .match .rest .1), ne-eqb _ _ (c .before .before .before .before .match .rest .0 .1), ne-eqb _ _ (c .before .before .before .before .match .rest .0 .0 .1), ne-eqb _ _ (c .before .before .before .before .match .rest .0 .0 .0 .1), ne-eqb _ _ (c .before .before .before .before .match .rest .0 .0 .0 .0 .1), ne-eqb _ _ (c .before .before .before .before .match .rest .0 .0 .0 .0 .0 .1), ne-eqb _ _ (c .before .before .before .before .match .rest .0 .0 .0 .0 .0 .0 .1)) ((c .before .before .two .ensures .0) (λ v. getD ((c .before .before .before .before .before .before .before .before .before .before .before .before .before .before .before .args .vars) .now) v 0)), c .before .before .two .ensures .1)
 
 pub result-spec : {M : Type 1} → statement M
 result-spec =
@@ -125,6 +131,7 @@ result-spec =
     add-at16-2
     at16-requires-2
     cell-requires
+    same-length
     returns-6
     read-requires
     returns-7
@@ -132,4 +139,5 @@ result-spec =
     limit-requires
     returns-8
     two-requires
+    same-length-2
     returns-9)

@@ -15,28 +15,34 @@ pair-requires c κs = search needs
 
 returns : tie.Need-returns
 unfolding resultAt fits
-returns c = λ var. simp ((c .before .match .keys1), (c .pair .ensures), (c .before .before .operand-at .ensures), (c .before .before .before .before .before .before .before .before .before .pre .1))
+returns c = (λ var. simp ((c .before .match .keys1), (c .pair .ensures), (c .before .before .operand-at .ensures), (c .before .before .before .before .before .before .before .before .before .before .pre .1)), c .before .before .before .before .before .before .before .before .before .before .pre .2)
 
 apply-requires : tie.Need-apply-requires
 apply-requires c κs = search needs
 
+same-length : tie.Need-same-length
+same-length c = search needs
+
 returns-2 : tie.Need-returns-2
 unfolding resultAt fits
-returns-2 c = λ var. simp ((c .before .match .keys2), (c .apply .ensures), (c .before .before .operand-at .ensures), (c .before .before .before .before .before .before .before .before .before .pre .1))
+returns-2 c = (λ var. simp ((c .before .before .before .before .match .keys2), (c .before .before .apply .ensures .0), (c .before .before .before .before .before .operand-at .ensures), (c .before .before .before .before .before .before .before .before .before .before .before .before .before .pre .1)), c .before .before .apply .ensures .1)
 
 assign-requires : tie.Need-assign-requires
 assign-requires c κs = search needs
 
+same-length-2 : tie.Need-same-length-2
+same-length-2 c = search needs
+
 returns-3 : tie.Need-returns-3
 unfolding resultAt fits
-returns-3 c = λ var. simp ((c .before .match .keys3), (c .assign .ensures), (c .before .before .operand-at .ensures), (c .before .before .before .before .before .before .before .before .before .pre .1))
+returns-3 c = (λ var. simp ((c .before .before .before .before .match .keys3), (c .before .before .assign .ensures .0), (c .before .before .before .before .before .operand-at .ensures), (c .before .before .before .before .before .before .before .before .before .before .before .before .before .pre .1)), c .before .before .assign .ensures .1)
 
 sum-requires : tie.Need-sum-requires
 sum-requires c κs = search needs
 
 returns-4 : tie.Need-returns-4
 unfolding resultAt fits
-returns-4 c = λ var. simp ((c .before .match .keys4), (c .sum .ensures), (c .before .before .operand-at .ensures), (c .before .before .before .before .before .before .before .before .before .pre .1))
+returns-4 c = (λ var. simp ((c .before .match .keys4), (c .sum .ensures), (c .before .before .operand-at .ensures), (c .before .before .before .before .before .before .before .before .before .before .pre .1)), c .before .before .before .before .before .before .before .before .before .before .pre .2)
 
 add-operand-at-2 : tie.Need-add-operand-at-2
 add-operand-at-2 c = search needs
@@ -53,19 +59,19 @@ at16-requires c κs = search needs
 test-requires : tie.Need-test-requires
 test-requires c κs = search needs
 
+same-length-3 : tie.Need-same-length-3
+same-length-3 c = search needs
+
 returns-5 : tie.Need-returns-5
 unfolding resultAt fits
-returns-5 c = λ var. simp ((c .before .before .before .match .keys5), (c .test .ensures), (c .before .before .before .before .operand-at .ensures), (c .before .before .operand-at2 .ensures), (c .before .at16 .ensures), (c .before .before .before .before .before .before .before .before .before .before .before .pre .1))
+returns-5 c = (λ var. simp ((c .before .before .before .before .before .before .match .keys5), (c .before .before .test .ensures .0), (c .before .before .before .before .before .before .before .operand-at .ensures), (c .before .before .before .before .before .operand-at2 .ensures), (c .before .before .before .before .at16 .ensures), (c .before .before .before .before .before .before .before .before .before .before .before .before .before .before .before .pre .1)), c .before .before .test .ensures .1)
 
 grant-requires : tie.Need-grant-requires
 grant-requires c κs = search needs
 
 returns-6 : tie.Need-returns-6
 unfolding resultAt fits
-returns-6 c = λ var. simp ((c .before .match .keys6), (c .grant .ensures), (c .before .before .operand-at .ensures), (c .before .before .before .before .before .before .before .before .before .pre .1))
-
-local-requires : tie.Need-local-requires
-local-requires c κs = search needs
+returns-6 c = (λ var. simp ((c .before .match .keys6), (c .grant .ensures), (c .before .before .operand-at .ensures), (c .before .before .before .before .before .before .before .before .before .before .pre .1)), c .before .before .before .before .before .before .before .before .before .before .pre .2)
 
 add-at16-2 : tie.Need-add-at16-2
 add-at16-2 c = search needs
@@ -73,26 +79,32 @@ add-at16-2 c = search needs
 at16-requires-2 : tie.Need-at16-requires-2
 at16-requires-2 c κs = search needs
 
+local-requires : tie.Need-local-requires
+local-requires c κs = search needs
+
 new-key-requires : tie.Need-new-key-requires
 new-key-requires c κs = search needs
 
+same-length-4 : tie.Need-same-length-4
+same-length-4 c = search needs
+
 returns-7 : tie.Need-returns-7
 unfolding resultAt fits
-returns-7 c = λ var. simp ((c .before .before .before .match .keys7), (c .new-key .ensures), (c .before .before .before .before .operand-at .ensures), (c .before .before .local .ensures), (c .before .at162 .ensures), (c .before .before .before .before .before .before .before .before .before .before .before .pre .1))
+returns-7 c = (λ var. simp ((c .before .before .before .before .before .before .match .keys7), (c .before .before .new-key .ensures .0), (c .before .before .before .before .before .before .before .operand-at .ensures), (c .before .before .before .before .local .ensures), (c .before .before .before .before .before .at162 .ensures), (c .before .before .before .before .before .before .before .before .before .before .before .before .before .before .before .pre .1)), c .before .before .new-key .ensures .1)
 
 associate-requires : tie.Need-associate-requires
 associate-requires c κs = search needs
 
 returns-8 : tie.Need-returns-8
 unfolding resultAt fits
-returns-8 c = λ var. simp ((c .before .match .keys8), (c .associate .ensures), (c .before .before .operand-at .ensures), (c .before .before .before .before .before .before .before .before .before .pre .1))
+returns-8 c = (λ var. simp ((c .before .match .keys8), (c .associate .ensures), (c .before .before .operand-at .ensures), (c .before .before .before .before .before .before .before .before .before .before .pre .1)), c .before .before .before .before .before .before .before .before .before .before .pre .2)
 
 number-requires : tie.Need-number-requires
 number-requires c κs = search needs
 
 returns-9 : tie.Need-returns-9
 unfolding resultAt
-returns-9 c = λ var. simp ((c .number .ensures), ne-eqb _ _ (c .before .match .rest .1), ne-eqb _ _ (c .before .match .rest .0 .1), ne-eqb _ _ (c .before .match .rest .0 .0 .1), ne-eqb _ _ (c .before .match .rest .0 .0 .0 .1), ne-eqb _ _ (c .before .match .rest .0 .0 .0 .0 .1), ne-eqb _ _ (c .before .match .rest .0 .0 .0 .0 .0 .1), ne-eqb _ _ (c .before .match .rest .0 .0 .0 .0 .0 .0 .1), ne-eqb _ _ (c .before .match .rest .0 .0 .0 .0 .0 .0 .0 .1))
+returns-9 c = (λ var. simp ((c .number .ensures), ne-eqb _ _ (c .before .match .rest .1), ne-eqb _ _ (c .before .match .rest .0 .1), ne-eqb _ _ (c .before .match .rest .0 .0 .1), ne-eqb _ _ (c .before .match .rest .0 .0 .0 .1), ne-eqb _ _ (c .before .match .rest .0 .0 .0 .0 .1), ne-eqb _ _ (c .before .match .rest .0 .0 .0 .0 .0 .1), ne-eqb _ _ (c .before .match .rest .0 .0 .0 .0 .0 .0 .1), ne-eqb _ _ (c .before .match .rest .0 .0 .0 .0 .0 .0 .0 .1)), c .before .before .before .before .before .before .before .before .before .before .pre .2)
 
 pub two-spec : {M : Type 1} → statement M
 two-spec =
@@ -103,8 +115,10 @@ two-spec =
     pair-requires
     returns
     apply-requires
+    same-length
     returns-2
     assign-requires
+    same-length-2
     returns-3
     sum-requires
     returns-4
@@ -113,13 +127,15 @@ two-spec =
     add-at16
     at16-requires
     test-requires
+    same-length-3
     returns-5
     grant-requires
     returns-6
-    local-requires
     add-at16-2
     at16-requires-2
+    local-requires
     new-key-requires
+    same-length-4
     returns-7
     associate-requires
     returns-8

@@ -3,29 +3,21 @@ use Rattle.types.specs.Known.{pick, keysBy}
 use borrow.Author.Needs.{needs}
 use Rattle.types.proofs.effects.Statement.{statement}
 use Rattle.types.proofs.effects.Tie as tie
-use Rattle.types.proofs.effects.Reads as reads
-use Rattle.types.proofs.effects.Lts as lts
-use Rattle.names.proofs.eff_below.Reads as eff-below-reads
 
--- src/lib.rt:144:9
 eff-below-requires : tie.Need-eff-below-requires
 eff-below-requires c κs = search needs
 
--- src/lib.rt:144:9
 returns : tie.Need-returns
 unfolding keysBy pick
 returns c = simp (eq-eqb _ _ (c .before .if1 .taken)) (c .eff-below .ensures)
 
--- src/lib.rt:147:9
 eff-below-requires-2 : tie.Need-eff-below-requires-2
 eff-below-requires-2 c κs = search needs
 
--- src/lib.rt:147:9
 returns-2 : tie.Need-returns-2
 unfolding keysBy pick
 returns-2 c = simp (ne-eqb _ _ (c .before .before .if1 .left), eq-eqb _ _ (c .before .if2 .taken)) (c .eff-below2 .ensures)
 
--- src/lib.rt:140:1
 returns-3 : tie.Need-returns-3
 unfolding keysBy pick
 returns-3 c = simp (ne-eqb _ _ (c .before .if1 .left), ne-eqb _ _ (c .if2 .left))
