@@ -1,6 +1,5 @@
 use borrow.Author.Needs.{needs}
 use mathlib.Core.Path.{sym}
-use native.Mathlib.Omega.{arith}
 use lib.Seq.{length-take-le}
 use Rattle.desk.proofs.write.Statement.{statement}
 use Rattle.desk.proofs.write.Tie as tie
@@ -11,11 +10,17 @@ slice-aggregate-write-all c = sym (length-take-le (c .before .before .before .ar
 write-all-requires : tie.Need-write-all-requires
 write-all-requires c κs = search needs
 
+close-requires : tie.Need-close-requires
+close-requires c κs = search needs
+
 returns : tie.Need-returns
 returns c = search needs
 
 returns-2 : tie.Need-returns-2
 returns-2 c = search needs
 
+returns-3 : tie.Need-returns-3
+returns-3 c = search needs
+
 pub write-spec : {M : Type 1} → statement M
-write-spec = tie.close (tie.spec slice-aggregate-write-all write-all-requires returns returns-2)
+write-spec = tie.close (tie.spec slice-aggregate-write-all write-all-requires close-requires returns returns-2 returns-3)
