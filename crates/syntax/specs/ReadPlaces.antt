@@ -9,7 +9,7 @@ use lib.ListN.{length, length-drop, drop}
 use lib.Dec.{eqb, ltb}
 use borrow.Author.Tests.{ltb-false, eqb-true}
 use Rattle.order.specs.OrderLaws.{length-snoc}
-use Rattle.syntax.specs.Commands.{Op, form, o-host, o-local, o-number, o-pair, o-cell, o-function, o-limit, o-grant, o-value, o-rights, o-end, opOf, operands, total, width, sectionOf, fields}
+use Rattle.syntax.specs.Commands.{Op, form, o-host, o-local, o-number, o-pair, o-cell, o-function, o-limit, o-grant, o-value, o-rights, o-end, commands, findOp, opOf, operands, total, width, sectionOf, fields}
 use Rattle.syntax.specs.Commands.{x-number, x-top, x-variable, x-pair, x-part, x-function, x-apply, x-cell, x-assign, x-read, x-sum, x-test, x-limit, x-grant, x-newkey, x-associate}
 use Rattle.syntax.specs.Job.{Job}
 use Rattle.syntax.specs.Reading.{Refusal, State, nameOk, typeOk, hostValueOk, rightsOk, cmdOk, Written, written, given, enter, misplaced, full}
@@ -38,42 +38,47 @@ widest-few (suc (suc (suc (suc (suc n))))) = omega arith
 record InBounds (op : Op) : Type 0 where
   narrow : width op ≤ widest (sectionOf op)
   low : form op .byte < 256
+  found : opOf (form op .byte) ≡ some op
 
 in-bounds : (op : Op) → InBounds op
-unfolding width total operands sectionOf widest
-in-bounds o-host = record { narrow = omega arith; low = omega arith }
-in-bounds o-local = record { narrow = omega arith; low = omega arith }
-in-bounds o-number = record { narrow = omega arith; low = omega arith }
-in-bounds o-pair = record { narrow = omega arith; low = omega arith }
-in-bounds o-cell = record { narrow = omega arith; low = omega arith }
-in-bounds o-function = record { narrow = omega arith; low = omega arith }
-in-bounds o-limit = record { narrow = omega arith; low = omega arith }
-in-bounds o-grant = record { narrow = omega arith; low = omega arith }
-in-bounds o-value = record { narrow = omega arith; low = omega arith }
-in-bounds o-rights = record { narrow = omega arith; low = omega arith }
-in-bounds x-number = record { narrow = omega arith; low = omega arith }
-in-bounds x-top = record { narrow = omega arith; low = omega arith }
-in-bounds x-variable = record { narrow = omega arith; low = omega arith }
-in-bounds x-pair = record { narrow = omega arith; low = omega arith }
-in-bounds x-part = record { narrow = omega arith; low = omega arith }
-in-bounds x-function = record { narrow = omega arith; low = omega arith }
-in-bounds x-apply = record { narrow = omega arith; low = omega arith }
-in-bounds x-cell = record { narrow = omega arith; low = omega arith }
-in-bounds x-assign = record { narrow = omega arith; low = omega arith }
-in-bounds x-read = record { narrow = omega arith; low = omega arith }
-in-bounds x-sum = record { narrow = omega arith; low = omega arith }
-in-bounds x-test = record { narrow = omega arith; low = omega arith }
-in-bounds x-limit = record { narrow = omega arith; low = omega arith }
-in-bounds x-grant = record { narrow = omega arith; low = omega arith }
-in-bounds x-newkey = record { narrow = omega arith; low = omega arith }
-in-bounds x-associate = record { narrow = omega arith; low = omega arith }
-in-bounds o-end = record { narrow = omega arith; low = omega arith }
+unfolding width total operands sectionOf widest opOf findOp commands
+in-bounds o-host = record { narrow = omega arith; low = omega arith; found = refl }
+in-bounds o-local = record { narrow = omega arith; low = omega arith; found = refl }
+in-bounds o-number = record { narrow = omega arith; low = omega arith; found = refl }
+in-bounds o-pair = record { narrow = omega arith; low = omega arith; found = refl }
+in-bounds o-cell = record { narrow = omega arith; low = omega arith; found = refl }
+in-bounds o-function = record { narrow = omega arith; low = omega arith; found = refl }
+in-bounds o-limit = record { narrow = omega arith; low = omega arith; found = refl }
+in-bounds o-grant = record { narrow = omega arith; low = omega arith; found = refl }
+in-bounds o-value = record { narrow = omega arith; low = omega arith; found = refl }
+in-bounds o-rights = record { narrow = omega arith; low = omega arith; found = refl }
+in-bounds x-number = record { narrow = omega arith; low = omega arith; found = refl }
+in-bounds x-top = record { narrow = omega arith; low = omega arith; found = refl }
+in-bounds x-variable = record { narrow = omega arith; low = omega arith; found = refl }
+in-bounds x-pair = record { narrow = omega arith; low = omega arith; found = refl }
+in-bounds x-part = record { narrow = omega arith; low = omega arith; found = refl }
+in-bounds x-function = record { narrow = omega arith; low = omega arith; found = refl }
+in-bounds x-apply = record { narrow = omega arith; low = omega arith; found = refl }
+in-bounds x-cell = record { narrow = omega arith; low = omega arith; found = refl }
+in-bounds x-assign = record { narrow = omega arith; low = omega arith; found = refl }
+in-bounds x-read = record { narrow = omega arith; low = omega arith; found = refl }
+in-bounds x-sum = record { narrow = omega arith; low = omega arith; found = refl }
+in-bounds x-test = record { narrow = omega arith; low = omega arith; found = refl }
+in-bounds x-limit = record { narrow = omega arith; low = omega arith; found = refl }
+in-bounds x-grant = record { narrow = omega arith; low = omega arith; found = refl }
+in-bounds x-newkey = record { narrow = omega arith; low = omega arith; found = refl }
+in-bounds x-associate = record { narrow = omega arith; low = omega arith; found = refl }
+in-bounds o-end = record { narrow = omega arith; low = omega arith; found = refl }
 
 pub width-most : (op : Op) → width op ≤ widest (sectionOf op)
 width-most op = in-bounds op .narrow
 
 pub byte-low : (op : Op) → form op .byte < 256
 byte-low op = in-bounds op .low
+
+-- every command is found by its byte
+pub op-found : (op : Op) → opOf (form op .byte) ≡ some op
+op-found op = in-bounds op .found
 
 -- the most bytes that write the entries of a job
 unfoldable pub weight : Job → ℕ
