@@ -30,3 +30,4 @@ pub mod Demand3
 pub mod KeyLaws
 pub mod RunLaws
 pub mod StartingLaws
+pub mod Kinds
