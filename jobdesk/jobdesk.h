@@ -32,10 +32,13 @@ extern "C" {
 #define JOBDESK_ENTRIES 512
 #define JOBDESK_EFFECTS 512
 
-/* The words that a check writes to `out`, a run to `rooms`, and a run for each call to `answers`. */
+/* How many words there are of what is told of a verdict, of room in use, of the answer to each call,
+ * of a value, and of what the cells hold: a value for each of 256 cells. */
 #define JOBDESK_OUT 2
 #define JOBDESK_ROOMS 6
 #define JOBDESK_ANSWER 2
+#define JOBDESK_VALUE 2
+#define JOBDESK_CELLS 512
 
 /* What a function returns: 0, or the number of a refusal. The place of 1 is 0, that of 2 to 7 an
  * offset in the job's bytes, that of 8 to 14 the number of an expression. */
@@ -67,13 +70,18 @@ extern "C" {
 #define JOBDESK_STUCK 4     /* an operand is of a kind that the next step cannot use */
 #define JOBDESK_DENIED 5    /* the next step needs a key that is not enabled */
 
-/* The command byte of a type: the low byte of an entry of the type table. */
-#define JOBDESK_NUMBER 0x10
-#define JOBDESK_PAIR 0x11
-#define JOBDESK_CELL 0x12
-#define JOBDESK_FUNCTION 0x13
-#define JOBDESK_LIMIT 0x14
-#define JOBDESK_GRANT 0x15
+/* The kinds of values: the first word of a value. Its second word is the number itself; the number
+ * of the pair, cell or function; or the key that a limit key or a grant key stands for. */
+#define JOBDESK_NO_VALUE 0
+#define JOBDESK_NUMBER 1
+#define JOBDESK_PAIR 2
+#define JOBDESK_CELL 3
+#define JOBDESK_FUNCTION 4
+#define JOBDESK_LIMIT 5
+#define JOBDESK_GRANT 6
+
+/* The kind of the values of a type, by its entry of the type table. */
+#define JOBDESK_KIND_OF(entry) (((entry) & 0xFF) - 0x0F)
 
 /* Checks a job.
  *
@@ -116,7 +124,40 @@ uint64_t jobdesk_check(
     uint64_t *effects, size_t effects_length,
     uint64_t *out, size_t out_length);
 
-/* Starts a job and makes calls on it, each on the machine that the last one left.
+/* Checks a job and, where it is accepted, starts it and makes calls on it, each on the machine that
+ * the last one left. This is the safe way to run a job.
+ *
+ * Returns 0 if the job is accepted. Then `out` and the tables are as after jobdesk_check, and of
+ * call i (from 0)
+ *   answers[2 * i]      is the answer, never JOBDESK_STUCK or JOBDESK_DENIED,
+ *   answers[2 * i + 1]  is how many steps it took.
+ * `value` is the job's value where it has ended, and JOBDESK_NO_VALUE and 0 where it has not;
+ * cells[2 * i] and cells[2 * i + 1] are the value that cell i holds, and JOBDESK_NO_VALUE and 0 where
+ * there is no cell i. The host values that are cells have the first numbers, in their order.
+ *
+ * Returns 1 to 14, the number of the refusal, if the job is refused. Then `out` and the tables are as
+ * after jobdesk_check, no answer is written, and `value` and `cells` are zero.
+ *
+ * Returns 1 too where there are not JOBDESK_ANSWER answers for each call, or `value`, `cells` or `out`
+ * is shorter than JOBDESK_VALUE, JOBDESK_CELLS or JOBDESK_OUT. Then nothing at all is written.
+ */
+uint64_t jobdesk_session(
+    const uint8_t *job, size_t job_length,
+    uint16_t *names, size_t names_length,
+    uint64_t *types, size_t types_length,
+    uint64_t *sets, size_t sets_length,
+    uint64_t *values, size_t values_length,
+    uint64_t *heads, size_t heads_length,
+    uint16_t *slots, size_t slots_length,
+    uint16_t *entries, size_t entries_length,
+    uint64_t *effects, size_t effects_length,
+    const uint64_t *calls, size_t calls_length,
+    uint64_t *answers, size_t answers_length,
+    uint64_t *value, size_t value_length,
+    uint64_t *cells, size_t cells_length,
+    uint64_t *out, size_t out_length);
+
+/* Starts a job without a check and makes calls on it, each on the machine that the last one left.
  *
  * 0 IS NO VERDICT: every job that is free of 1 to 10 is started, also one that the check refuses
  * with 11 to 14. Only of a job that jobdesk_check accepts is it proved that no answer is
@@ -133,8 +174,10 @@ uint64_t jobdesk_check(
  * no answer is written; after 1 no table is written to, after 2 to 10 the six tables are zero to
  * their ends.
  *
- * `answers` has JOBDESK_ANSWER entries for each call. Where `rooms` has fewer than JOBDESK_ROOMS
- * entries, it gets those that it has.
+ * Returns 1 too where there are not JOBDESK_ANSWER answers for each call. Then rooms[0] is 0, and
+ * nothing else is written.
+ *
+ * Where `rooms` has fewer than JOBDESK_ROOMS entries, it gets those that it has.
  */
 uint64_t jobdesk_run(
     const uint8_t *job, size_t job_length,
@@ -169,6 +212,20 @@ static inline uint64_t jobdesk_check_in(
         job, job_length, t->names, JOBDESK_NAMES, t->types, JOBDESK_TYPES, t->sets, JOBDESK_SETS,
         t->values, JOBDESK_VALUES, t->heads, JOBDESK_HEADS, t->slots, JOBDESK_SLOTS, t->entries,
         JOBDESK_ENTRIES, t->effects, JOBDESK_EFFECTS, out, JOBDESK_OUT);
+}
+
+/* jobdesk_session with tables of the least lengths; `answers` has JOBDESK_ANSWER entries for each of
+ * `count` calls. It never returns 1. */
+static inline uint64_t jobdesk_session_in(
+    struct jobdesk_tables *t, const uint8_t *job, size_t job_length, const uint64_t *calls,
+    size_t count, uint64_t *answers, uint64_t value[JOBDESK_VALUE], uint64_t cells[JOBDESK_CELLS],
+    uint64_t out[JOBDESK_OUT])
+{
+    return jobdesk_session(
+        job, job_length, t->names, JOBDESK_NAMES, t->types, JOBDESK_TYPES, t->sets, JOBDESK_SETS,
+        t->values, JOBDESK_VALUES, t->heads, JOBDESK_HEADS, t->slots, JOBDESK_SLOTS, t->entries,
+        JOBDESK_ENTRIES, t->effects, JOBDESK_EFFECTS, calls, count, answers, JOBDESK_ANSWER * count,
+        value, JOBDESK_VALUE, cells, JOBDESK_CELLS, out, JOBDESK_OUT);
 }
 
 /* jobdesk_run with tables of the least lengths; `answers` has JOBDESK_ANSWER entries for each of

@@ -11,19 +11,21 @@ use jobdesk::{Answer, Call, LENGTHS};
 use second::generate::{Rng, job};
 use second::{Machine, Refusal, check, read, to_hex, tree};
 
+use crate::sessions::{END, compare_session};
+
 /// The steps that a job is mostly run for, and sometimes.
 const STEPS: u64 = 20_000;
 const MORE_STEPS: u64 = 100_000;
 
 /// How often something was met, and the steps taken in all.
 #[derive(Default)]
-struct Met {
+pub struct Met {
     times: BTreeMap<String, u64>,
     steps: u64,
 }
 
 impl Met {
-    fn meet(&mut self, what: String) {
+    pub fn meet(&mut self, what: String) {
         *self.times.entry(what).or_default() += 1;
     }
 }
@@ -76,6 +78,8 @@ fn wanted() -> Vec<String> {
             wanted.push(format!("step answers {}", answer.words()));
         }
     }
+    wanted.extend(END.map(|end| format!("session ends with {end}")));
+    wanted.push("session with a short result".to_string());
     for room in ["cells", "keys", "pairs", "functions", "frames", "bindings"] {
         wanted.push(format!("no room in {room} alone"));
     }
@@ -92,11 +96,15 @@ fn compare_job(job: &[u8], rng: &mut Rng, met: &mut Met) -> Result<Option<Vec<u8
 }
 
 /// Lengths of tables that are long enough.
-fn long_enough(rng: &mut Rng) -> [usize; 8] {
+pub fn long_enough(rng: &mut Rng) -> [usize; 8] {
     LENGTHS.map(|least| if rng.chance(60) { least } else { least + rng.below(50) })
 }
 
-fn same<T: PartialEq + std::fmt::Debug>(what: &str, proved: T, second: T) -> Result<(), String> {
+pub fn same<T: PartialEq + std::fmt::Debug>(
+    what: &str,
+    proved: T,
+    second: T,
+) -> Result<(), String> {
     match proved == second {
         true => Ok(()),
         false => Err(format!("{what}: proved {proved:?}, second {second:?}")),
@@ -104,7 +112,7 @@ fn same<T: PartialEq + std::fmt::Debug>(what: &str, proved: T, second: T) -> Res
 }
 
 /// Whether no table differs.
-fn same_tables(what: &str, differs: Option<&str>) -> Result<(), String> {
+pub fn same_tables(what: &str, differs: Option<&str>) -> Result<(), String> {
     match differs {
         None => Ok(()),
         Some(table) => Err(format!("{what}: table {table}")),
@@ -201,7 +209,7 @@ fn compare_run(
     let read = match read(job).and_then(|job| tree(&job).map(|()| job)) {
         Ok(read) => read,
         Err(refusal) => {
-            compare_refused_run(job, refusal, &mut tables, met)?;
+            compare_refused_run(job, refusal, &mut tables, rng, met)?;
             return Ok(None);
         }
     };
@@ -217,6 +225,7 @@ fn compare_run(
     same(&format!("rooms after calls {calls:?}"), rooms, expected::rooms(machine.rooms()))?;
     let words = words(&read, &read.types, &[]);
     same_tables("after a run", tables.differs(&before, &words, RUN_TABLES))?;
+    compare_session(job, &calls, rng, met)?;
     let last = meet_answers(&calls, &answers, accepted, met)?;
     if last == Some(Answer::NoRoom)
         && let [room] = machine.rooms().full()[..]
@@ -231,6 +240,7 @@ fn compare_refused_run(
     job: &[u8],
     Refusal { number, place }: Refusal,
     tables: &mut Tables,
+    rng: &mut Rng,
     met: &mut Met,
 ) -> Result<(), String> {
     let before = tables.clone();
@@ -238,6 +248,7 @@ fn compare_refused_run(
     same("start", (proved, rooms[0]), (number as u64, place as u64))?;
     same("no answers without a start", answers, vec![7; 4])?;
     met.meet(format!("not started {number:2}"));
+    compare_session(job, &[Call::Step], rng, met)?;
     same_tables("after no start", tables.differs(&before, &Words::default(), RUN_TABLES))
 }
 

@@ -5,6 +5,7 @@
 #![forbid(unsafe_code)]
 
 mod generated;
+mod sessions;
 
 use std::process::ExitCode;
 

@@ -1,6 +1,6 @@
 //! The proved code, and dirty tables to lend it.
 
-use jobdesk::lent::{self, Lent};
+use jobdesk::lent::{self, Lent, Results};
 use jobdesk::{Call, LENGTHS};
 use second::generate::Rng;
 
@@ -90,4 +90,49 @@ pub fn run(
     let (lent, _, _) = tables.lend();
     let number = lent::run(job, lent, &calls, &mut answers, &mut rooms);
     (number, answers, rooms)
+}
+
+/// The least lengths of what a session gives, after the answers: value, cells, out.
+pub const RESULTS: [usize; 3] = [2, 512, 2];
+
+/// What a session writes, with some words behind each slice that is lent.
+#[derive(Clone, Debug, PartialEq, Eq)]
+pub struct Held {
+    pub answers: Vec<u64>,
+    pub value: Vec<u64>,
+    pub cells: Vec<u64>,
+    pub out: Vec<u64>,
+}
+
+impl Held {
+    /// Dirty words for so many calls.
+    pub fn dirty(calls: usize, rng: &mut Rng) -> Self {
+        let mut words = |length: usize| (0..length + GUARD).map(|_| rng.word()).collect();
+        let [value, cells, out] = RESULTS;
+        Held {
+            answers: words(2 * calls),
+            value: words(value),
+            cells: words(cells),
+            out: words(out),
+        }
+    }
+}
+
+/// A session with tables and results of which so much is lent: answers, value, cells, out.
+pub fn session(
+    job: &[u8],
+    tables: &mut Tables,
+    calls: &[Call],
+    held: &mut Held,
+    lengths: [usize; 4],
+) -> u64 {
+    let calls: Vec<u64> = calls.iter().map(|call| call.word()).collect();
+    let results = Results {
+        answers: &mut held.answers[..lengths[0]],
+        value: &mut held.value[..lengths[1]],
+        cells: &mut held.cells[..lengths[2]],
+        out: &mut held.out[..lengths[3]],
+    };
+    let (lent, entries, effects) = tables.lend();
+    lent::session(job, lent, entries, effects, &calls, results)
 }

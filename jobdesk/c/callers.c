@@ -52,8 +52,9 @@ static void accepted(void)
     same("example, effect", out[1], 1u << 2);
     same("name 2", tables.names[2], 1 + 256);
     same("name 3", tables.names[3], 0);
-    same("kind of type 0", tables.types[0] & 0xFF, JOBDESK_NUMBER);
-    same("type 1", tables.types[1], JOBDESK_CELL + 256 * 2);
+    same("kind of type 0", JOBDESK_KIND_OF(tables.types[0]), JOBDESK_NUMBER);
+    same("kind of type 1", JOBDESK_KIND_OF(tables.types[1]), JOBDESK_CELL);
+    same("key of type 1", tables.types[1] >> 8, 2);
     same("type 2", tables.types[2], 0);
     same("value 0", tables.values[0], 0x20 + 256 + 16777216 * 7);
     same("head 1", tables.heads[1], 0x39);
@@ -153,6 +154,94 @@ static void short_tables(void)
     }
 }
 
+static void sessions(void)
+{
+    const uint64_t calls[] = { JOBDESK_RUN(2), JOBDESK_RUN(100000) };
+    const uint64_t wanted[] = { JOBDESK_SPENT, 2, JOBDESK_DONE, 1 };
+    uint64_t answers[4], value[JOBDESK_VALUE], cells[JOBDESK_CELLS], out[JOBDESK_OUT];
+    soil();
+    same("session", jobdesk_session_in(&tables, example, sizeof example, calls, 2, answers, value,
+                                       cells, out), JOBDESK_OK);
+    for (size_t i = 0; i < 4; i++)
+        same("answers of a session", answers[i], wanted[i]);
+    same("effect of a session", out[1], 1u << 2);
+    same("kind of the value", value[0], JOBDESK_NUMBER);
+    same("value", value[1], 7);
+    same("kind in cell 0", cells[0], JOBDESK_NUMBER);
+    same("number in cell 0", cells[1], 7);
+    same("no cell 1", cells[2] | cells[3], JOBDESK_NO_VALUE);
+    same("no cell 255", cells[JOBDESK_CELLS - 2], JOBDESK_NO_VALUE);
+    same("type 1 after a session", JOBDESK_KIND_OF(tables.types[1]), JOBDESK_CELL);
+    same("a session not ended", jobdesk_session_in(&tables, example, sizeof example, calls, 1, answers,
+                                                   value, cells, out), JOBDESK_OK);
+    same("no value", value[0] | value[1], JOBDESK_NO_VALUE);
+}
+
+/* A refused job is not run. */
+static void sessions_refused(void)
+{
+    const uint64_t calls[] = { JOBDESK_STEP };
+    uint8_t job[sizeof example];
+    uint64_t answers[2] = { 99, 99 }, value[JOBDESK_VALUE], cells[JOBDESK_CELLS], out[JOBDESK_OUT];
+    memcpy(job, example, sizeof example);
+    job[RIGHTS] = 0;
+    soil();
+    value[0] = value[1] = cells[0] = cells[1] = 99;
+    same("no rights, session", jobdesk_session_in(&tables, job, sizeof job, calls, 1, answers, value,
+                                                  cells, out), JOBDESK_BEYOND_RIGHTS);
+    same("no rights, session, place", out[0], 1);
+    same("no rights, no answer", answers[0] & answers[1], 99);
+    same("no rights, no value", value[0] | value[1], 0);
+    same("no rights, no cell", cells[0] | cells[1], 0);
+    same("no rights, session, tables zero", (uint64_t)all_bytes(0), 1);
+}
+
+/* A session of the example with results of these lengths: answers, value, cells, out. */
+static uint64_t session_with(const size_t lengths[4], uint64_t results[JOBDESK_CELLS + 6])
+{
+    const uint64_t calls[] = { JOBDESK_STEP };
+    return jobdesk_session(example, sizeof example, tables.names, JOBDESK_NAMES, tables.types,
+                           JOBDESK_TYPES, tables.sets, JOBDESK_SETS, tables.values, JOBDESK_VALUES,
+                           tables.heads, JOBDESK_HEADS, tables.slots, JOBDESK_SLOTS, tables.entries,
+                           JOBDESK_ENTRIES, tables.effects, JOBDESK_EFFECTS, calls, 1, results,
+                           lengths[0], results + 2, lengths[1], results + 4, lengths[2],
+                           results + 4 + JOBDESK_CELLS, lengths[3]);
+}
+
+/* Each result in turn is one word too short: 1, and nothing is written. */
+static void short_sessions(void)
+{
+    size_t lengths[4] = { JOBDESK_ANSWER, JOBDESK_VALUE, JOBDESK_CELLS, JOBDESK_OUT };
+    static uint64_t results[JOBDESK_CELLS + 6];
+    for (size_t result = 0; result < 4; result++) {
+        soil();
+        memset(results, 0xA5, sizeof results);
+        lengths[result]--;
+        same("short result", session_with(lengths, results), JOBDESK_SHORT_TABLE);
+        lengths[result]++;
+        same("short result, tables not written", (uint64_t)all_bytes(0xA5), 1);
+        for (size_t i = 0; i < JOBDESK_CELLS + 6; i++)
+            same("short result, nothing written", results[i], UINT64_C(0xA5A5A5A5A5A5A5A5));
+    }
+    same("results just long enough", session_with(lengths, results), JOBDESK_OK);
+}
+
+/* Answers that are too few: 1, and the tables stay. */
+static void short_answers(void)
+{
+    const uint64_t calls[] = { JOBDESK_STEP, JOBDESK_STEP };
+    uint64_t answers[3] = { 99, 99, 99 }, rooms[JOBDESK_ROOMS] = { 99, 99, 99, 99, 99, 99 };
+    soil();
+    same("short answers", jobdesk_run(example, sizeof example, tables.names, JOBDESK_NAMES, tables.types,
+                                      JOBDESK_TYPES, tables.sets, JOBDESK_SETS, tables.values,
+                                      JOBDESK_VALUES, tables.heads, JOBDESK_HEADS, tables.slots,
+                                      JOBDESK_SLOTS, calls, 2, answers, 3, rooms, JOBDESK_ROOMS),
+         JOBDESK_SHORT_TABLE);
+    same("short answers, place", rooms[0], 0);
+    same("short answers, no answer", answers[0] & answers[1] & answers[2], 99);
+    same("short answers, nothing written", (uint64_t)all_bytes(0xA5), 1);
+}
+
 /* `out` and `rooms` get no more entries than they have. */
 static void short_results(void)
 {
@@ -173,6 +262,10 @@ int main(void)
     runs();
     runs_refused();
     short_tables();
+    sessions();
+    sessions_refused();
+    short_sessions();
+    short_answers();
     short_results();
     printf("jobdesk.h: %d differences\n", differences);
     return differences > 0;

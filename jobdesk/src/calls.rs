@@ -63,9 +63,13 @@ pub struct Answered {
 }
 
 impl Answered {
-    /// What two words of the library's answers say.
-    pub(crate) fn of([answer, steps]: [u64; 2]) -> Self {
-        Answered { answer: Answer::ALL[answer as usize % 6], steps }
+    /// What the library's answers say, two words each.
+    pub(crate) fn all(words: &[u64]) -> Vec<Self> {
+        let of = |&[answer, steps]: &[u64; 2]| Answered {
+            answer: Answer::ALL[answer as usize % 6],
+            steps,
+        };
+        words.as_chunks().0.iter().map(of).collect()
     }
 }
 

@@ -44,6 +44,10 @@ macro_rules! library {
 library! {
     fn jobdesk_check(entries: *mut u16, effects: *mut u64, out: *mut u64);
     fn jobdesk_run(calls: *const u64, answers: *mut u64, rooms: *mut u64);
+    fn jobdesk_session(
+        entries: *mut u16, effects: *mut u64, calls: *const u64, answers: *mut u64,
+        value: *mut u64, cells: *mut u64, out: *mut u64
+    );
 }
 
 /// Calls one of them with a job, the tables that hold it, and its own slices, each the pair of a
@@ -96,4 +100,34 @@ pub fn run(
 ) -> u64 {
     let made = (calls.as_ptr(), calls.len());
     call!(jobdesk_run, job, lent, made, part(answers), part(rooms))
+}
+
+/// The slices for what a session gives.
+#[derive(Debug)]
+pub struct Results<'a> {
+    /// Two words for each call.
+    pub answers: &'a mut [u64],
+    /// Two words or more.
+    pub value: &'a mut [u64],
+    /// 512 words or more.
+    pub cells: &'a mut [u64],
+    /// Two words or more.
+    pub out: &'a mut [u64],
+}
+
+/// Checks a job and, where it is accepted, starts it and makes the calls. 0: it is accepted. 1 to
+/// 14: it is refused; where 1 is for a slice of the results, nothing is written.
+pub fn session(
+    job: &[u8],
+    lent: Lent,
+    entries: &mut [u16],
+    effects: &mut [u64],
+    calls: &[u64],
+    results: Results,
+) -> u64 {
+    let Results { answers, value, cells, out } = results;
+    let (entries, effects) = (part(entries), part(effects));
+    let made = (calls.as_ptr(), calls.len());
+    let (answers, value, cells, out) = (part(answers), part(value), part(cells), part(out));
+    call!(jobdesk_session, job, lent, entries, effects, made, answers, value, cells, out)
 }

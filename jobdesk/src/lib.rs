@@ -1,21 +1,19 @@
 //! The proved check and machine for keyed jobs.
 //!
-//! [`Tables`] owns the work tables that the proved code is lent. A job is checked before it is run:
+//! [`Tables`] owns the work tables that the proved code is lent. A session checks a job and, if it is
+//! accepted, runs it:
 //!
 //! ```
-//! use jobdesk::{Answer, Call, Kind, Tables};
+//! use jobdesk::{Answer, Call, Kind, Tables, Value};
 //!
 //! // A host cell that holds 7 and whose key is name 2; the job reads it.
 //! let job = b"\x01\x01\x10\x00\x12\x02\0\0\x20\x01\0\x07\0\0\0\x21\x04\0\0\0\0\0\0\0\x32\0\x39\0\0\xFF";
 //! let mut tables = Tables::new();
 //!
-//! let accepted = tables.check(job)?;
-//! assert_eq!(accepted.kind(), Kind::Number);
-//! assert_eq!(accepted.effect(), 1 << 2);
-//!
-//! let ran = tables.run(job, &[Call::Run(100_000)])?;
-//! assert_eq!(ran.answers[0].answer, Answer::Done);
-//! assert_eq!(ran.answers[0].steps, 3);
+//! let session = tables.session(job, &[Call::Run(100_000)])?;
+//! assert_eq!(session.accepted.effect(), 1 << 2);
+//! assert_eq!(session.answers[0].answer, Answer::Done);
+//! assert_eq!(session.value, Some(Value { kind: Kind::Number, data: 7 }));
 //! # Ok::<(), jobdesk::Refusal>(())
 //! ```
 //!
@@ -36,4 +34,4 @@ mod tables;
 
 pub use calls::{Answer, Answered, Call, Ran, Rooms};
 pub use refusal::{Place, Refusal};
-pub use tables::{Accepted, Kind, LENGTHS, Tables};
+pub use tables::{Accepted, Kind, LENGTHS, Session, Tables, Value};

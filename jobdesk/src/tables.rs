@@ -2,7 +2,7 @@
 #![forbid(unsafe_code)]
 
 use crate::calls::{Answered, Call, Ran, Rooms};
-use crate::lent::{self, Lent};
+use crate::lent::{self, Lent, Results};
 use crate::refusal::Refusal;
 
 /// The least lengths: names, types, sets, values, heads, slots, entries, effects.
@@ -66,7 +66,46 @@ impl Tables {
         }
     }
 
-    /// Starts a job and makes the calls. Every job that is free of 1 to 10 is started, also one
+    /// Checks a job and, where it is accepted, starts it and makes the calls. It is proved that no
+    /// call of a session is stuck or denied.
+    ///
+    /// ```
+    /// use jobdesk::{Answer, Call, Kind, Tables, Value};
+    ///
+    /// let mut tables = Tables::new();
+    /// // A new cell that holds 5; 8 is assigned to it.
+    /// let job = b"\x10\0\x21\0\0\0\0\0\0\0\0\x30\x05\0\0\0\x37\0\0\0\0\x30\x08\0\0\0\x38\x01\0\x02\0\xFF";
+    /// let session = tables.session(job, &[Call::Run(100_000)])?;
+    /// assert_eq!(session.accepted.kind(), Kind::Number);
+    /// assert_eq!(session.answers[0].answer, Answer::Done);
+    /// let eight = Value { kind: Kind::Number, data: 8 };
+    /// assert_eq!(session.value, Some(eight));
+    /// assert_eq!(session.cells, [eight]);
+    /// # Ok::<(), jobdesk::Refusal>(())
+    /// ```
+    ///
+    /// # Errors
+    /// The job's refusal, of 2 to 14. No call is made then.
+    pub fn session(&mut self, job: &[u8], calls: &[Call]) -> Result<Session<'_>, Refusal> {
+        let words: Vec<u64> = calls.iter().map(|call| call.word()).collect();
+        let mut answers = vec![0; 2 * words.len()];
+        let (mut value, mut cells, mut out) = ([0; 2], [0; 512], [0; 2]);
+        let results =
+            Results { answers: &mut answers, value: &mut value, cells: &mut cells, out: &mut out };
+        let Tables { names, types, sets, values, heads, slots, entries, effects } = self;
+        let lent = Lent { names, types, sets, values, heads, slots };
+        match lent::session(job, lent, entries, effects, &words, results) {
+            0 => Ok(Session {
+                accepted: Accepted { tables: self, entry: out[0] as u16, effect: out[1] },
+                answers: Answered::all(&answers),
+                value: Value::of(value),
+                cells: cells.as_chunks().0.iter().map_while(|&words| Value::of(words)).collect(),
+            }),
+            number => Err(refusal(number, out[0])),
+        }
+    }
+
+    /// Starts a job and makes the calls, without a check. Every job that is free of 1 to 10 is started, also one
     /// that the check refuses with 11 to 14: that it is started is no verdict. Only of a job that
     /// the check accepts is it proved that no call is stuck or denied.
     ///
@@ -89,8 +128,7 @@ impl Tables {
         let words: Vec<u64> = calls.iter().map(|call| call.word()).collect();
         let mut answers = vec![0; 2 * words.len()];
         let rooms = self.run_words(job, &words, &mut answers)?;
-        let (pairs, _) = answers.as_chunks();
-        Ok(Ran { answers: pairs.iter().map(|&words| Answered::of(words)).collect(), rooms })
+        Ok(Ran { answers: Answered::all(&answers), rooms })
     }
 
     /// The same with calls and answers as words: 0 is a step, n + 1 a run of n; of each call the
@@ -105,9 +143,6 @@ impl Tables {
         calls: &[u64],
         answers: &mut [u64],
     ) -> Result<Rooms, Refusal> {
-        if answers.len() / 2 < calls.len() {
-            return Err(Refusal { number: 1, place: 0 });
-        }
         let mut rooms = [0; 6];
         let Tables { names, types, sets, values, heads, slots, .. } = self;
         let lent = Lent { names, types, sets, values, heads, slots };
@@ -140,16 +175,14 @@ pub enum Kind {
 }
 
 impl Kind {
-    /// The kind of an entry of the type table, by its low byte.
-    fn of(word: u64) -> Kind {
-        match word as u8 {
-            0x11 => Kind::Pair,
-            0x12 => Kind::Cell,
-            0x13 => Kind::Function,
-            0x14 => Kind::Limit,
-            0x15 => Kind::Grant,
-            _ => Kind::Number,
-        }
+    /// Every kind, in the order of the command bytes of types.
+    pub const ALL: [Kind; 6] =
+        [Kind::Number, Kind::Pair, Kind::Cell, Kind::Function, Kind::Limit, Kind::Grant];
+
+    /// The kind of an entry of the type table, by its command byte.
+    fn of_type(word: u64) -> Kind {
+        let command = word as u8;
+        Kind::ALL.into_iter().find(|&kind| kind as u8 + 0x10 == command).unwrap_or(Kind::Number)
     }
 
     /// The word for it.
@@ -179,7 +212,7 @@ impl<'a> Accepted<'a> {
 
     /// The kind of the job's value.
     pub fn kind(&self) -> Kind {
-        Kind::of(self.tables.types[self.entry as usize % LENGTHS[1]])
+        Kind::of_type(self.tables.types[self.entry as usize % LENGTHS[1]])
     }
 
     /// The type table. An entry has the type's command byte in its low byte, then its key, and from
@@ -202,4 +235,36 @@ impl<'a> Accepted<'a> {
         let used = heads.iter().take_while(|&&word| word != 0).count();
         entries.iter().copied().zip(effects.iter().copied()).take(used)
     }
+}
+
+/// A value, without its key.
+#[derive(Clone, Copy, Debug, PartialEq, Eq, Hash)]
+pub struct Value {
+    /// Its kind.
+    pub kind: Kind,
+    /// The number itself; the number of the pair, cell or function; or the key that a limit key or
+    /// a grant key stands for.
+    pub data: u32,
+}
+
+impl Value {
+    /// What two words of the library say.
+    fn of([kind, data]: [u64; 2]) -> Option<Value> {
+        let place = (kind as usize).checked_sub(1)?;
+        Some(Value { kind: *Kind::ALL.get(place)?, data: data as u32 })
+    }
+}
+
+/// What a session gave.
+#[derive(Clone, Debug, PartialEq, Eq)]
+pub struct Session<'a> {
+    /// The verdict.
+    pub accepted: Accepted<'a>,
+    /// The answer to each call.
+    pub answers: Vec<Answered>,
+    /// The job's value, where it has ended.
+    pub value: Option<Value>,
+    /// What each cell holds after the last call. The host values that are cells come first, in
+    /// their order.
+    pub cells: Vec<Value>,
 }

@@ -2,7 +2,7 @@
 
 use std::error::Error;
 
-use jobdesk::{Answer, Answered, Call, Kind, LENGTHS, Place, Refusal, Rooms, Tables};
+use jobdesk::{Answer, Answered, Call, Kind, LENGTHS, Place, Refusal, Rooms, Tables, Value};
 
 /// The read of a host cell that holds 7 and whose key is name 2, with some rights.
 fn example(rights: u8) -> Vec<u8> {
@@ -52,6 +52,20 @@ fn runs() {
 }
 
 #[test]
+fn sessions() {
+    let mut tables = Tables::new();
+    let seven = Value { kind: Kind::Number, data: 7 };
+    let session = tables.session(&example(4), &[Call::Run(2), Call::Step]).expect("a session");
+    let answers = session.answers.iter().map(|call| (call.answer, call.steps));
+    assert!(answers.eq([(Answer::Spent, 2), (Answer::Taken, 1)]));
+    assert_eq!((session.value, &session.cells[..]), (Some(seven), &[seven][..]));
+    assert_eq!((session.accepted.effect(), session.accepted.kind()), (4, Kind::Number));
+    let session = tables.session(&example(4), &[]).expect("a session");
+    assert_eq!((session.answers.len(), session.value), (0, None));
+    assert_eq!(tables.session(&example(0), &[]), Err(Refusal { number: 14, place: 1 }));
+}
+
+#[test]
 fn short_answers() {
     let mut tables = Tables::new();
     let short = Refusal { number: 1, place: 0 };
@@ -84,5 +98,7 @@ fn numbers_of_the_header() {
     assert_eq!(tables.map(defined), LENGTHS);
     let answers = ["TAKEN", "DONE", "SPENT", "NO_ROOM", "STUCK", "DENIED"];
     assert_eq!(answers.map(defined), Answer::ALL.map(|answer| answer.number() as usize));
-    assert_eq!([defined("OUT"), defined("ROOMS"), defined("ANSWER")], [2, 6, 2]);
+    assert_eq!(["OUT", "ROOMS", "ANSWER", "VALUE", "CELLS"].map(defined), [2, 6, 2, 2, 512]);
+    let kinds = ["NUMBER", "PAIR", "CELL", "FUNCTION", "LIMIT", "GRANT"];
+    assert_eq!(kinds.map(defined), Kind::ALL.map(|kind| kind as usize + 1));
 }

@@ -156,6 +156,11 @@ impl Machine {
         }
     }
 
+    /// What the cells hold that are in use.
+    pub fn cells(&self) -> &[Value] {
+        &self.cells[..self.rooms.cells]
+    }
+
     /// Takes up to `steps` steps; says how it ended and how many were taken.
     pub fn run(&mut self, steps: u64) -> (Outcome, u64) {
         // The control is kept at hand and put back at the end.

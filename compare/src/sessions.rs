@@ -1,0 +1,94 @@
+//! Sessions of generated jobs: verdict, tables, answers, the value at the end and the cells.
+
+use compare::expected;
+use compare::proved::{Held, RESULTS, Tables, session};
+use compare::words::{Words, words};
+use jobdesk::Call;
+use second::generate::Rng;
+use second::{Accepted, Job, Machine, Refusal, Value, check, read};
+
+use crate::generated::{Met, long_enough, same, same_tables};
+
+/// What a session ends with, by the first word of the value.
+pub const END: [&str; 7] = ["no value", "number", "pair", "cell", "function", "limit", "grant"];
+
+/// The two words of a value, or of none.
+fn value_words(value: Option<Value>) -> [u64; 2] {
+    value.map_or([0; 2], |value| [value.kind() as u64 + 1, value.data() as u64])
+}
+
+/// What a session must leave: the words it writes over those that were there.
+fn over(before: &Held, answers: &[u64], machine: Option<&Machine>, out: [u64; 2]) -> Held {
+    let mut held = before.clone();
+    held.answers[..answers.len()].copy_from_slice(answers);
+    held.value[..2].copy_from_slice(&value_words(machine.and_then(Machine::result)));
+    let cells = machine.map_or(&[][..], Machine::cells);
+    for (place, words) in held.cells[..RESULTS[1]].chunks_mut(2).enumerate() {
+        words.copy_from_slice(&value_words(cells.get(place).copied()));
+    }
+    held.out[..2].copy_from_slice(&out);
+    held
+}
+
+/// Compares a session of a job.
+pub fn compare_session(
+    job: &[u8],
+    calls: &[Call],
+    rng: &mut Rng,
+    met: &mut Met,
+) -> Result<(), String> {
+    let mut tables = Tables::dirty(long_enough(rng), rng);
+    let mut held = Held::dirty(calls.len(), rng);
+    let (before, lent) = (tables.clone(), held.clone());
+    let lengths = [2 * calls.len(), RESULTS[0], RESULTS[1], RESULTS[2]];
+    if rng.chance(10) {
+        compare_short(job, calls, (&mut tables, &mut held), lengths, rng)?;
+        met.meet("session with a short result".to_string());
+    }
+    let number = session(job, &mut tables, calls, &mut held, lengths);
+    match check(job).and_then(|accepted| Ok((accepted, read(job)?))) {
+        Ok((accepted, job)) => {
+            let expected = accepted_session(&job, &accepted, calls, &lent);
+            same("session", number, 0)?;
+            same_held(&held, &expected)?;
+            met.meet(format!("session ends with {}", END[held.value[0] as usize % 7]));
+            let words = words(&job, &accepted.types, &accepted.exprs);
+            same_tables("after a session", tables.differs(&before, &words, 8))
+        }
+        Err(Refusal { number: refused, place }) => {
+            same("session", number, refused as u64)?;
+            same_held(&held, &over(&lent, &[], None, [place as u64, 0]))?;
+            same_tables("after no session", tables.differs(&before, &Words::default(), 8))
+        }
+    }
+}
+
+/// What the session of an accepted job must leave.
+fn accepted_session(job: &Job, accepted: &Accepted, calls: &[Call], lent: &Held) -> Held {
+    let mut machine = Machine::of(job);
+    let answers = expected::run(&mut machine, calls);
+    over(lent, &answers, Some(&machine), [accepted.entry as u64, accepted.effect])
+}
+
+fn same_held(proved: &Held, second: &Held) -> Result<(), String> {
+    same("answers of a session", &proved.answers, &second.answers)?;
+    same("value of a session", &proved.value, &second.value)?;
+    same("cells of a session", &proved.cells, &second.cells)?;
+    same("what a session tells", &proved.out, &second.out)
+}
+
+/// A session with a result that is too short: 1, and nothing is written.
+fn compare_short(
+    job: &[u8],
+    calls: &[Call],
+    (tables, held): (&mut Tables, &mut Held),
+    mut lengths: [usize; 4],
+    rng: &mut Rng,
+) -> Result<(), String> {
+    let (before, lent) = (tables.clone(), held.clone());
+    let result = rng.below(4);
+    lengths[result] = rng.below(lengths[result]);
+    same("session with a short result", session(job, tables, calls, held, lengths), 1)?;
+    same_held(held, &lent)?;
+    same_tables("short result", tables.differs(&before, &Words::default(), 0))
+}
