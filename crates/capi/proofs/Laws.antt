@@ -21,10 +21,10 @@ use Rattle.machine.specs.View.{view, seen}
 use Rattle.calls.specs.Words.{callsIn, resultWords, over}
 use Rattle.calls.specs.Laws.{sets-over, over-fits, result-length}
 use Rattle.calls.specs.Made.{Made}
-use Rattle.begin.specs.declared.Told.{Told}
-use Rattle.begin.specs.declared.Told.the-variants as told
-use Rattle.begin.specs.declared.Opened.{Opened}
-use Rattle.begin.specs.Starts.{toldIn, Starts}
+use Rattle.start.specs.declared.Told.{Told}
+use Rattle.start.specs.declared.Told.the-variants as told
+use Rattle.start.specs.declared.Opened.{Opened}
+use Rattle.start.specs.Starts.{toldIn, Starts}
 use Rattle.checker.specs.declared.Verdict.{Verdict}
 use Rattle.checker.specs.declared.Verdict.the-variants as verdict
 use Rattle.session.specs.Session.{roomFor}

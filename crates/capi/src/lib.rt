@@ -1,18 +1,18 @@
 // The check and the machine for C and Rust: plain numbers and slices.
 mod result;
 
-use begin::Told;
 use checker::Verdict;
 use machine::Machine;
 use machine::Thread;
 use session::Held;
+use start::Told;
 ghost use mathlib.Core.Path.{_≡_};
 ghost use lib.ListN.{set};
 ghost use Rattle.syntax.specs.Words.{codeIn};
 ghost use Rattle.store.specs.Tables.{capped};
 ghost use Rattle.machine.specs.View.{seen};
 ghost use Rattle.calls.specs.Words.{over};
-ghost use Rattle.begin.specs.Starts.{jobTables};
+ghost use Rattle.start.specs.Starts.{jobTables};
 ghost use Rattle.checker.specs.Answer.{tables};
 ghost use Rattle.capi.specs.Checks.{numberFor, outWords, Checks};
 ghost use Rattle.capi.specs.Runs.{countWords, Goes, Runs};
@@ -112,7 +112,7 @@ pub extern "C" fn jobdesk_run(
         put(rooms, 0, 0);
         return 1;
     }
-    let o = begin::start(job, names, types, sets, values, heads, slots);
+    let o = start::start(job, names, types, sets, values, heads, slots);
     let told = o.told;
     match told {
         Told::Started => {

@@ -5,7 +5,7 @@ use mathlib.Core.Bool.{Bool, true, false, cond}
 use mathlib.Core.List.{List, [], _∷_}
 use lib.ListN.{length, getD, take, drop}
 use lib.Dec.{eqb, leb}
-use Rattle.report.specs.Lines.{printed}
+use Rattle.output.specs.Lines.{printed}
 use Rattle.cases.specs.declared.Tally.{Tally}
 
 -- of the first case: the length of the job, of the answer, and of it all; a byte that is missing counts as 0

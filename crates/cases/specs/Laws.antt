@@ -7,7 +7,7 @@ use mathlib.Core.List.{List, [], _∷_}
 use lib.ListN.{length, length-drop}
 use lib.Dec.{eqb, leb}
 use borrow.Author.Tests.{eqb-true, leb-true, eq-eqb, le-leb}
-use Rattle.report.specs.Lines.{printed}
+use Rattle.output.specs.Lines.{printed}
 use Rattle.cases.specs.Cases.{caseLength, jobOf, answerOf, same, agrees, atEnd, after, casesIn, casesOf, trues, falses, tallyOf}
 
 pub same-equal : (s t : List ℕ) → same s t ≡ true → s ≡ t

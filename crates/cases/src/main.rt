@@ -2,7 +2,7 @@
 // implementation prints for each. Standard output says how many of these answers are the desk's.
 use libc::STDOUT_FILENO;
 ghost use mathlib.Core.Path.{_≡_};
-ghost use Rattle.report.specs.Lines.{printed};
+ghost use Rattle.output.specs.Lines.{printed};
 ghost use Rattle.cases.specs.Cases.{jobLength, answerLength, caseLength, same, agrees as agreesOf, atEnd, after as afterOf, tallyOf};
 
 // How many recorded answers are what the desk prints, and how many are not.
@@ -63,7 +63,7 @@ fn after(file: &[u8]) -> &[u8]
 fn prints<'a>(job: &'a [u8], answer: &'a [u8]) -> bool
     ensures { λ r. ⌜ r ≡ same (printed (now (job .entry))) (now (answer .entry)) ⌝ }
 {
-    let text = lines::print(job);
+    let text = print::print(job);
     let bytes = text.bytes;
     let n = text.len;
     if n < 128 {

@@ -7,9 +7,9 @@ use types.Run.{OneOf, miss}
 use denote.Enum.Declared.{tagOf}
 use Rattle.order.specs.Bools.{_or_}
 use Rattle.syntax.specs.Tree.{past}
-use Rattle.numbering.specs.declared.Passed.{Passed}
-use Rattle.numbering.specs.declared.Passed.the-variants as passed
-use Rattle.numbering.proofs.Passed.{the-type as passed-type}
+use Rattle.elaborate.specs.declared.Passed.{Passed}
+use Rattle.elaborate.specs.declared.Passed.the-variants as passed
+use Rattle.elaborate.proofs.Passed.{the-type as passed-type}
 use Rattle.tree.specs.declared.Answer.{Answer}
 use Rattle.tree.specs.declared.Answer.the-variants as answers
 use Rattle.tree.proofs.Answer.{the-type as answer-type}

@@ -15,7 +15,7 @@ use Rattle.typing.specs.Tables.{Tables, short, tablesAfter, verdictWith}
 use Rattle.typing.specs.Numbered.{Sofar, whole, numbering}
 use Rattle.typing.specs.NumberedLaws.{Inv}
 use Rattle.typing.specs.NumberedVerdict.{lastEntry, lastEffect, filledFrom}
-use Rattle.numbering.specs.OpsLaws.{jobOps}
+use Rattle.elaborate.specs.OpsLaws.{jobOps}
 use Rattle.job.specs.declared.Shape.{Shape}
 use Rattle.job.specs.Answer.{shapeOf}
 use Rattle.checker.specs.declared.Verdict.{Verdict}

@@ -24,11 +24,11 @@ use Rattle.typing.specs.NumberedLaws.{Inv, Fits, inv-fits}
 use Rattle.typing.specs.NumberedWords.{words-back}
 use Rattle.typing.specs.NumberedVerdict.{lastOf, lastEntry, lastEffect, filledFrom, verdict-refused, verdict-tree, verdict-halted, verdict-beyond, verdict-within, tables-accepted, tables-refused, tables-short}
 use Rattle.names.specs.Ancestors.{namesIn, ancestorsBy, effBelowBy}
-use Rattle.numbering.specs.declared.Passed.{Passed}
-use Rattle.numbering.specs.declared.Passed.the-variants as passed
-use Rattle.numbering.specs.Pass.{Out, Ended, numberedBy}
-use Rattle.numbering.specs.OpsLaws.{jobOps, agree, names-held}
-use Rattle.numbering.specs.Right.{Reached, r-whole, r-halted, numbered-right}
+use Rattle.elaborate.specs.declared.Passed.{Passed}
+use Rattle.elaborate.specs.declared.Passed.the-variants as passed
+use Rattle.elaborate.specs.Pass.{Out, Ended, numberedBy}
+use Rattle.elaborate.specs.OpsLaws.{jobOps, agree, names-held}
+use Rattle.elaborate.specs.Right.{Reached, r-whole, r-halted, numbered-right}
 use Rattle.job.specs.declared.Shape.{Shape}
 use Rattle.job.specs.declared.Answer.{Answer}
 use Rattle.job.specs.declared.Answer.the-variants as answers

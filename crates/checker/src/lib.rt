@@ -1,10 +1,10 @@
 // The check of a job: reading, the tree of its expressions, their types, and the rights; with the tables that it leaves.
+use elaborate::Passed;
 use job::Shape;
 use job::clear16;
 use job::clear64;
 use names::at16;
 use names::at64;
-use numbering::Passed;
 ghost use mathlib.Core.Path.{_≡_};
 ghost use mathlib.Core.List.{List};
 ghost use mathlib.Core.Option.{none};
@@ -116,7 +116,7 @@ fn typed<'a>(
     ensures { λ r. ⌜ ((bytes : List ℕ) (J : Job) → Given bytes J g (tables (now (names .entry)) (now (types .entry)) (now (sets .entry)) (now (values .entry)) (now (heads .entry)) (now (slots .entry)) (now (entries .entry)) (now (effects .entry))) → treeRefusal (sourceOf J) ≡ none → Judged bytes J r (tables (now (names .entry)) (now (types .exit)) (now (sets .exit)) (now (values .entry)) (now (heads .entry)) (now (slots .entry)) (now (entries .exit)) (now (effects .exit)))) ⌝ }
 {
     let anc = names::ancestors(names, g.names);
-    match numbering::number_all(
+    match elaborate::number_all(
         names,
         &anc,
         values,

@@ -1,17 +1,17 @@
 // The desk program: standard input is a job, and its lines go to standard output. Where a read fails there is no job and no verdict. That, or a write that
 // fails, is said on standard error, where nothing else is written. A program has no exit status of its own: the command `desk` at the top makes one of it.
+use format::Text;
 use libc::STDERR_FILENO;
 use libc::STDIN_FILENO;
 use libc::STDOUT_FILENO;
-use report::Text;
 ghost use mathlib.Core.Path.{_≡_};
 ghost use mathlib.Core.Bool.{cond};
 ghost use mathlib.Core.List.{[]};
 ghost use Prim.Native.Nat.{_+_, _≤_};
 ghost use lib.ListN.{length};
 ghost use Rattle.io.specs.Counts.{Counts};
-ghost use Rattle.report.specs.Lines.{printed};
-ghost use Rattle.report.specs.Text.{textOf};
+ghost use Rattle.output.specs.Lines.{printed};
+ghost use Rattle.format.specs.Text.{textOf};
 
 // What one read gave: so many bytes, none at the end of the input; or it failed.
 struct Part {
@@ -65,9 +65,9 @@ fn reply(job: &[u8], whole: bool) -> Text
     ensures { λ r. ⌜ textOf r ≡ cond whole (printed (now (job .entry))) [] ⌝ }
 {
     if whole {
-        return lines::print(job);
+        return print::print(job);
     }
-    report::empty()
+    format::empty()
 }
 
 // The first n of the bytes go to standard output. Whether they are all written.

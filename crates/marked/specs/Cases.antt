@@ -27,7 +27,7 @@ use Rattle.semantics.specs.Start as Start
 use Rattle.semantics.specs.Calls as Calls
 use Rattle.semantics.specs.Starting as Starting
 use Rattle.semantics.specs.MarkedSteps as MarkedSteps
-use Rattle.report.specs.Lines as Lines
+use Rattle.output.specs.Lines as Lines
 use Rattle.marked.specs.Jobs as Jobs
 
 -- "With names 2 under 1, and 3 and 4 under 2"

@@ -30,8 +30,8 @@ use Rattle.checker.specs.declared.Verdict.the-variants as verdicts
 use Rattle.checker.specs.Answer.{verdictIn, lastIn, CheckTo}
 use Rattle.job.specs.declared.Shape.{Shape}
 use Rattle.job.specs.Answer.{shapeOf}
-use Rattle.begin.specs.Starts.{builtFrom, ready-built}
-use Rattle.accepting.specs.Accepting.{Accepting, accepting}
+use Rattle.start.specs.Starts.{builtFrom, ready-built}
+use Rattle.safety.specs.Accepting.{Accepting, accepting}
 use Rattle.session.specs.declared.Held.{Held}
 use Rattle.session.specs.Session.{roomFor, sessionVerdict, sessionTables, Answered, RefusedWith, SessionTo}
 

@@ -17,7 +17,7 @@ use Rattle.semantics.specs.Calls.{Ran}
 use Rattle.semantics.specs.Demand3.{exprOf, callsOf, Allowed}
 use Rattle.machine.specs.View.{seen}
 use Rattle.calls.specs.Words.{callsIn, resultWords, lastOf}
-use Rattle.start.specs.Empty.{emptyMachine}
+use Rattle.initial.specs.Empty.{emptyMachine}
 use Rattle.checker.specs.declared.Verdict.the-variants.{Accepted, Refused}
 use Rattle.checker.specs.Answer.{verdictIn, lastIn}
 use Rattle.session.specs.declared.Held.{Held}

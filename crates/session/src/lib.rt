@@ -6,7 +6,7 @@ ghost use Rattle.syntax.specs.Words.{codeIn};
 ghost use Rattle.machine.specs.View.{seen};
 ghost use Rattle.calls.specs.Made.{Made};
 ghost use Rattle.checker.specs.Answer.{tables};
-ghost use Rattle.begin.specs.Starts.{builtFrom};
+ghost use Rattle.start.specs.Starts.{builtFrom};
 ghost use Rattle.session.specs.Session.{RefusedWith, SessionTo};
 
 // The verdict, and the machine that the last call gave. The machine of a refused session is the empty one.
@@ -28,7 +28,7 @@ fn answer(
 ) -> Machine
     ensures { λ r. ⌜ Made (codeIn (now (heads .entry)) (now (slots .entry))) (now (calls .entry)) (builtFrom g (now (names .entry)) (now (types .entry)) (now (values .entry))) (now (answers .entry)) (now (answers .exit)) (seen r) ⌝ }
 {
-    let m = begin::built(g, names, types, values);
+    let m = start::built(g, names, types, values);
     calls::make_calls(m, heads, slots, calls, answers)
 }
 
@@ -36,7 +36,7 @@ fn answer(
 fn refused(n: u8, p: usize) -> Held
     ensures { λ r. ⌜ RefusedWith n p r ⌝ }
 {
-    let m = begin::empty();
+    let m = start::empty();
     Held {
         verdict: Verdict::Refused(n, p),
         machine: m,

@@ -1,4 +1,2 @@
-pub mod Names
-pub mod Values
-pub mod Rights
-pub mod Jobs
+pub mod Building
+pub mod Tables

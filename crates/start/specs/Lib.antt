@@ -1,4 +1,1 @@
-pub mod Entries
-pub mod Empty
-pub mod Begun
-pub mod Held
+pub mod Starts

@@ -4,7 +4,7 @@ use Rattle.capi.proofs.jobdesk_run.Statement.{statement}
 use Rattle.capi.proofs.jobdesk_run.Tie as tie
 use Rattle.capi.proofs.jobdesk_run.Reads as reads
 use Rattle.capi.proofs.jobdesk_run.Lts as lts
-use Rattle.begin.proofs.start.Reads as start-reads
+use Rattle.start.proofs.start.Reads as start-reads
 use Rattle.capi.proofs.go.Reads as go-reads
 use Rattle.capi.proofs.put.Reads as put-reads
 use Rattle.capi.proofs.wide.Reads as wide-reads

@@ -2,7 +2,7 @@ use mathlib.Core.Path.{_≡_, sym, _∙_}
 use native.Mathlib.Omega.{arith}
 use lib.ListN.{length}
 use lib.Seq.{take-all, length-take-le}
-use Rattle.report.specs.Text.{textOf}
+use Rattle.format.specs.Text.{textOf}
 use Rattle.cases.proofs.Counting.{prints-is}
 use borrow.Author.Needs.{needs}
 use Rattle.cases.proofs.prints.Statement.{statement}

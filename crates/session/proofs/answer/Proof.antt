@@ -4,7 +4,7 @@ use Rattle.session.proofs.answer.Statement.{statement}
 use Rattle.session.proofs.answer.Tie as tie
 use Rattle.session.proofs.answer.Reads as reads
 use Rattle.session.proofs.answer.Lts as lts
-use Rattle.begin.proofs.built.Reads as built-reads
+use Rattle.start.proofs.built.Reads as built-reads
 use Rattle.calls.proofs.make_calls.Reads as make-calls-reads
 
 built-requires : tie.Need-built-requires

@@ -1,0 +1,110 @@
+use mathlib.Core.Path.{refl}
+use borrow.Author.Needs.{needs}
+use Rattle.infer.specs.Answer.{resultIn}
+use Rattle.elaborate.specs.Pass.{nextOf, settled}
+use Rattle.elaborate.proofs.settle.Statement.{statement}
+use Rattle.elaborate.proofs.settle.Tie as tie
+
+enum-known-t : tie.Need-enum-known-t
+enum-known-t c = search needs
+
+make-room-requires : tie.Need-make-room-requires
+make-room-requires c κs = search needs
+
+type-word-requires : tie.Need-type-word-requires
+type-word-requires c κs = search needs
+
+put64-requires : tie.Need-put64-requires
+put64-requires c κs = search needs
+
+set-word-requires : tie.Need-set-word-requires
+set-word-requires c κs = search needs
+
+put64-requires-2 : tie.Need-put64-requires-2
+put64-requires-2 c κs = search needs
+
+short-requires : tie.Need-short-requires
+short-requires c κs = search needs
+
+put16-requires : tie.Need-put16-requires
+put16-requires c κs = search needs
+
+put64-requires-3 : tie.Need-put64-requires-3
+put64-requires-3 c κs = search needs
+
+add-t26 : tie.Need-add-t26
+add-t26 c = search needs
+
+same-length : tie.Need-same-length
+same-length c = search needs
+
+same-length-2 : tie.Need-same-length-2
+same-length-2 c = search needs
+
+same-length-3 : tie.Need-same-length-3
+same-length-3 c = search needs
+
+same-length-4 : tie.Need-same-length-4
+same-length-4 c = search needs
+
+same-length-5 : tie.Need-same-length-5
+same-length-5 c = search needs
+
+returns : tie.Need-returns
+unfolding resultIn nextOf settled
+returns c = (simp ((c .before .before .before .before .before .before .before .before .before .before .before .before .before .before .before .before .before .before .before .before .before .before .before .before .before .t .given .1)) (record { next = refl; types = simp ((c .before .before .before .before .before .before .before .before .before .before .before .before .before .before .before .before .put64 .ensures), (c .before .before .before .before .before .before .before .before .before .before .before .before .before .before .before .before .before .type-word .ensures)); sets = simp ((c .before .before .before .before .before .before .before .before .before .before .before .put642 .ensures), (c .before .before .before .before .before .before .before .before .before .before .before .before .set-word .ensures)); entries = simp ((c .before .before .before .before .before .before .put16 .ensures), (c .before .before .before .before .before .before .before .short .ensures)); effects = simp ((c .before .before .put643 .ensures)) }), record { right = λ anc k. simp ((c .before .before .before .before .before .before .before .before .before .before .before .before .before .before .before .before .put64 .ensures), (c .before .before .before .before .before .before .before .before .before .before .before .put642 .ensures)) (c .before .before .before .before .before .before .before .before .before .before .before .before .before .before .before .before .before .before .before .before .before .make-room .ensures .right anc _ _ _ k) })
+
+enum-known-t-2 : tie.Need-enum-known-t-2
+enum-known-t-2 c = search needs
+
+put16-requires-2 : tie.Need-put16-requires-2
+put16-requires-2 c κs = search needs
+
+put64-requires-4 : tie.Need-put64-requires-4
+put64-requires-4 c κs = search needs
+
+same-length-6 : tie.Need-same-length-6
+same-length-6 c = search needs
+
+same-length-7 : tie.Need-same-length-7
+same-length-7 c = search needs
+
+returns-2 : tie.Need-returns-2
+unfolding resultIn nextOf settled
+returns-2 c = (simp ((c .before .before .before .before .before .before .before .before .before .t2 .given .1)) (record { next = refl; types = refl; sets = refl; entries = simp ((c .before .before .before .before .before .before .put162 .ensures)); effects = simp ((c .before .before .put644 .ensures)) }), record { right = λ anc k. k })
+
+enum-known-t-3 : tie.Need-enum-known-t-3
+enum-known-t-3 c = search needs
+
+returns-3 : tie.Need-returns-3
+unfolding resultIn nextOf settled
+returns-3 c = (simp ((c .before .t3 .given .1)) (record { next = refl; types = refl; sets = refl; entries = refl; effects = refl }), record { right = λ anc k. k })
+
+pub settle-spec : {M : Type 1} → statement M
+settle-spec =
+    tie.close
+    (tie.spec
+    enum-known-t
+    make-room-requires
+    type-word-requires
+    put64-requires
+    set-word-requires
+    put64-requires-2
+    short-requires
+    put16-requires
+    put64-requires-3
+    add-t26
+    same-length
+    same-length-2
+    same-length-3
+    same-length-4
+    same-length-5
+    returns
+    enum-known-t-2
+    put16-requires-2
+    put64-requires-4
+    same-length-6
+    same-length-7
+    returns-2
+    enum-known-t-3
+    returns-3)

@@ -1,0 +1,113 @@
+-- Each arm writes the word of its kind.
+use Rattle.output.specs.Lines.{w-number, w-pair, w-cell, w-function, w-limit, w-grant}
+use Rattle.format.specs.Text.{sortWord}
+use borrow.Author.Needs.{needs}
+use Rattle.format.proofs.Text.word.Statement.{statement}
+use Rattle.format.proofs.Text.word.Tie as tie
+
+enum-told : tie.Need-enum-told
+enum-told c = search needs
+
+slice-aggregate-put : tie.Need-slice-aggregate-put
+slice-aggregate-put c = search needs
+
+put-requires : tie.Need-put-requires
+put-requires c κs = search needs
+
+enum-told-2 : tie.Need-enum-told-2
+enum-told-2 c = search needs
+
+slice-aggregate-put-2 : tie.Need-slice-aggregate-put-2
+slice-aggregate-put-2 c = search needs
+
+put-requires-2 : tie.Need-put-requires-2
+put-requires-2 c κs = search needs
+
+enum-told-3 : tie.Need-enum-told-3
+enum-told-3 c = search needs
+
+slice-aggregate-put-3 : tie.Need-slice-aggregate-put-3
+slice-aggregate-put-3 c = search needs
+
+put-requires-3 : tie.Need-put-requires-3
+put-requires-3 c κs = search needs
+
+enum-told-4 : tie.Need-enum-told-4
+enum-told-4 c = search needs
+
+slice-aggregate-put-4 : tie.Need-slice-aggregate-put-4
+slice-aggregate-put-4 c = search needs
+
+put-requires-4 : tie.Need-put-requires-4
+put-requires-4 c κs = search needs
+
+enum-told-5 : tie.Need-enum-told-5
+enum-told-5 c = search needs
+
+slice-aggregate-put-5 : tie.Need-slice-aggregate-put-5
+slice-aggregate-put-5 c = search needs
+
+put-requires-5 : tie.Need-put-requires-5
+put-requires-5 c κs = search needs
+
+enum-told-6 : tie.Need-enum-told-6
+enum-told-6 c = search needs
+
+slice-aggregate-put-6 : tie.Need-slice-aggregate-put-6
+slice-aggregate-put-6 c = search needs
+
+put-requires-6 : tie.Need-put-requires-6
+put-requires-6 c κs = search needs
+
+returns : tie.Need-returns
+unfolding sortWord w-number
+returns c = simp (c .before .before .enum-told .given .1) (c .put .ensures)
+
+returns-2 : tie.Need-returns-2
+unfolding sortWord w-pair
+returns-2 c = simp (c .before .before .enum-told2 .given .1) (c .put2 .ensures)
+
+returns-3 : tie.Need-returns-3
+unfolding sortWord w-cell
+returns-3 c = simp (c .before .before .enum-told3 .given .1) (c .put3 .ensures)
+
+returns-4 : tie.Need-returns-4
+unfolding sortWord w-function
+returns-4 c = simp (c .before .before .enum-told4 .given .1) (c .put4 .ensures)
+
+returns-5 : tie.Need-returns-5
+unfolding sortWord w-limit
+returns-5 c = simp (c .before .before .enum-told5 .given .1) (c .put5 .ensures)
+
+returns-6 : tie.Need-returns-6
+unfolding sortWord w-grant
+returns-6 c = simp (c .before .before .enum-told6 .given .1) (c .put6 .ensures)
+
+pub word-spec : {M : Type 1} → statement M
+word-spec =
+    tie.close
+    (tie.spec
+    enum-told
+    slice-aggregate-put
+    put-requires
+    enum-told-2
+    slice-aggregate-put-2
+    put-requires-2
+    enum-told-3
+    slice-aggregate-put-3
+    put-requires-3
+    enum-told-4
+    slice-aggregate-put-4
+    put-requires-4
+    enum-told-5
+    slice-aggregate-put-5
+    put-requires-5
+    enum-told-6
+    slice-aggregate-put-6
+    put-requires-6
+    returns
+    returns-2
+    returns-3
+    returns-4
+    returns-5
+    returns-6)

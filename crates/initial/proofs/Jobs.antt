@@ -1,0 +1,103 @@
+-- The passes over names, host values and rights give the start of what the words hold.
+use Prim.Native.Nat.{ℕ, _+_, _-_, _<_, _≤_}
+use mathlib.Core.Path.{_≡_, refl, ap, sym, _∙_}
+use mathlib.Core.Bool.{Bool, true, false, cond}
+use mathlib.Core.List.{List, [], map}
+use native.Mathlib.Omega.{arith}
+use borrow.Author.Tests.{ltb-false, lt-leb, le-leb, lt-ltb, le-ltb, leb-true}
+use lib.Dec.{ltb, leb}
+use lib.ListN.{getD, length-replicate}
+use Rattle.order.specs.Bools.{_and_, and-l, and-r}
+use Rattle.order.specs.Sets.{setOf}
+use Rattle.order.specs.Effects as effects
+use Rattle.syntax.specs.Job.{Src}
+use Rattle.syntax.specs.Tree.{root, past}
+use Rattle.semantics.specs.Start.{Named, named, keyNamed, Valued, valued, addValues}
+use Rattle.names.specs.Ancestors.{namesIn}
+use Rattle.store.specs.Meaning.{keysIn}
+use Rattle.store.specs.Words.{linkIn}
+use Rattle.store.specs.Tables.{listOf, capped}
+use Rattle.initial.specs.Entries.{keyIn, namedIn, NamesEntered, valuesFrom, valuedIn, ValuesEntered}
+use Rattle.initial.specs.Empty.{noJob}
+use Rattle.initial.specs.Begun.{wordSource, isJob, sourceIn, Begun}
+use Rattle.initial.specs.declared.Started.{Started}
+
+-- a count that is within its places
+pub capped-le : (n most : ℕ) → n ≤ most → capped n most ≡ n
+capped-le n most h = at (ltb n most) refl
+  where
+    at : (b : Bool) → ltb n most ≡ b → cond b n most ≡ n
+    at true e = refl
+    at false e = omega (arith, ltb-false n most e)
+
+-- counts that are a job's, or not
+module _ (n m k : ℕ) where
+  pub job-names : 62 < n → false ≡ isJob n m k
+  unfolding isJob _and_
+  job-names h = simp (lt-leb _ _ h)
+
+  pub job-values : n ≤ 62 → 64 < m → false ≡ isJob n m k
+  unfolding isJob _and_
+  job-values g h = simp (le-leb _ _ g, lt-leb _ _ h)
+
+  pub job-none : n ≤ 62 → m ≤ 64 → k ≡ 0 → false ≡ isJob n m k
+  unfolding isJob _and_
+  job-none g h e = let z : k ≤ 0 = omega arith in simp (le-leb _ _ g, le-leb _ _ h, le-ltb 0 k z)
+
+  pub job-cmds : n ≤ 62 → m ≤ 64 → (k ≡ 0 → ⊥) → leb k 512 ≡ isJob n m k
+  unfolding isJob _and_
+  job-cmds g h e = let z : 0 < k = omega (arith, e) in simp (le-leb _ _ g, le-leb _ _ h, lt-ltb 0 k z)
+
+  pub job-few : isJob n m k ≡ true → (n ≤ 62) × (m ≤ 64) × (k ≤ 512)
+  unfolding isJob
+  job-few e =
+      let a = and-l _ _ e in
+      let b = and-l _ _ a in
+      (leb-true n 62 (and-l _ _ b), leb-true m 64 (and-r _ _ b), leb-true k 512 (and-r _ _ e))
+
+pub past-none : (n : ℕ) → n ≡ 0 → 0 ≡ past n
+unfolding past
+past-none n e = rw e
+
+-- what the passes over names, host values and rights give together
+pub begun :
+    (names : List ℕ) (n : ℕ) (types values : List ℕ) (m rights cmds : ℕ) (of bound : List ℕ) (r : Started) → n ≤ 62 → m ≤ 64 → r .nbindings ≡ r .nkeys - 2 + m → r .root ≡ past cmds →
+    NamesEntered (namesIn names n) (r .keys) of bound (r .nkeys) (n + 2) →
+    ValuesEntered (keyIn of (n + 2)) types values m (r .nkeys - 2) bound (r .cells) (r .bindings) (r .ncells) →
+    keysIn (r .on) ≡ setOf (map (keyIn of (n + 2)) (effects.names rights)) → Begun (wordSource names n types values m rights cmds) r
+unfolding wordSource named keyNamed valued namedIn valuedIn root
+begun names n types values m rights cmds of bound r hn hm eb er sn sv so =
+    record {
+      keys = ap (λ (s : Named). s .keys) all;
+      cells = ap (λ (s : Valued). s .cells) held;
+      bindings = ap (λ (i : ℕ). listOf linkIn (r .bindings) i) eb ∙ ap (λ (s : Valued). s .bindings) held;
+      on = so ∙ ap (λ (f : ℕ → ℕ). setOf (map f (effects.names rights))) key;
+      its-root = er ∙ ap past (sym (length-replicate cmds _));
+      few-keys = omega (arith, sn .few);
+      few-cells = omega (arith, sv .few);
+      few-bindings = omega (arith, sn .few);
+    }
+  where
+    S : Src
+    S = wordSource names n types values m rights cmds
+
+    all : namedIn (r .keys) of bound (r .nkeys) (n + 2) ≡ named S
+    all = sn .same
+
+    key : keyIn of (n + 2) ≡ keyNamed S
+    key = ap {B = ℕ → ℕ} (λ (s : Named). λ (q : ℕ). getD (s .of) q 0) all
+
+    held : valuedIn (r .cells) (r .bindings) (r .ncells) (r .nkeys - 2 + m) ≡ valued S
+    held =
+        sv .same
+        ∙ ap (λ (f : ℕ → ℕ). addValues f 0 (valuesFrom types values 0 m) (record { cells = []; bindings = listOf linkIn bound (r .nkeys - 2) })) key
+        ∙ ap (λ (s : Named). addValues (keyNamed S) 0 (valuesFrom types values 0 m) (record { cells = []; bindings = s .bindings })) all
+
+module _ (names : List ℕ) (n : ℕ) (types values : List ℕ) (m rights cmds : ℕ) (r : Started) where
+  pub begun-job : isJob n m cmds ≡ true → Begun (wordSource names n types values m rights cmds) r → Begun (sourceIn names n types values m rights cmds) r
+  unfolding sourceIn
+  begun-job e b = rw e b
+
+  pub begun-none : isJob n m cmds ≡ false → Begun (wordSource names 0 types values 0 0 0) r → Begun (sourceIn names n types values m rights cmds) r
+  unfolding sourceIn wordSource noJob namesIn valuesFrom
+  begun-none e b = rw e b

@@ -1,0 +1,4 @@
+pub mod Entries
+pub mod Empty
+pub mod Begun
+pub mod Held

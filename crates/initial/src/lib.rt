@@ -1,0 +1,298 @@
+// The machine's tables at the start of a job: keys, cells, bindings, enabled keys.
+ghost use mathlib.Core.Path.{_≡_};
+ghost use mathlib.Core.List.{map};
+ghost use Prim.Native.Nat.{_<_, _≤_, _+_};
+ghost use Rattle.order.specs.Sets.{setOf};
+ghost use Rattle.order.specs.Effects as effects;
+ghost use Rattle.syntax.specs.Tree.{past};
+ghost use Rattle.semantics.specs.Machine.{unkeyed, k-num};
+ghost use Rattle.semantics.specs.Start.{hostValue};
+ghost use Rattle.names.specs.Ancestors.{namesIn};
+ghost use Rattle.store.specs.Meaning.{keysIn, valueIn};
+ghost use Rattle.store.specs.Words.{upIn, cellIn};
+ghost use Rattle.store.specs.Tables.{Stored, Wrote};
+ghost use Rattle.initial.specs.Entries.{keyIn, headOf, NameEntered, NamesEntered, ValueEntered, ValuesEntered, Within};
+ghost use Rattle.initial.specs.Begun.{wordSource, isJob, sourceIn, Begun};
+use store::Key;
+use store::Keys;
+use store::Kind;
+use store::Value;
+
+pub struct Started {
+    pub keys: [u8; 128],
+    pub cells: [u64; 256],
+    pub bindings: [u64; 2048],
+    pub nkeys: u16,
+    pub ncells: u16,
+    pub nbindings: u16,
+    pub on: Keys,
+    pub root: u16,
+}
+
+// The key of name q, of n names; 0 for a number that is no name.
+fn key_of(of: &[u8; 64], n: usize, q: usize) -> u8
+    ensures { λ r. ⌜ r ≡ keyIn (now (of .entry)) n q ⌝ }
+{
+    if q < n {
+        return store::at8(of, q);
+    }
+    0
+}
+
+// The key of name i is k.
+fn put_key(of: &mut [u8; 64], i: usize, k: u8)
+    requires { ⌜ i < 64 ⌝ }
+    ensures { λ _. ⌜ Wrote upIn (now (of .entry)) (now (of .exit)) i k ⌝ }
+{
+    let s = &mut of[..];
+    s[i] = k;
+}
+
+// Name a, after those before it: a host name has the next key, below its upper name's, and is bound to it. Returns the number of keys.
+fn enter_name(
+    names: &[u16],
+    a: usize,
+    nkeys: u16,
+    keys: &mut [u8; 128],
+    of: &mut [u8; 64],
+    bindings: &mut [u64; 2048],
+) -> u16
+    requires { ⌜ (a < 64) × (2 ≤ nkeys) × (nkeys ≤ a) ⌝ }
+    ensures { λ r. ⌜ NameEntered (now (names .entry)) a nkeys (now (keys .entry)) (now (of .entry)) (now (bindings .entry)) (now (keys .exit)) (now (of .exit)) (now (bindings .exit)) r ⌝ }
+{
+    let w = names::at16(names, a);
+    if w / 256 == 1 {
+        let k = nkeys as u8;
+        let upper = key_of(of, a, (w % 256) as usize);
+        store::put_up(keys, nkeys, Key(upper));
+        put_key(of, a, k);
+        store::put_name(bindings, nkeys - 2, a as u8, Key(k), nkeys - 2);
+        return nkeys + 1;
+    }
+    put_key(of, a, 0);
+    nkeys
+}
+
+// The keys of n declared names, with those of 0 and 1, and the bindings of the host names. Returns the number of keys.
+fn enter_names(
+    names: &[u16],
+    n: usize,
+    keys: &mut [u8; 128],
+    of: &mut [u8; 64],
+    bindings: &mut [u64; 2048],
+) -> u16
+    requires { ⌜ n ≤ 62 ⌝ }
+    ensures { λ r. ⌜ NamesEntered (namesIn (now (names .entry)) n) (now (keys .exit)) (now (of .exit)) (now (bindings .exit)) r (n + 2) ⌝ }
+{
+    store::put_up(keys, 0, Key(0));
+    store::put_up(keys, 1, Key(1));
+    put_key(of, 0, 0);
+    put_key(of, 1, 1);
+    let mut nkeys: u16 = 2;
+    let mut k: usize = 0;
+    while k < n {
+        nkeys = enter_name(names, k + 2, nkeys, keys, of, bindings);
+        k = k + 1;
+    }
+    nkeys
+}
+
+// The host value whose type has the word w; c is the next cell's number.
+fn host_value(of: &[u8; 64], n: usize, w: u64, c: u16) -> Value
+    ensures { λ r. ⌜ valueIn r ≡ hostValue (keyIn (now (of .entry)) n) (headOf w) c ⌝ }
+{
+    let q = key_of(of, n, (w / 256 % 256) as usize);
+    let r = key_of(of, n, (w / 65536 % 256) as usize);
+    let number = r as u32;
+    match w % 256 {
+        0x12 => Value {
+            key: Key(q),
+            kind: Kind::Cell,
+            payload: c as u32,
+        },
+        0x14 => Value {
+            key: Key(q),
+            kind: Kind::Limit,
+            payload: number,
+        },
+        0x15 => Value {
+            key: Key(q),
+            kind: Kind::Grant,
+            payload: number,
+        },
+        _ => Value {
+            key: Key(0),
+            kind: Kind::Number,
+            payload: 0,
+        },
+    }
+}
+
+// A cell that holds an unkeyed number.
+fn number_cell(cells: &mut [u64; 256], i: u16, x: u32)
+    requires { ⌜ i < 256 ⌝ }
+    ensures { λ _. ⌜ Wrote cellIn (now (cells .entry)) (now (cells .exit)) i (unkeyed (k-num x)) ⌝ }
+{
+    store::put_cell(
+        cells,
+        i as u32,
+        Value {
+            key: Key(0),
+            kind: Kind::Number,
+            payload: x,
+        },
+    );
+}
+
+// Host value v, after those before it: it is bound to variable v, and a cell takes the next number. Returns the number of cells.
+fn enter_value(
+    types: &[u64],
+    values: &[u64],
+    of: &[u8; 64],
+    n: usize,
+    v: usize,
+    ncells: u16,
+    nbindings: u16,
+    cells: &mut [u64; 256],
+    bindings: &mut [u64; 2048],
+) -> u16
+    requires { ⌜ (v < 64) × (ncells ≤ v) × (nbindings < 1024) ⌝ }
+    ensures { λ r. ⌜ ValueEntered (keyIn (now (of .entry)) n) (now (types .entry)) (now (values .entry)) v ncells nbindings (now (cells .entry)) (now (bindings .entry)) (now (cells .exit)) (now (bindings .exit)) r ⌝ }
+{
+    let w = names::at64(values, v);
+    let t = names::at64(types, (w / 256 % 65536) as usize);
+    let x = host_value(of, n, t, ncells);
+    store::put_variable(bindings, nbindings, v as u8, x, nbindings);
+    if t % 256 == 0x12 {
+        number_cell(cells, ncells, (w / 16777216 % 4294967296) as u32);
+        return ncells + 1;
+    }
+    ncells
+}
+
+// The cells and bindings of m host values, after so many bindings of names. Returns the number of cells.
+fn enter_values(
+    types: &[u64],
+    values: &[u64],
+    m: usize,
+    of: &[u8; 64],
+    n: usize,
+    nbindings: u16,
+    cells: &mut [u64; 256],
+    bindings: &mut [u64; 2048],
+) -> u16
+    requires { ⌜ (m ≤ 64) × (nbindings ≤ 62) ⌝ }
+    ensures { λ r. ⌜ ValuesEntered (keyIn (now (of .entry)) n) (now (types .entry)) (now (values .entry)) m nbindings (now (bindings .entry)) (now (cells .exit)) (now (bindings .exit)) r ⌝ }
+{
+    let mut ncells: u16 = 0;
+    let mut v: usize = 0;
+    while v < m {
+        let at = nbindings + (v as u16);
+        ncells = enter_value(types, values, of, n, v, ncells, at, cells, bindings);
+        v = v + 1;
+    }
+    ncells
+}
+
+// The keys of the names that the rights have.
+fn enabled_keys(of: &[u8; 64], n: usize, nkeys: u16, rights: u64) -> Keys
+    requires { ⌜ Within (keyIn (now of) n) nkeys ⌝ }
+    ensures { λ r. ⌜ keysIn r ≡ setOf (map (keyIn (now (of .entry)) n) (effects.names rights)) ⌝ }
+{
+    let mut on = Keys(0, 0);
+    let mut rest = rights - rights % 2;
+    while 0 < rest {
+        let i = u64::trailing_zeros(rest) as usize;
+        let k = key_of(of, n, i);
+        on = store::add(nkeys as u64, on, Key(k));
+        rest = rest & (rest - 1);
+    }
+    on
+}
+
+// The last of so many expressions.
+fn last(cmds: usize) -> u16
+    requires { ⌜ cmds ≤ 512 ⌝ }
+    ensures { λ r. ⌜ r ≡ past cmds ⌝ }
+{
+    if cmds == 0 {
+        return 0;
+    }
+    (cmds - 1) as u16
+}
+
+// The start by the words of so many names, types and host values, with counts within the limits.
+fn entered(
+    names: &[u16],
+    nnames: usize,
+    types: &[u64],
+    values: &[u64],
+    nvalues: usize,
+    rights: u64,
+    cmds: usize,
+) -> Started
+    requires { ⌜ (nnames ≤ 62) × (nvalues ≤ 64) × (cmds ≤ 512) ⌝ }
+    ensures { λ r. ⌜ Begun (wordSource (now (names .entry)) nnames (now (types .entry)) (now (values .entry)) nvalues rights cmds) r ⌝ }
+{
+    let mut keys = [0u8; 128];
+    let mut of = [0u8; 64];
+    let mut cells = [0u64; 256];
+    let mut bindings = [0u64; 2048];
+    let nkeys = enter_names(names, nnames, &mut keys, &mut of, &mut bindings);
+    let first = nkeys - 2;
+    let ncells = enter_values(
+        types,
+        values,
+        nvalues,
+        &of,
+        nnames + 2,
+        first,
+        &mut cells,
+        &mut bindings,
+    );
+    let on = enabled_keys(&of, nnames + 2, nkeys, rights);
+    Started {
+        keys: keys,
+        cells: cells,
+        bindings: bindings,
+        nkeys: nkeys,
+        ncells: ncells,
+        nbindings: first + (nvalues as u16),
+        on: on,
+        root: last(cmds),
+    }
+}
+
+// Whether so many names, host values and expressions can be those of a job.
+fn is_job(nnames: usize, nvalues: usize, cmds: usize) -> bool
+    ensures { λ r. ⌜ r ≡ isJob nnames nvalues cmds ⌝ }
+{
+    if 62 < nnames {
+        return false;
+    }
+    if 64 < nvalues {
+        return false;
+    }
+    if cmds == 0 {
+        return false;
+    }
+    cmds <= 512
+}
+
+// The start of the job that the words hold. Where the counts are no job's, nothing is entered and nothing is enabled.
+pub fn begin(
+    names: &[u16],
+    nnames: usize,
+    types: &[u64],
+    values: &[u64],
+    nvalues: usize,
+    rights: u64,
+    cmds: usize,
+) -> Started
+    ensures { λ r. ⌜ Begun (sourceIn (now (names .entry)) nnames (now (types .entry)) (now (values .entry)) nvalues rights cmds) r ⌝ }
+{
+    if is_job(nnames, nvalues, cmds) {
+        return entered(names, nnames, types, values, nvalues, rights, cmds);
+    }
+    entered(names, 0, types, values, 0, 0, 0)
+}

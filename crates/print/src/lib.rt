@@ -1,0 +1,177 @@
+// The desk program's lines for the bytes of a job.
+use checker::Verdict;
+use format::Sort;
+use format::Text;
+use job::Shape;
+use machine::Answer;
+use machine::Control;
+use machine::Outcome;
+use store::Kind;
+ghost use mathlib.Core.Path.{_≡_};
+ghost use mathlib.Core.Bool.{true};
+ghost use mathlib.Core.List.{List, _++_};
+ghost use Prim.Native.Nat.{ℕ, _<_, _≤_};
+ghost use lib.ListN.{length};
+ghost use Rattle.order.specs.Effects.{Effect};
+ghost use Rattle.syntax.specs.Types.{Ty, entryTree};
+ghost use Rattle.syntax.specs.Job.{Job, sourceOf};
+ghost use Rattle.syntax.specs.Words.{codeIn, entryBits};
+ghost use Rattle.semantics.specs.Room.{isDone};
+ghost use Rattle.semantics.specs.Calls as spec;
+ghost use Rattle.semantics.specs.Demand3.{exprOf};
+ghost use Rattle.store.specs.Meaning.{kindIn};
+ghost use Rattle.machine.specs.Meaning.{answerIn};
+ghost use Rattle.machine.specs.View.{seen, ranIn};
+ghost use Rattle.output.specs.Lines.{refusedLine, acceptedLine, ranLine, ranOf, runLine, deskOf, printed};
+ghost use Rattle.format.specs.Text.{textOf, typeSort, kindSort, kindNumber, acceptedAs};
+ghost use Rattle.checker.specs.Answer.{treeOf};
+ghost use Rattle.start.specs.Starts.{Ready};
+
+// The kind of a type, by the command byte of its word.
+fn type_sort(byte: u64) -> Sort
+    ensures { λ r. ⌜ ((q a b s : ℕ) (f : ℕ → Ty) → r ≡ typeSort (entryTree (entryBits byte q a b s) f)) ⌝ }
+{
+    match byte {
+        0x11 => Sort::Pair,
+        0x12 => Sort::Cell,
+        0x13 => Sort::Function,
+        0x14 => Sort::Limit,
+        0x15 => Sort::Grant,
+        _ => Sort::Number,
+    }
+}
+
+fn kind_sort(k: Kind) -> Sort
+    ensures { λ r. ⌜ ((n : ℕ) → r ≡ kindSort (kindIn k n)) ⌝ }
+{
+    match k {
+        Kind::Number => Sort::Number,
+        Kind::Pair => Sort::Pair,
+        Kind::Cell => Sort::Cell,
+        Kind::Function => Sort::Function,
+        Kind::Limit => Sort::Limit,
+        Kind::Grant => Sort::Grant,
+    }
+}
+
+fn kind_number(k: Kind, payload: u32) -> u32
+    ensures { λ r. ⌜ r ≡ kindNumber (kindIn k payload) ⌝ }
+{
+    match k {
+        Kind::Number => payload,
+        Kind::Pair => payload,
+        Kind::Cell => payload,
+        Kind::Function => payload,
+        Kind::Limit => payload % 256,
+        Kind::Grant => payload % 256,
+    }
+}
+
+// The second line of a run that came to an end, after the first.
+fn finished(first: Text, o: Outcome) -> Text
+    ensures { λ r. ⌜ ((T : Ty) (s : Effect) → textOf first ≡ acceptedAs s (typeSort T) → isDone (seen (o .machine)) ≡ true → textOf r ≡ acceptedLine T s ++ ranLine spec.finished (o .taken) (seen (o .machine))) ⌝ }
+{
+    let m = o.machine;
+    let t = m.thread;
+    let n = t.now;
+    let control = n.control;
+    match control {
+        Control::Hand(v) => {
+            let k = v.kind;
+            let sort = kind_sort(k);
+            let x = kind_number(k, v.payload);
+            let second = format::done(o.taken, sort, x);
+            format::both(first, second)
+        }
+        Control::Enter(_) => first,
+    }
+}
+
+// The second line, if there is one, after the first. An accepted job is never stuck or denied.
+fn ended(first: Text, o: Outcome) -> Text
+    ensures { λ r. ⌜ ((T : Ty) (s : Effect) → textOf first ≡ acceptedAs s (typeSort T) → (answerIn (o .answer) ≡ spec.finished → isDone (seen (o .machine)) ≡ true) → textOf r ≡ acceptedLine T s ++ ranOf (ranIn o)) ⌝ }
+{
+    let a = o.answer;
+    let n = o.taken;
+    match a {
+        Answer::Finished => finished(first, o),
+        Answer::Spent => format::both(first, format::spent(n)),
+        Answer::NoRoom => format::both(first, format::no_room(n)),
+        Answer::Taken => first,
+        Answer::Stuck => first,
+        Answer::Denied => first,
+    }
+}
+
+// An accepted job, with the entry of its type and its effect: it is started and runs 100,000 steps.
+fn accepted(
+    i: u16,
+    s: u64,
+    g: Shape,
+    names: &[u16],
+    types: &[u64],
+    values: &[u64],
+    heads: &[u64],
+    slots: &[u16],
+) -> Text
+    ensures { λ r. ⌜ ((J : Job) (sets : List ℕ) → Ready J g (now (names .entry)) (now (types .entry)) (now (values .entry)) → ((e : ℕ) → codeIn (now (heads .entry)) (now (slots .entry)) e ≡ exprOf J e) → textOf r ≡ acceptedLine (treeOf (now (types .entry)) sets i) s ++ runLine (sourceOf J)) ⌝ }
+{
+    let w = names::at64(types, i as usize);
+    let sort = type_sort(w % 256);
+    let first = format::accepted(s, sort);
+    let m = start::built(g, names, types, values);
+    let o = m.run(100000, heads, slots);
+    ended(first, o)
+}
+
+// The line of a refusal whose place is a place in the job or an expression's number.
+fn refused(n: u8, p: usize) -> Text
+    ensures { λ r. ⌜ (p ≤ 16384 → textOf r ≡ refusedLine (record { number = n; place = p })) ⌝ }
+{
+    if p <= 16384 {
+        return format::refused(n, p as u32);
+    }
+    format::refused(n, 0)
+}
+
+// The lines for a job of at most 16,384 bytes.
+fn told(job: &[u8]) -> Text
+    ensures { λ r. ⌜ (length (now (job .entry)) ≤ 16384 → textOf r ≡ deskOf (now (job .entry))) ⌝ }
+{
+    let mut names = [0u16; 64];
+    let mut types = [0u64; 2304];
+    let mut sets = [0u64; 2304];
+    let mut values = [0u64; 64];
+    let mut heads = [0u64; 512];
+    let mut slots = [0u16; 2560];
+    let mut entries = [0u16; 512];
+    let mut effects = [0u64; 512];
+    let c = checker::check(
+        job,
+        &mut names,
+        &mut types,
+        &mut sets,
+        &mut values,
+        &mut heads,
+        &mut slots,
+        &mut entries,
+        &mut effects,
+    );
+    let v = c.verdict;
+    let g = c.shape;
+    match v {
+        Verdict::Refused(n, p) => refused(n, p),
+        Verdict::Accepted(i, s) => accepted(i, s, g, &names, &types, &values, &heads, &slots),
+    }
+}
+
+// What the desk program prints for its input, of which 16,384 bytes are read.
+pub fn print(job: &[u8]) -> Text
+    ensures { λ r. ⌜ textOf r ≡ printed (now (job .entry)) ⌝ }
+{
+    if 16384 < job.len() {
+        let head = &job[..16384];
+        return told(head);
+    }
+    told(job)
+}

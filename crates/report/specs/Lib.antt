@@ -1,4 +1,0 @@
-pub mod Lines
-pub mod Text
-pub mod Laws
-pub mod DeskLines

@@ -1,0 +1,73 @@
+-- Starting a job: "It starts any job free of 1 to 10 and answers those numbers otherwise. It never looks at types." What it answers and what it leaves in the lent tables
+-- is defined in `semantics/Starting`.
+use mathlib.Core.Path.{_≡_, ap}
+use Prim.Native.Nat.{ℕ}
+use mathlib.Core.List.{List}
+use mathlib.Core.Option.{Option, none, some}
+use Rattle.syntax.specs.Job.{Job, sourceOf}
+use Rattle.syntax.specs.Reading.{Refusal}
+use Rattle.syntax.specs.ReadLaws.{JobOk}
+use Rattle.syntax.specs.WordLaws.{JobFits}
+use Rattle.syntax.specs.Tree.{treeRefusal}
+use Rattle.semantics.specs.Machine.{Machine as Clean}
+use Rattle.semantics.specs.Start.{startOf}
+use Rattle.semantics.specs.Starting.{Started as Outcome, started, unstarted, unless, JobTables, startWith, cleared, tablesAfterStart}
+use Rattle.machine.specs.View.{seen}
+use Rattle.initial.specs.Empty.{machineOf}
+use Rattle.initial.specs.Begun.{sourceIn}
+use Rattle.initial.specs.Held as start
+use Rattle.initial.specs.Held.{held-start}
+use Rattle.job.specs.declared.Shape.{Shape}
+use Rattle.job.specs.Answer.{shapeOf, Holds}
+use Rattle.start.specs.declared.Told.{Told}
+use Rattle.start.specs.declared.Told.the-variants as told
+use Rattle.start.specs.declared.Opened.{Opened}
+
+abbrev pub jobTables : List ℕ → List ℕ → List ℕ → List ℕ → List ℕ → List ℕ → JobTables
+jobTables n t s v h p = record { names = n; types = t; sets = s; values = v; heads = h; slots = p }
+
+-- the machine that an answer stands for, or its refusal by number and place
+abbrev pub toldIn : Told → Clean → Outcome
+toldIn told.Started m = started m
+toldIn (told.Refused n p) m = unstarted (record { number = n; place = p })
+
+abbrev pub startedIn : Opened → Outcome
+startedIn r = toldIn (r .told) (seen (r .machine))
+
+-- starting `bytes` with the lent tables w, which are x afterwards; the machine of a refused start is the empty one
+pub record Starts (bytes : List ℕ) (r : Opened) (w x : JobTables) : Type 0 where
+  pub answer : startedIn r ≡ startWith w bytes
+  pub machine : seen (r .machine) ≡ machineOf (startWith w bytes)
+  pub tables : x ≡ tablesAfterStart w bytes
+
+unfoldable pub clearedIf : Option Refusal → JobTables → JobTables
+clearedIf none w = w
+clearedIf (some r) w = cleared w
+
+-- the same for a job that is read: its tree is judged
+pub record Judged (J : Job) (r : Opened) (w x : JobTables) : Type 0 where
+  pub answer : startedIn r ≡ unless (treeRefusal (sourceOf J)) (startOf (sourceOf J))
+  pub machine : seen (r .machine) ≡ machineOf (unless (treeRefusal (sourceOf J)) (startOf (sourceOf J)))
+  pub tables : x ≡ clearedIf (treeRefusal (sourceOf J)) w
+
+-- the tables hold the job that has so many entries
+pub record Lent (J : Job) (g : Shape) (n t s v h p : List ℕ) (kn kt ks kv kh kp : ℕ) : Type 0 where
+  pub ok : JobOk J
+  pub fits : JobFits J
+  pub shape : g ≡ shapeOf J
+  pub holds : Holds J n t s v h p kn kt ks kv kh kp
+
+-- the tables of names, types and host values hold a job that has so many entries; what the table of types holds past its own does not matter
+pub record Ready (J : Job) (g : Shape) (n t v : List ℕ) : Type 0 where
+  pub ok : JobOk J
+  pub shape : g ≡ shapeOf J
+  pub holds : start.Holds J n (g .names) t v (g .values) (g .rights)
+
+-- the machine at the start of the job that words hold, with the counts and rights of g; the empty one where the counts are no job's
+unfoldable pub builtFrom : Shape → List ℕ → List ℕ → List ℕ → Clean
+builtFrom g n t v = startOf (sourceIn n (g .names) t v (g .values) (g .rights) (g .cmds))
+
+-- of tables that are ready it is the job's own
+pub ready-built : {J : Job} {g : Shape} {n t v : List ℕ} → Ready J g n t v → builtFrom g n t v ≡ startOf (sourceOf J)
+unfolding builtFrom shapeOf
+ready-built l = held-start (l .ok) (l .holds) (ap (λ (k : Shape). k .cmds) (l .shape))
