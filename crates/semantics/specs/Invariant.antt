@@ -13,9 +13,9 @@ use Rattle.order.specs.Effects.{Effect, names}
 use Rattle.syntax.specs.Types.{Ty, num, lim}
 use Rattle.syntax.specs.Commands.{Cmd, c-pair, c-part, c-app, c-new, c-asg, c-read, c-sum, c-test, c-lim, c-grant, c-newkey, c-assoc}
 use Rattle.syntax.specs.Job.{Src, upOf}
-use Rattle.syntax.specs.Tree.{Entry, e-var, e-name}
+use Rattle.syntax.specs.Tree.{Entry, e-var, e-name, keyPair}
 use Rattle.typing.specs.Subtype.{Sub}
-use Rattle.typing.specs.Rules.{Has, HasKeys, Fresh, codeOf, keysType}
+use Rattle.typing.specs.Rules.{Has, HasKeys, Fresh, codeOf}
 use Rattle.typing.specs.Scoped.{Free}
 use Rattle.semantics.specs.Machine.{Kind, k-num, k-pair, k-fn, k-cell, k-lim, k-grant, Value, Two, Bind, b-var, b-name, Link, Closure, Frame, Control, enter, hand, Store, Machine, most-bindings}
 use Rattle.semantics.specs.RuntimeTypes.{RTy, rnum, rpair, rcell, rfn, rlim, rgrant, RSub, rkey, rrekey, inst}
@@ -140,7 +140,7 @@ pub data FrameOk (S : Src) (W : World) : Cmd Ty → List Value → ℕ → ℕ �
       → Env S W e E Γ → Has S Γ b T t → On (W .keys) (members on) q → ((n : ℕ) → List·Memᴰ n (names t) → On (W .keys) (members on) (look E n) ⊎ Below (W .keys) (look E n) j)
       → FrameOk S W (c-grant a b) [] e on (rgrant q j) (inst (look E) T)
   fo-newkey : {e on x r a b q u : ℕ} {E : List Bind} {Γ : List Entry} {B T : Ty} {t : Effect}
-      → Env S W e E Γ → getElem? (upOf S) r ≡ some u → Fresh (upOf S) Γ r → Has S (e-var x (keysType r) ∷ e-name r ∷ Γ) b B t → Sub (upOf S) B T → Free r T → On (W .keys) (members on) q
+      → Env S W e E Γ → getElem? (upOf S) r ≡ some u → Fresh (upOf S) Γ r → Has S (e-var x (keyPair r) ∷ e-name r ∷ Γ) b B t → Sub (upOf S) B T → Free r T → On (W .keys) (members on) q
       → ((n : ℕ) → List·Memᴰ n (names t) → n ≢ r → On (W .keys) (members on) (look E n)) → (List·Memᴰ r (names t) → On (W .keys) (members on) (look E u))
       → FrameOk S W (c-newkey x r a b T) [] e on (rlim q (look E u)) (inst (look E) T)
   fo-assoc1 : {e on a b q r : ℕ} {E : List Bind} {Γ : List Entry} {A : RTy} {t : Effect}

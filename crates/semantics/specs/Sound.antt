@@ -18,10 +18,10 @@ use Rattle.order.specs.EffectLaws.{drop-or, raise-off, raise-on}
 use Rattle.syntax.specs.Types.{Ty, fn, keyOf}
 use Rattle.syntax.specs.Commands.{Cmd, c-lim}
 use Rattle.syntax.specs.Job.{Src, upOf}
-use Rattle.syntax.specs.Tree.{Entry, e-var, e-name}
+use Rattle.syntax.specs.Tree.{Entry, e-var, e-name, keyPair}
 use Rattle.typing.specs.Subtype.{Sub}
 use Rattle.typing.specs.Scoped.{Free, scoped-free}
-use Rattle.typing.specs.Rules.{Has, h-num, h-top, h-var, h-pair, h-part1, h-part2, h-fn, h-app, h-new, h-asg, h-read, h-sum, h-test, h-lim, h-grant, h-newkey, h-assoc, h-sub, HasKeys, k-nil, k-cons, Fresh, codeOf, keysType}
+use Rattle.typing.specs.Rules.{Has, h-num, h-top, h-var, h-pair, h-part1, h-part2, h-fn, h-app, h-new, h-asg, h-read, h-sum, h-test, h-lim, h-grant, h-newkey, h-assoc, h-sub, HasKeys, k-nil, k-cons, Fresh, codeOf}
 use Rattle.semantics.specs.Machine.{Kind, k-pair, k-lim, k-grant, Value, unkeyed, Bind, b-var, b-name, Link, Frame, Control, hand, Thread, Store, Machine, most-bindings}
 use Rattle.semantics.specs.Keys.{enabled, add}
 use Rattle.semantics.specs.Step
@@ -402,7 +402,7 @@ module _ (S : Src) (σ : Store) (pt : List TwoTy) (ft : List FnTy) (ct : List RT
 
     newkey-ok : {k q j x r b u : ℕ} {z : Kind} {X : RTy} {B T : Ty} {E : List Bind} {Γ : List Entry} {t : Effect}
         → RSub (σ .keys) X (rlim q j) → Typ W k z X → j ≡ look E u → OnHere q → Envs E Γ → getElem? (upOf S) r ≡ some u → Fresh (upOf S) Γ r
-        → Has S (e-var x (keysType r) ∷ e-name r ∷ Γ) b B t → Sub (upOf S) B T → Free r T
+        → Has S (e-var x (keyPair r) ∷ e-name r ∷ Γ) b B t → Sub (upOf S) B T → Free r T
         → ((n : ℕ) → List·Memᴰ n (names t) → n ≢ r → OnHere (look E n)) → (List·Memᴰ r (names t) → OnHere (look E u))
         → Stack (inst (look E) T) → Sure S W (actNewkey x r b (val k z) m)
     unfolding actNewkey asLim found does free look inst
@@ -472,16 +472,16 @@ module _ (S : Src) (σ : Store) (pt : List TwoTy) (ft : List FnTy) (ct : List RT
         named : EnvOk S W′ (b-name r K ∷ E) (e-name r ∷ Γ)
         named = eo-name o′ f (mono-new o′ f e kb) (up-new r o′ e (rw ju at pos) posK) (omega (arith, length-snoc (σ .keys) j))
 
-        sb : RSub ks′ (rpair 0 (rlim 0 K) (rgrant 0 K)) (inst (look (b-name r K ∷ E)) (keysType r))
+        sb : RSub ks′ (rpair 0 (rlim 0 K) (rgrant 0 K)) (inst (look (b-name r K ∷ E)) (keyPair r))
         sb = rw (eq-eqb r r refl) (r-pair bot (r-lim bot) (r-grant bot))
 
-        fits : Fits W′ (unkeyed (k-pair (length (σ .pairs)))) (inst (look (b-name r K ∷ E)) (keysType r))
+        fits : Fits W′ (unkeyed (k-pair (length (σ .pairs)))) (inst (look (b-name r K ∷ E)) (keyPair r))
         fits = record { exact = rpair 0 (rlim 0 K) (rgrant 0 K); typ = t-pair (getElem?-at pt tw (length (σ .pairs)) (st .plen)); sub = sb }
 
         one-more : Chain B′ (suc n) (b-name r K ∷ E)
         one-more = ch-cons (seam (σ .bindings) l1 (l2 ∷ [])) (chain-le (o .chain)) (chain-wider (wx .lks) (o .chain))
 
-        inner : Env S W′ (suc (suc n)) (b-var x (unkeyed (k-pair (length (σ .pairs)))) ∷ b-name r K ∷ E) (e-var x (keysType r) ∷ e-name r ∷ Γ)
+        inner : Env S W′ (suc (suc n)) (b-var x (unkeyed (k-pair (length (σ .pairs)))) ∷ b-name r K ∷ E) (e-var x (keyPair r) ∷ e-name r ∷ Γ)
         inner = record { chain = ch-cons (seam-next (σ .bindings) l1 l2 []) (omega arith) one-more; ok = eo-var named fits }
 
         at : (i : ℕ) → List·Memᴰ i (names t) → (z : Bool) → eqb i r ≡ z → On ks′ (members (θ .on)) (look (b-name r K ∷ E) i)
