@@ -209,7 +209,7 @@ module _ (S : Src) (σ : Store) (pt : List TwoTy) (ft : List FnTy) (ct : List RT
         let r = covers-join-r l (join s t) w in
         rw c (push-ok _ c o x (covers-join-l s t r) kb-refl
         (fo-app1 o y (covers-join-r s t r) (env-sub (o .ok) z) (covers-touch (env-zero (o .ok)) q (join l (join s t)) v) (covers-map l (covers-join-l l (join s t) w))) k)
-    enter-ok o (h-new c p x y) v k = rw c (push-ok _ c o x v (env-sub (o .ok) y) fo-new (stack-sub (r-cell bot) k))
+    enter-ok o (h-new c p x y) v k = rw c (push-ok _ c o x v (env-sub (o .ok) y) fo-new (stack-sub (r-cell bot kb-refl kb-refl) k))
     enter-ok o (h-asg {q = q} {s = s} {t = t} c x y z) v k =
         let w = covers-old q (join s t) v in
         rw c (push-ok _ c o x (covers-join-l s t w) kb-refl (fo-asg1 o y (covers-join-r s t w) (env-sub (o .ok) z) (covers-touch (env-zero (o .ok)) q (join s t) v)) k)
@@ -322,19 +322,19 @@ module _ (S : Src) (σ : Store) (pt : List TwoTy) (ft : List FnTy) (ct : List RT
 
     read-ok : {k q : ℕ} {x : Kind} {X A : RTy} → RSub (σ .keys) X (rcell q A) → Typ W k x X → OnHere q → Stack A → Sure S W (actRead (val k x) m)
     unfolding actRead asCell found does
-    read-ok (r-cell b) (t-cell {A = t} e) on k = let o = st .cs _ t e in rw (o .found) (sure-try (one-key (on-below ko on b)) (λ z. step-ok (to-hand (o .fits) k)))
+    read-ok (r-cell b y z) (t-cell {A = t} e) on k = let o = st .cs _ t e in rw (o .found) (sure-try (one-key (on-below ko on b)) (λ r. step-ok (to-hand (fits-sub (o .fits) y) k)))
 
     asg-ok : {k q : ℕ} {x : Kind} {X A : RTy} {w : Value} → RSub (σ .keys) X (rcell q A) → Typ W k x X → OnHere q → Fits W w A → Stack A → Sure S W (actAsg (val k x) w m)
     unfolding actAsg asCell found does
-    asg-ok {w = w} (r-cell b) (t-cell {A = t} e) on g k =
+    asg-ok {w = w} (r-cell b y z) (t-cell {A = t} e) on g k =
         let o = st .cs _ t e in
-        rw (o .found) (sure-try (one-key (on-below ko on b)) (λ z. g-step (record {
+        rw (o .found) (sure-try (one-key (on-below ko on b)) (λ r. g-step (record {
           pt = pt;
           ft = ft;
           ct = ct;
           keys = ko;
           few = few;
-          store = set-cell st _ t w e g;
+          store = set-cell st _ t w e (fits-sub g z);
           thread = to-hand g k;
         }) (ext-refl W)))
 
