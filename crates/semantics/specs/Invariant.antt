@@ -25,10 +25,9 @@ pub record TwoTy : Type 0 where
   pub one : RTy
   pub two : RTy
 
-pub record FnTy : Type 0 where
-  pub from : RTy
-  pub to : RTy
-  pub eff : List ℕ
+-- argument, result, and the keys of the effect
+pub data FnTy : Type 0 where
+  fty : RTy → RTy → List ℕ → FnTy
 
 -- the type of each pair, function and cell by number; the upper key of each key; the bindings
 pub record World : Type 0 where
@@ -52,7 +51,7 @@ pub data Typ (W : World) : ℕ → Kind → RTy → Type 0 where
   t-num : {k n : ℕ} → Typ W k (k-num n) (rnum k)
   t-pair : {k p : ℕ} {t : TwoTy} → getElem? (W .pt) p ≡ some t → Typ W k (k-pair p) (rpair k (t .one) (t .two))
   t-cell : {k c : ℕ} {A : RTy} → getElem? (W .ct) c ≡ some A → Typ W k (k-cell c) (rcell k A)
-  t-fn : {k f : ℕ} {t : FnTy} → getElem? (W .ft) f ≡ some t → Typ W k (k-fn f) (rfn k (t .from) (t .to) (t .eff))
+  t-fn : {k f : ℕ} {A B : RTy} {L : List ℕ} → getElem? (W .ft) f ≡ some (fty A B L) → Typ W k (k-fn f) (rfn k A B L)
   t-lim : {k j : ℕ} → 0 < j → Typ W k (k-lim j) (rlim k j)
   t-grant : {k j : ℕ} → 0 < j → Typ W k (k-grant j) (rgrant k j)
 
@@ -172,19 +171,9 @@ pub record CellOk (W : World) (cs : List Value) (i : ℕ) (t : RTy) : Type 0 whe
   pub found : getElem? cs i ≡ some at
   pub fits : Fits W at t
 
-pub record FnOk (S : Src) (W : World) (fs : List Closure) (i : ℕ) (t : FnTy) : Type 0 where
-  pub at : Closure
-  pub found : getElem? fs i ≡ some at
-  pub binds : List Bind
-  pub ctx : List Entry
-  pub arg : Ty
-  pub res : Ty
-  pub used : Effect
-  pub env : Env S W (at .env) binds ctx
-  pub body : Has S (e-var (at .var) arg ∷ ctx) (at .body) res used
-  pub from : t .from ≡ inst (look binds) arg
-  pub to : t .to ≡ inst (look binds) res
-  pub eff : t .eff ≡ map (look binds) (names used)
+pub data FnOk (S : Src) (W : World) (fs : List Closure) (i : ℕ) : FnTy → Type 0 where
+  f-fn : {x : Closure} {E : List Bind} {Γ : List Entry} {A B : Ty} {s : Effect} → getElem? fs i ≡ some x → Env S W (x .env) E Γ → Has S (e-var (x .var) A ∷ Γ) (x .body) B s
+      → FnOk S W fs i (fty (inst (look E) A) (inst (look E) B) (map (look E) (names s)))
 
 pub record StoreOk (S : Src) (W : World) (cells : List Value) (pairs : List Two) (fns : List Closure) : Type 0 where
   pub plen : length pairs ≡ length (W .pt)

@@ -22,17 +22,17 @@ use Rattle.syntax.specs.Tree.{Entry, e-var, e-name, keyPair}
 use Rattle.typing.specs.Subtype.{Sub}
 use Rattle.typing.specs.Scoped.{Free, scoped-free}
 use Rattle.typing.specs.Rules.{Has, h-num, h-top, h-var, h-pair, h-part1, h-part2, h-fn, h-app, h-new, h-asg, h-read, h-sum, h-test, h-lim, h-grant, h-newkey, h-assoc, h-sub, HasKeys, k-nil, k-cons, Fresh, codeOf}
-use Rattle.semantics.specs.Machine.{Kind, k-pair, k-lim, k-grant, Value, unkeyed, Bind, b-var, b-name, Link, Frame, Control, hand, Thread, Store, Machine, most-bindings}
+use Rattle.semantics.specs.Machine.{Kind, k-pair, k-fn, k-lim, k-grant, Value, unkeyed, Bind, b-var, b-name, Link, Frame, Control, hand, Thread, Store, Machine, most-bindings}
 use Rattle.semantics.specs.Keys.{enabled, add}
 use Rattle.semantics.specs.Step
 use Rattle.semantics.specs.Step.{Out, o-step, o-done, o-room, Deed, d-enter, d-push, d-fn, does, free, Plan, p-done, p-try, room, touchAll, settle, asNum, asPair, asFn, asCell, asLim, asGrant, found, one, two}
 use Rattle.semantics.specs.Step.{actPair, partOf, actPart, actApp, actNew, actAsg, actRead, actSum, branch, actTest, limitKeys, keysOf, actLim, actGrant, actNewkey, actAssoc}
 use Rattle.semantics.specs.Step.{worked, act, variable, enterLim, enterCmd, receive, handTo, planOn, plan, step}
-use Rattle.semantics.specs.RuntimeTypes.{RTy, rnum, rpair, rcell, rfn, rlim, rgrant, RSub, r-num, r-pair, r-cell, r-fn, r-lim, r-grant, rkey, rrekey, inst, rsub-refl, rsub-trans, rsub-key, rsub-rekey, inst-rekey, inst-key, under-refl}
+use Rattle.semantics.specs.RuntimeTypes.{RTy, rnum, rpair, rcell, rfn, rlim, rgrant, Under, RSub, r-num, r-pair, r-cell, r-fn, r-lim, r-grant, rkey, rrekey, inst, rsub-refl, rsub-trans, rsub-key, rsub-rekey, inst-rekey, inst-key, under-refl}
 use Rattle.semantics.specs.Chains.{look, lookVar, Chain, ch-cons, chain-le, chain-seek, chain-wider, seam, seam-next, length-two}
-use Rattle.semantics.specs.Invariant.{TwoTy, FnTy, World, worldOf, Ext, Typ, t-num, t-pair, t-cell, t-fn, t-lim, t-grant, Fits, On, on-zero, on-key, OnAll, Covers, EnvOk, eo-var, eo-name, Env, Held, hd-nil, hd-cons, Rest, rest-here, rest-next}
+use Rattle.semantics.specs.Invariant.{TwoTy, FnTy, fty, World, worldOf, Ext, Typ, t-num, t-pair, t-cell, t-fn, t-lim, t-grant, Fits, On, on-zero, on-key, OnAll, Covers, EnvOk, eo-var, eo-name, Env, Held, hd-nil, hd-cons, Rest, rest-here, rest-next}
 use Rattle.semantics.specs.Invariant.{FrameOk, fo-pair1, fo-pair2, fo-part1, fo-part2, fo-app1, fo-app2, fo-new, fo-read, fo-asg1, fo-asg2, fo-sum1, fo-sum2, fo-test, fo-lim, fo-grant, fo-newkey, fo-assoc1, fo-assoc2}
-use Rattle.semantics.specs.Invariant.{StackOk, so-nil, so-cons, ThreadOk, to-enter, to-hand, FnOk, StoreOk, KeysOk, Ok}
+use Rattle.semantics.specs.Invariant.{StackOk, so-nil, so-cons, ThreadOk, to-enter, to-hand, FnOk, f-fn, StoreOk, KeysOk, Ok}
 use Rattle.semantics.specs.Growth.{ext-refl, fits-ext, on-ext, covers-ext, envOk-ext, env-ext, stack-ext}
 use Rattle.semantics.specs.Enabled.{on-more, on-enabled, on-below, on-narrow, keys-snoc, on-under, add-new, add-old, on-name, covers-join-l, covers-join-r, covers-old, covers-touch, covers-map, map-covers, covers-more}
 use Rattle.semantics.specs.Bindings.{fits-sub, inst-off, env-zero, env-one, env-mono, env-sub, env-lt, env-lookup, covers-below, covers-keys, mono-new, up-new}
@@ -155,7 +155,7 @@ module _ (S : Src) (σ : Store) (pt : List TwoTy) (ft : List FnTy) (ct : List RT
         → Envs E Γ → Has S (e-var x T ∷ Γ) b U s → Stack (inst (look E) (fn 0 T U s)) → Sure S W (p-try [] m (d-fn x b))
     unfolding does inst
     newFn-ok {x = x} {b = b} {E = E} {Γ = Γ} {T = T} {U = U} {s = s} o h k =
-        let t : FnTy = record { from = inst (look E) T; to = inst (look E) U; eff = map (look E) (names s) } in
+        let t : FnTy = fty (inst (look E) T) (inst (look E) U) (map (look E) (names s)) in
         let w = fn-extends st t in
         sure-try no-key (λ z. g-step (record {
           pt = pt;
@@ -163,21 +163,7 @@ module _ (S : Src) (σ : Store) (pt : List TwoTy) (ft : List FnTy) (ct : List RT
           ct = ct;
           keys = ko;
           few = few;
-          store = add-fn st t (record { var = x; body = b; env = θ .env })
-              (λ i q. record {
-                at = record { var = x; body = b; env = θ .env };
-                found = getElem?-at (σ .functions) _ i q;
-                binds = E;
-                ctx = Γ;
-                arg = T;
-                res = U;
-                used = s;
-                env = env-ext w o;
-                body = h;
-                from = refl;
-                to = refl;
-                eff = refl;
-              });
+          store = add-fn st t (record { var = x; body = b; env = θ .env }) (λ i q. f-fn (getElem?-at (σ .functions) _ i q) (env-ext w o) h);
           thread = to-hand (record { exact = rfn 0 (inst (look E) T) (inst (look E) U) (map (look E) (names s)); typ = t-fn (getElem?-at ft t (length (σ .functions)) (st .flen)); sub = r-fn bot kb-refl kb-refl under-refl })
               (stack-ext w k);
         }) w)
@@ -271,25 +257,22 @@ module _ (S : Src) (σ : Store) (pt : List TwoTy) (ft : List FnTy) (ct : List RT
           thread = to-hand (record { exact = rpair 0 A B; typ = t-pair (getElem?-at pt t (length (σ .pairs)) (st .plen)); sub = kb-refl }) (stack-ext x k);
         }) x)
 
-    app-ok : {k q : ℕ} {x : Kind} {X T U : RTy} {L : List ℕ} {w : Value}
-        → RSub (σ .keys) X (rfn q T U L) → Typ W k x X → OnHere q → OnAll (σ .keys) (members (θ .on)) L → Fits W w T → Stack U → Sure S W (actApp (val k x) w m)
+    -- the function that the closure i stands for is called
+    call-ok : {k q i : ℕ} {A B T U : RTy} {L M : List ℕ} {w : Value} → FnOk S W (σ .functions) i (fty A B M) → Below (σ .keys) k q → RSub (σ .keys) T A → RSub (σ .keys) B U → Under (σ .keys) M L
+        → OnHere q → OnAll (σ .keys) (members (θ .on)) L → Fits W w T → Stack U → Sure S W (actApp (val k (k-fn i)) w m)
     unfolding actApp asFn found does free look
-    app-ok {U = U} {w = w} (r-fn b y z u) (t-fn {f = i} {t = t} e) on c g k = rw (o .found) (sure-try (one-key (on-below ko on b)) (λ q. g-step (record {
+    call-ok {w = w} (f-fn {x = x} {E = E} {Γ = Γ} {A = A} {s = s} e o h) b y z u on c g k = rw e (sure-try (one-key (on-below ko on b)) (λ q. g-step (record {
       pt = pt;
       ft = ft;
       ct = ct;
       keys = ko;
       few = room-left (ltb-true (length (σ .bindings)) most-bindings q);
       store = store-wider st (σ .keys) B′ wx;
-      thread = to-enter inner (o .body) (covers-ext wx (map-covers (o .used) (subst (λ L. OnAll (σ .keys) (members (θ .on)) L) (o .eff) (on-under ko u c))))
-          (stack-ext wx (stack-sub (subst (λ h. RSub (σ .keys) h U) (o .to) z) k));
+      thread = to-enter inner h (covers-ext wx (map-covers s (on-under ko u c))) (stack-ext wx (stack-sub z k));
     }) wx))
       where
-        o : FnOk S W (σ .functions) i t
-        o = st .fs i t e
-
         l : Link
-        l = record { bind = b-var (o .at .var) w; next = o .at .env }
+        l = record { bind = b-var (x .var) w; next = x .env }
 
         B′ : List Link
         B′ = σ .bindings ++ (l ∷ [])
@@ -300,11 +283,12 @@ module _ (S : Src) (σ : Store) (pt : List TwoTy) (ft : List FnTy) (ct : List RT
         wx : Ext W (world pt ft ct (σ .keys) B′)
         wx = record { pts = λ i a e. e; fts = λ i a e. e; cts = λ i a e. e; ks = λ a b h. h; klen = omega arith; lks = getElem?-append (σ .bindings) (l ∷ []) }
 
-        inner : Env S (world pt ft ct (σ .keys) B′) (suc (length (σ .bindings))) (b-var (o .at .var) w ∷ o .binds) (e-var (o .at .var) (o .arg) ∷ o .ctx)
-        inner = record {
-          chain = ch-cons (getElem?-seam (σ .bindings) l) (chain-le (o .env .chain)) (chain-wider (wx .lks) (o .env .chain));
-          ok = eo-var (envOk-ext wx (o .env .ok)) (subst (λ h. Fits (world pt ft ct (σ .keys) B′) w h) (o .from) (fits-ext wx (fits-sub g y)));
-        }
+        inner : Env S (world pt ft ct (σ .keys) B′) (suc (length (σ .bindings))) (b-var (x .var) w ∷ E) (e-var (x .var) A ∷ Γ)
+        inner = record { chain = ch-cons (getElem?-seam (σ .bindings) l) (chain-le (o .chain)) (chain-wider (wx .lks) (o .chain)); ok = eo-var (envOk-ext wx (o .ok)) (fits-ext wx (fits-sub g y)) }
+
+    app-ok : {k q : ℕ} {x : Kind} {X T U : RTy} {L : List ℕ} {w : Value}
+        → RSub (σ .keys) X (rfn q T U L) → Typ W k x X → OnHere q → OnAll (σ .keys) (members (θ .on)) L → Fits W w T → Stack U → Sure S W (actApp (val k x) w m)
+    app-ok (r-fn b y z u) (t-fn {f = i} {A = A} {B = B} {L = M} e) on c g k = call-ok (st .fs i (fty A B M) e) b y z u on c g k
 
     new-ok : {v : Value} {T : RTy} → Fits W v T → Stack (rcell 0 T) → Sure S W (actNew v m)
     unfolding actNew does
