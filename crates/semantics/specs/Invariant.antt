@@ -16,7 +16,7 @@ use Rattle.syntax.specs.Job.{Src, upOf}
 use Rattle.syntax.specs.Tree.{Entry, e-var, e-name, keyPair}
 use Rattle.typing.specs.Subtype.{Sub}
 use Rattle.typing.specs.Rules.{Has, HasKeys, Fresh, codeOf}
-use Rattle.typing.specs.Scoped.{Free}
+use Rattle.typing.specs.FreeNames.{Free}
 use Rattle.semantics.specs.Machine.{Kind, k-num, k-pair, k-fn, k-cell, k-lim, k-grant, Value, Two, Bind, b-var, b-name, Link, Closure, Frame, Control, enter, hand, Store, Machine, most-bindings}
 use Rattle.semantics.specs.RuntimeTypes.{RTy, rnum, rpair, rcell, rfn, rlim, rgrant, RSub, rkey, rrekey, inst}
 use Rattle.semantics.specs.Chains.{look, Chain}

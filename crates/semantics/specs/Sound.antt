@@ -20,7 +20,8 @@ use Rattle.syntax.specs.Commands.{Cmd, c-lim}
 use Rattle.syntax.specs.Job.{Src, upOf}
 use Rattle.syntax.specs.Tree.{Entry, e-var, e-name, keyPair}
 use Rattle.typing.specs.Subtype.{Sub}
-use Rattle.typing.specs.Scoped.{Free, scoped-free}
+use Rattle.typing.specs.FreeNames.{Free}
+use Rattle.typing.specs.Scoped.{scoped-free}
 use Rattle.typing.specs.Rules.{Has, h-num, h-top, h-var, h-pair, h-part1, h-part2, h-fn, h-app, h-new, h-asg, h-read, h-sum, h-test, h-lim, h-grant, h-newkey, h-assoc, h-sub, HasKeys, k-nil, k-cons, Fresh, codeOf}
 use Rattle.semantics.specs.Machine.{Kind, k-pair, k-fn, k-lim, k-grant, Value, unkeyed, Bind, b-var, b-name, Link, Frame, Control, hand, Thread, Store, Machine, most-bindings}
 use Rattle.semantics.specs.Keys.{enabled, add}
