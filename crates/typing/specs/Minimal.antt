@@ -11,7 +11,7 @@ use borrow.Author.Tests.{eq-eqb}
 use Rattle.order.specs.Order.{Below, here}
 use Rattle.order.specs.Effects.{Effect, pure, touch, ofNames, join, drop, raise, reduce, EffBelow}
 use Rattle.order.specs.EffectLaws.{eff-refl, eff-trans, eff-join-mono, eff-touch-mono, reduce-below, drop-mono, raise-mono, →effBelow}
-use Rattle.syntax.specs.Types.{Ty, num, pair, cell, fn, lim, grant, keyOf, rekey}
+use Rattle.syntax.specs.Types.{Ty, num, pair, cell, fn, lim, grant, byType, onNum, onPair, onCell, onFn, onLim, onGrant, keyOf, rekey}
 use Rattle.syntax.specs.Commands.{Cmd, c-num, c-top, c-var, c-pair, c-part, c-fn, c-app, c-new, c-asg, c-read, c-sum, c-test, c-lim, c-grant, c-newkey, c-assoc}
 use Rattle.syntax.specs.Operands.{nth, plain, inner, children}
 use Rattle.syntax.specs.Job.{Src, upOf}
@@ -109,7 +109,7 @@ module _ (S : Src) (ok : Formed S) (tree : TreeOk S) where
     pair-least c h x u k y v = record { ty = _; eff = _; got = rw (c, h, k) at fix; sub = s-pair here x y; under = red (jn u v) }
 
     part-least : {a q : ℕ} {P A B : Ty} {s₀ s : Effect} (i : Bool) → nth (S .cmds) e ≡ c-part a i → pre e a ≡ typed P s₀ → Sub up P (pair q A B) → EffBelow up s₀ s → Least S e (pick i A B) (touch q s)
-    unfolding typeAt with wantPair pick
+    unfolding typeAt with wantPair pick onPair byType
     part-least true c h (s-pair r x y) u = record { ty = _; eff = _; got = rw (c, h) at fix; sub = x; under = red (tch r u) }
     part-least false c h (s-pair r x y) u = record { ty = _; eff = _; got = rw (c, h) at fix; sub = y; under = red (tch r u) }
 
@@ -119,7 +119,7 @@ module _ (S : Src) (ok : Formed S) (tree : TreeOk S) where
 
     app-least : {f a q : ℕ} {F A₀ A T U : Ty} {l s₀ s t₀ t : Effect} → nth (S .cmds) e ≡ c-app f a → pre e f ≡ typed F s₀ → Sub up F (fn q T U l) → EffBelow up s₀ s
         → pre e a ≡ typed A₀ t₀ → Sub up A₀ A → EffBelow up t₀ t → Sub up A T → Least S e U (touch q (join l (join s t)))
-    unfolding typeAt with wantFn require
+    unfolding typeAt with wantFn require onFn byType
     app-least {A₀ = A₀} {A = A} {T = T} c h (s-fn {A = B} r x y w) u k v z s =
         record { ty = _; eff = _; got = rw (c, h, k, →subTy (ok .proper) (sub-trans T (sub-trans A v s) x)) at fix; sub = y; under = red (tch r (jn w (jn u z))) }
 
@@ -129,39 +129,39 @@ module _ (S : Src) (ok : Formed S) (tree : TreeOk S) where
 
     asg-least : {a b q : ℕ} {C A₀ A T : Ty} {s₀ s t₀ t : Effect} → nth (S .cmds) e ≡ c-asg a b → pre e a ≡ typed C s₀ → Sub up C (cell q T) → EffBelow up s₀ s
         → pre e b ≡ typed A₀ t₀ → Sub up A₀ A → EffBelow up t₀ t → Sub up A T → Least S e T (touch q (join s t))
-    unfolding typeAt with wantCell require
+    unfolding typeAt with wantCell require onCell byType
     asg-least {A = A} {T = T} c h (s-cell r) u k v z s = record { ty = T; eff = _; got = rw (c, h, k, →subTy (ok .proper) (sub-trans A v s)) at fix; sub = sr T; under = red (tch r (jn u z)) }
 
     read-least : {a q : ℕ} {C T : Ty} {s₀ s : Effect} → nth (S .cmds) e ≡ c-read a → pre e a ≡ typed C s₀ → Sub up C (cell q T) → EffBelow up s₀ s → Least S e T (touch q s)
-    unfolding typeAt with wantCell
+    unfolding typeAt with wantCell onCell byType
     read-least {T = T} c h (s-cell r) u = record { ty = T; eff = _; got = rw (c, h) at fix; sub = sr T; under = red (tch r u) }
 
     sum-least : {a b p q : ℕ} {i : Bool} {A B : Ty} {s₀ s t₀ t : Effect} → nth (S .cmds) e ≡ c-sum i a b → pre e a ≡ typed A s₀ → Sub up A (num p) → EffBelow up s₀ s
         → pre e b ≡ typed B t₀ → Sub up B (num q) → EffBelow up t₀ t → Least S e (num 0) (touch p (touch q (join s t)))
-    unfolding typeAt with wantNum
+    unfolding typeAt with wantNum onNum byType
     sum-least c h (s-num x) u k (s-num y) z = record { ty = num 0; eff = _; got = rw (c, h, k) at fix; sub = sr _; under = red (tch x (tch y (jn u z))) }
 
     test-least : {a b d q : ℕ} {A B₀ B C₀ C T : Ty} {s₀ s t₀ t u₀ u : Effect} → nth (S .cmds) e ≡ c-test a b d T → pre e a ≡ typed A s₀ → Sub up A (num q) → EffBelow up s₀ s
         → pre e b ≡ typed B₀ t₀ → Sub up B₀ B → EffBelow up t₀ t → pre e d ≡ typed C₀ u₀ → Sub up C₀ C → EffBelow up u₀ u → Sub up B T → Sub up C T
         → Least S e T (touch q (join s (join t u)))
-    unfolding typeAt with wantNum require
+    unfolding typeAt with wantNum require onNum byType
     test-least {B = B} {C = C} {T = T} c h (s-num x) u k v z k′ v′ z′ s s′ =
         record { ty = T; eff = _; got = rw (c, h, k, k′, →subTy (ok .proper) (sub-trans B v s), →subTy (ok .proper) (sub-trans C v′ s′)) at fix; sub = sr T; under = red (tch x (jn u (jn z z′))) }
 
     grant-least : {a b q r : ℕ} {B T : Ty} {s₀ s t₀ t : Effect} → nth (S .cmds) e ≡ c-grant a b → AsGrant (pre e a) q r s₀ → EffBelow up s₀ s
         → pre e b ≡ typed B t₀ → Sub up B T → EffBelow up t₀ t → Least S e T (touch q (join s (drop up r t)))
-    unfolding typeAt with wantGrant
+    unfolding typeAt with wantGrant onGrant byType
     grant-least {r = r} c h u k v z = record { ty = _; eff = _; got = rw (c, h .got, k) at fix; sub = v; under = red (tch (h .low) (jn u (drop-mono (ok .proper) r z))) }
 
     newkey-least : {x r a b q u : ℕ} {B₀ B T : Ty} {s₀ s t₀ t : Effect} → nth (S .cmds) e ≡ c-newkey x r a b T → AsLim (pre e a) q u s₀ → EffBelow up s₀ s
         → getElem? up r ≡ some u → pre e b ≡ typed B₀ t₀ → Sub up B₀ B → EffBelow up t₀ t → Sub up B T → Least S e T (touch q (join s (raise r u t)))
-    unfolding typeAt with wantLim require isUpper
+    unfolding typeAt with wantLim require isUpper onLim byType
     newkey-least {r = r} {u = u} {B = B} {T = T} c h v g k y z s =
         record { ty = T; eff = _; got = rw (c, h .got, k, g, eq-eqb u u refl, →subTy (ok .proper) (sub-trans B y s)) at fix; sub = sr T; under = red (tch (h .low) (jn v (raise-mono (ok .proper) r g z))) }
 
     assoc-least : {a b q r : ℕ} {A₀ A : Ty} {s₀ s t₀ t : Effect} → nth (S .cmds) e ≡ c-assoc a b → pre e a ≡ typed A₀ s₀ → Sub up A₀ A → EffBelow up s₀ s
         → AsLim (pre e b) q r t₀ → EffBelow up t₀ t → Least S e (rekey r A) (touch (keyOf A) (touch q (join s t)))
-    unfolding typeAt with wantLim
+    unfolding typeAt with wantLim onLim byType
     assoc-least {r = r} c h x u k z = record { ty = _; eff = _; got = rw (c, h, k .got) at fix; sub = sub-rekey r x; under = red (tch (sub-key x) (tch (k .low) (jn u z))) }
 
   -- the keys of a limit: the same names, the effect below
@@ -175,7 +175,7 @@ module _ (S : Src) (ok : Formed S) (tree : TreeOk S) where
   no-keys e = record { eff = pure; got = λ f. refl; under = eff-refl }
 
   key-least : {e a q r : ℕ} {s₀ s t : Effect} {ks rs : List ℕ} → AsLim (pre e a) q r s₀ → EffBelow up s₀ s → LeastKeys e ks rs t → LeastKeys e (a ∷ ks) (r ∷ rs) (touch q (join s t))
-  unfolding keysAt with wantLim
+  unfolding keysAt with wantLim onLim byType
   key-least {r = r} {s₀ = s₀} h u k = record { eff = touch (h .own) (join s₀ (k .eff)); got = λ f. rw (h .got) (k .got (λ rs t. f (r ∷ rs) (touch (h .own) (join s₀ t)))); under = tch (h .low) (jn u (k .under)) }
 
   lim-least : {e b : ℕ} {ks rs : List ℕ} {B T : Ty} {s t₀ t : Effect} → e < length (S .cmds) → nth (S .cmds) e ≡ c-lim ks b → LeastKeys e ks rs s → pre e b ≡ typed B t₀ → Sub up B T → EffBelow up t₀ t → EffBelow up t (ofNames rs) → Least S e T (join s t)
