@@ -16,7 +16,7 @@ use Rattle.order.specs.Effects as effects
 use Rattle.syntax.specs.Types.{Ty, num, pair, cell, fn, lim, grant, TypeEntry, e-num, e-pair, e-cell, e-fn, e-lim, e-grant, entryTree, treeIn, tree, byType, onNum, onCell, onGrant, onLim}
 use Rattle.syntax.specs.Commands.{Cmd, c-top, mapCmd}
 use Rattle.syntax.specs.Job.{Name, HostValue, Job, Src, valueOf, sourceOf}
-use Rattle.syntax.specs.Tree.{root, past}
+use Rattle.syntax.specs.Tree.{root, predecessor}
 use Rattle.syntax.specs.Words.{nameWord, typeWord, valueWord, nameWords, typeWords, valueWords, filled}
 use Rattle.syntax.specs.Reading.{declared, partsOk, typeOk, unkeyedNumber, hostTypeOk, hostValueOk}
 use Rattle.syntax.specs.ReadLaws.{JobOk, built-at}
@@ -142,7 +142,7 @@ same-start S R a b c d = λ i. starts (a i) (b i) (c i) (d i)
         let N = addNames ns (record { keys = 0 ∷ 1 ∷ []; of = 0 ∷ 1 ∷ []; bindings = [] }) in
         let W = addValues (λ n. getD (N .of) n 0) 0 vs (record { cells = []; bindings = N .bindings }) in
         record {
-          thread = record { control = enter (past k); env = length (W .bindings); on = setOf (map (λ n. getD (N .of) n 0) (effects.names rs)); frames = [] };
+          thread = record { control = enter (predecessor k); env = length (W .bindings); on = setOf (map (λ n. getD (N .of) n 0) (effects.names rs)); frames = [] };
           store = record { cells = W .cells; keys = N .keys; pairs = []; functions = []; bindings = W .bindings };
         }
 
