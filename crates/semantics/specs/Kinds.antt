@@ -7,7 +7,7 @@ use mathlib.Core.Bool.{Bool, true, false, false≢true}
 use mathlib.Core.List.{List, [], _∷_, map}
 use mathlib.Core.Logic.{_≢_}
 use lib.ListN.{length, getElem?}
-use Rattle.order.specs.Bools.{_and_, and-l, and-r}
+use Rattle.order.specs.Bools.{and-l, and-r}
 use Rattle.order.specs.Effects.{Effect}
 use Rattle.syntax.specs.Types.{Ty, num, pair, cell, fn, lim, grant, byType, onCell, onFn, onGrant, onLim, onNum, onPair}
 use Rattle.syntax.specs.Commands.{Cmd, c-num, c-top, c-var, c-pair, c-part, c-fn, c-app, c-new, c-asg, c-read, c-sum, c-test, c-lim, c-grant, c-newkey, c-assoc}
@@ -15,7 +15,7 @@ use Rattle.syntax.specs.Job.{Src, upOf}
 use Rattle.typing.specs.Least.{Typed, typed, untyped, with, wantNum, wantPair, wantCell, wantFn, wantLim, wantGrant, require, isUpper, keysAt, typeAt}
 use Rattle.semantics.specs.Machine.{Kind, k-num, k-pair, k-fn, k-cell, k-lim, k-grant, Value, Store}
 use Rattle.semantics.specs.Step.{worked}
-use Rattle.semantics.specs.Wants.{a-number, a-pair, a-function, a-cell, a-limit, a-grant, Use, touches, alike, uses, holds, isThere, byKind, yes, no, suits, suit}
+use Rattle.semantics.specs.Wants.{a-number, a-pair, a-function, a-cell, a-limit, a-grant, touches, alike, uses, holds, byKind, yes, no, suits, suit}
 
 -- a value of the type is of this kind
 pub data Of : Ty → Kind → Type 0 where
