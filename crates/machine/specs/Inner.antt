@@ -10,7 +10,7 @@ use Rattle.syntax.specs.Words.{decode}
 use Rattle.semantics.specs.Machine.{Value as SValue, Machine as Clean}
 use Rattle.semantics.specs.Step.{Out, o-step, o-done, o-room, o-stuck, o-denied, handing, entering, Deed, Plan, p-wrong, p-try, settle, step, worked}
 use Rattle.semantics.specs.Calls.{Answer as SAnswer, taken, finished, spent, noroom, stuck, denied, Ran, ran, turn}
-use Rattle.store.specs.declared.Expr.{Expr}
+use Rattle.table.specs.declared.Expr.{Expr}
 use Rattle.store.specs.declared.Keys.{Keys}
 use Rattle.store.specs.declared.Kind.{Kind}
 use Rattle.store.specs.declared.Value.{Value}

@@ -7,7 +7,6 @@ use crate::unkeyed;
 use store::BINDING_WORDS;
 use store::Bound;
 use store::Closure;
-use store::Expr;
 use store::FRAME_WORDS;
 use store::FUNCTION_WORDS;
 use store::Keys;
@@ -15,6 +14,7 @@ use store::Kind;
 use store::MOST_BINDINGS;
 use store::MOST_FRAMES;
 use store::MOST_FUNCTIONS;
+use table::Expr;
 ghost use mathlib.Core.Path.{_≡_};
 ghost use mathlib.Core.Option.{Option};
 ghost use Rattle.syntax.specs.Words.{codeIn};
@@ -151,11 +151,11 @@ impl Thread {
         ensures { λ r. ⌜ ((w : Tables) → acted r (putBindings (putFunctions (putFrames w (now (frames .exit))) (now (functions .exit))) (now (bindings .entry))) ≡ tried self self (putBindings (putFunctions (putFrames w (now (frames .entry))) (now (functions .entry))) (now (bindings .entry))) (enterCmd (e .0) (codeIn (now (heads .entry)) (now (slots .entry)) (e .0)))) ⌝ }
     {
         let i = e.0 as usize;
-        let head = store::at64(heads, i);
+        let head = table::at64(heads, i);
         let op = head % 256;
         let x = head / 256 % 4294967296;
         if 0 < need(op, x) {
-            let first = Expr(store::at16(slots, i * 5));
+            let first = Expr(table::at16(slots, i * 5));
             return self.push(e, first, frames);
         }
         match op {
@@ -165,12 +165,12 @@ impl Thread {
             }
             0x32 => self.variable((x % 256) as u8, bindings),
             0x35 => {
-                let body = Expr(store::at16(slots, i * 5));
+                let body = Expr(table::at16(slots, i * 5));
                 self.function((x % 256) as u8, body, functions)
             }
             0x3C => {
                 let now = self.now;
-                self.go(Expr(store::at16(slots, i * 5 + 4)), now.env, Keys(0, 0))
+                self.go(Expr(table::at16(slots, i * 5 + 4)), now.env, Keys(0, 0))
             }
             _ => {
                 let v = unkeyed(Kind::Number, x as u32);
