@@ -1,6 +1,7 @@
 -- Laws of sets of names: what their names are, their order, and what each operation does to both. In each, `up` is the list of upper numbers of the names.
 use mathlib.Core.Path.{_≡_, refl, sym, ap, _∙_, subst, subst⁻¹}
 use Prim.Native.Nat.{ℕ, zero, suc, _^_, _≤_, _<_}
+use native.Mathlib.Nat.{pow-le-pow-right}
 use native.Mathlib.Omega.{arith}
 use mathlib.Core.Bool.{Bool, true, false, cond, not, _&&_, _||_, true≢false, false≢true, or-comm}
 use mathlib.Core.List.{List, [], _∷_, _++_, map, List·Memᴰ, List·Memᴰ·head, List·Memᴰ·tail, Memᴰ·cast, Memᴰ·map, Memᴰ·of-map}
@@ -12,7 +13,7 @@ use lib.Bits.{bitOr, or-lt, or-comm as or-swap}
 use borrow.Author.Tests.{eq-eqb, ne-eqb, eqb-true, eqb-false, not-true, not-false}
 use Rattle.order.specs.Order.{Below, bot, here, there, below}
 use Rattle.order.specs.OrderLaws.{Proper, below→, →below, below-bot, below-le, below-zero, below-antisym, below-trans, below-append}
-use Rattle.order.specs.Sets.{bit, members, setOf, keep, some-of, all-of}
+use Rattle.order.specs.Sets.{bit, members, membersFrom, setOf, keep, some-of, all-of}
 use Rattle.order.specs.SetLaws.{bool-ext, or-assoc, or→, →or-l, →or-r, and→, →and, bit-or, bit-zero, bit-pow, set-ext, bit-lt, lt-bit, keep-mem, mem-keep, some-of→, →some-of, none-of→, →none-of, all-of→, →all-of, mem-bit, bit-mem, setOf-bit, bit-setOf, mem-setOf, setOf-mem, bit-keep-set}
 use Rattle.order.specs.Effects.{setNames, setTouch, SetBelow, setBelow, maximal, setReduced, setReduce, setDrop, setRaise}
 
@@ -103,6 +104,9 @@ touch-join q s t = at (eqb q 0) refl
 
 join-comm : (s t : ℕ) → bitOr s t ≡ bitOr t s
 join-comm s t = or-swap s t
+
+pub join-swap : (s t u : ℕ) → bitOr (bitOr s t) u ≡ bitOr t (bitOr s u)
+join-swap s t u = ap (λ (x : ℕ). bitOr x u) (or-swap s t) ∙ or-assoc t s u
 
 pub join-touch : (q : ℕ) (s t : ℕ) → bitOr s (setTouch q t) ≡ setTouch q (bitOr s t)
 join-touch q s t = join-comm s (setTouch q t) ∙ touch-join q t s ∙ ap (setTouch q) (join-comm t s)
@@ -267,6 +271,10 @@ below-reduce {up} ok s = record { each = λ n m. let z = name-mem s m in go (suc
         at true e g = (n, mem-name (setReduce up s) (mem-reduce up s m e) z, here)
         at false e g = let y = not-maximal up s n z e in next g (y .0) (y .1) (y .2) (y .3)
 
+pub none-reduced : (up : List ℕ) → setReduced up 0 ≡ true
+unfolding setReduced all-of members membersFrom
+none-reduced up = refl
+
 pub reduce-reduced : (up : List ℕ) (s : ℕ) → setReduced up (setReduce up s) ≡ true
 unfolding setReduced
 reduce-reduced up s = →all-of (maximal up (setReduce up s)) (members (setReduce up s)) one
@@ -417,12 +425,15 @@ raise-mono {up} ok r {u} g {s} {t} p = record { each = λ n m. at n (raise-cases
 
 -- Sizes: names below k stay below k
 
-pub names-lt : (k s : ℕ) → ((n : ℕ) → List·Memᴰ n (setNames s) → n < suc k) → s < 2 ^ suc k
-names-lt k s f = lt-bit (suc k) s (λ i e. at i e (eqb i 0) refl)
+pub names-lt : (k s : ℕ) → 0 < k → ((n : ℕ) → List·Memᴰ n (setNames s) → n < k) → s < 2 ^ k
+names-lt k s h f = lt-bit k s (λ i e. at i e (eqb i 0) refl)
   where
-    at : (i : ℕ) → bit s i ≡ true → (c : Bool) → eqb i 0 ≡ c → i < suc k
+    at : (i : ℕ) → bit s i ≡ true → (c : Bool) → eqb i 0 ≡ c → i < k
     at i e true z = omega (arith, eqb-true i 0 z)
     at i e false z = f i (bit-name s e (eqb-false i 0 z))
+
+pub lt-wider : {s j k : ℕ} → s < 2 ^ j → j ≤ k → s < 2 ^ k
+lt-wider {s} {j} {k} h l = let z : 2 ^ j ≤ 2 ^ k = pow-le-pow-right (omega arith) l in omega arith
 
 pub none-lt : (k : ℕ) → 0 < 2 ^ k
 none-lt k = lt-bit k 0 (λ i e. absurd (false≢true (sym (bit-zero i) ∙ e)))

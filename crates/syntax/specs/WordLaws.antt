@@ -459,7 +459,7 @@ read-slim s J h e = slim-done (slim-from (suc (length s)) 0 (record { section = 
 -- a set of declared names
 set-lt : (ds : List Name) (s : Effect) → 2 + length ds ≤ 64 → setOk ds s ≡ true → Within 64 s
 unfolding setOk declared
-set-lt ds s h e = within-names 63 s (λ i m. omega (arith, ltb-true i (2 + length ds) (all-of→ (λ q. ltb q (2 + length ds)) (and-l _ _ e) m)))
+set-lt ds s h e = within-names 64 s (omega arith) (λ i m. omega (arith, ltb-true i (2 + length ds) (all-of→ (λ q. ltb q (2 + length ds)) (and-l _ _ e) m)))
 
 name-lt : (ds : List Name) (q : ℕ) → 2 + length ds ≤ 64 → declared ds q ≡ true → q < 64
 name-lt ds q h e = omega (arith, declared-lt ds q e)

@@ -5,7 +5,7 @@ use mathlib.Core.List.{List, [], _∷_, _++_, map, flatMap}
 use mathlib.Core.Option.{Option, none, some}
 use lib.ListN.{length, replicate, getD, take}
 use lib.Dec.{eqb}
-use Rattle.order.specs.Effects.{ofWord}
+use Rattle.order.specs.Effects.{Effect, ofWord}
 use Rattle.syntax.specs.Types.{TypeEntry, e-num, e-pair, e-cell, e-fn, e-lim, e-grant}
 use Rattle.syntax.specs.Commands.{Cmd, c-num, c-top, c-var, c-pair, c-part, c-fn, c-app, c-new, c-asg, c-read, c-sum, c-test, c-lim, c-grant, c-newkey, c-assoc, form, row}
 use Rattle.syntax.specs.Commands.{Role, r-evaluated, r-entered, r-inside, r-count, r-keys, r-unused, r-variable, r-parameter, r-keypair, r-local, r-number, r-choice}
@@ -78,6 +78,9 @@ typeWords T = map typeWord T
 
 abbrev pub setWords : List TypeEntry → List ℕ
 setWords T = map setWord T
+
+abbrev pub effectWords : List Effect → List ℕ
+effectWords l = map (λ s. s .set) l
 
 abbrev pub valueWords : Job → List ℕ
 valueWords J = map valueWord (J .values)
