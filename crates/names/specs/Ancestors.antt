@@ -10,7 +10,7 @@ use lib.Count.{trailingZeros}
 use Rattle.order.specs.Bools.{_and_, _or_}
 use Rattle.order.specs.Order.{below}
 use Rattle.order.specs.Sets.{bit, members, setOf, keep, all-of}
-use Rattle.order.specs.Effects.{ofWord, setNames, join}
+use Rattle.order.specs.Effects.{Effect, ofWord, setNames, join}
 use Rattle.syntax.specs.Job.{Name}
 use Rattle.syntax.specs.Reading.{most-names, hostName}
 
@@ -46,6 +46,9 @@ meetsBy anc t n = not (eqb (bitAnd (getD anc n 0) t) 0)
 
 unfoldable pub effBelowBy : List ℕ → ℕ → ℕ → Bool
 effBelowBy anc s t = all-of (meetsBy anc t) (setNames s)
+
+abbrev pub effectsBy : List ℕ → Effect → Effect → Bool
+effectsBy anc s t = effBelowBy anc (s .set) (t .set)
 
 -- no other name of s is at or above n
 unfoldable pub topBy : List ℕ → ℕ → ℕ → Bool

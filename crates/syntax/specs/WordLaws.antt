@@ -14,7 +14,7 @@ use borrow.Author.Tests.{ltb-true}
 use Rattle.order.specs.Bools.{_and_, and-l, and-r}
 use Rattle.order.specs.Sets.{all-of}
 use Rattle.order.specs.SetLaws.{all-of→, lt-bit, bit-mem}
-use Rattle.order.specs.Effects.{Effect}
+use Rattle.order.specs.Effects.{Effect, ofWord, pure}
 use Rattle.order.specs.EffectLaws.{Within, within-names}
 use Rattle.order.specs.OrderLaws.{getElem?-lt, getElem?-snoc, length-snoc}
 use Rattle.syntax.specs.Types.{TypeEntry, e-num, e-pair, e-cell, e-fn, e-lim, e-grant}
@@ -28,7 +28,7 @@ use Rattle.syntax.specs.Job.{Name, HostValue, Job}
 use Rattle.syntax.specs.Reading.{Refusal, State, declared, localName, setOk, nameOk, partsOk, typeOk, hostValueOk, rightsOk, cmdOk}
 use Rattle.syntax.specs.Reading.{Written, w-name, w-type, w-value, w-rights, w-cmd, w-end, unwritten, partOf, sumOf, limitOf, written, given, enter, misplaced, full}
 use Rattle.syntax.specs.Reading.{Step, refuse, proceed, finish, settle, command, Read, refused, read, ended, onward, onOp, readFrom, noJob, reading}
-use Rattle.syntax.specs.Words.{nameWord, typeWord, setWord, valueWord, headBits, headWord, filled, placeRoles, slots, nameWords, typeWords, setWords, valueWords, headWords, slotWords, decode, codeIn}
+use Rattle.syntax.specs.Words.{nameWord, typeWord, setWord, valueWord, headBits, headWord, filled, placeRoles, slots, nameWords, typeWords, setWords, valueWords, headWords, slotWords, effectWords, decode, codeIn}
 use Rattle.syntax.specs.ReadLaws.{JobOk, built-at, read-ok}
 use Rattle.syntax.specs.ReadFormed.{declared-lt, nth-at, entry-parts, CmdFormed, cmds-formed}
 
@@ -88,6 +88,15 @@ unfolding filled
 filled-none n = ap (λ (k : ℕ). replicate k 0) (sub-zero n)
 
 -- a store just past what is used is one entry more
+-- an effect is read back from its word
+pub effect-back : (n : ℕ) (l : List Effect) (i : ℕ) → ofWord (getD (filled n 0 (effectWords l)) i 0) ≡ getD l i pure
+effect-back n l i = ap ofWord (filled-at n (effectWords l) i) ∙ at l i
+  where
+    at : (l : List Effect) (i : ℕ) → ofWord (getD (effectWords l) i 0) ≡ getD l i pure
+    at [] i = refl
+    at (s ∷ l) zero = refl
+    at (s ∷ l) (suc i) = at l i
+
 pub filled-set : (n : ℕ) (l : List ℕ) (i x : ℕ) → length l < n → i ≡ length l → set (filled n 0 l) i x ≡ filled n 0 (l ++ (x ∷ []))
 unfolding filled
 filled-set n l i x h e =
