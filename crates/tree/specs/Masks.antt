@@ -113,10 +113,10 @@ module _ (ds : List Name) (few : 2 + length ds ≤ 64) (T : ℕ → Ty) (m : Lis
       let k : q < 64 = name-lt ds q few (and-l _ _ (and-l _ _ (and-l _ _ p))) in
       let x : a < i = ltb-true a i (and-r _ _ (and-l _ _ (and-l _ _ p))) in
       let y : b < i = ltb-true b i (and-r _ _ (and-l _ _ p)) in
-      ap (λ (x : ℕ). bit x n) (by-fields (fields 0x13 q a b (omega arith) (omega arith) (omega arith) (omega arith)) s m)
-      ∙ bit-or n (oneOf q) (bitOr (bitOr (getD m a 0) (getD m b 0)) s)
+      ap (λ (x : ℕ). bit x n) (by-fields (fields 0x13 q a b (omega arith) (omega arith) (omega arith) (omega arith)) (s .set) m)
+      ∙ bit-or n (oneOf q) (bitOr (bitOr (getD m a 0) (getD m b 0)) (s .set))
       ∙ ap₂ (λ (u v : Bool). u || v) (one-all q n k)
-      (bit-or n (bitOr (getD m a 0) (getD m b 0)) s
+      (bit-or n (bitOr (getD m a 0) (getD m b 0)) (s .set)
       ∙ ap₂ (λ (u v : Bool). u || v) (bit-or n (getD m a 0) (getD m b 0) ∙ ap₂ (λ (u v : Bool). u || v) (f a x) (f b y)) (set-names s n some-name)
       ∙ or-three (memB n (namesIn (T a))) (memB n (namesIn (T b))) (memB n (names s))
       ∙ ap (λ (u : Bool). memB n (namesIn (T a)) || u) (sym (memB-app n (namesIn (T b)) (names s)))
