@@ -347,13 +347,13 @@ raise-own r u = rw (eq-eqb r r refl)
 raise-other : (r u n : ℕ) → n ≢ r → raiseName r u n ≡ n
 raise-other r u n h = rw (ne-eqb n r h)
 
-pub raise-off : (r u : ℕ) (s : ℕ) {n : ℕ} → List·Memᴰ n (setNames s) → n ≢ r → List·Memᴰ n (setNames (setRaise r u s))
-unfolding setRaise
-raise-off r u s {n} m h = mem-name (setRaise r u s) (setOf-mem (Memᴰ·cast (sym (raise-other r u n h)) (Memᴰ·map (raiseName r u) m))) (name-mem s m .1)
-
 pub raise-on : (r u : ℕ) (s : ℕ) → List·Memᴰ r (setNames s) → u ≢ 0 → List·Memᴰ u (setNames (setRaise r u s))
 unfolding setRaise
 raise-on r u s m h = mem-name (setRaise r u s) (setOf-mem (Memᴰ·cast (sym (raise-own r u)) (Memᴰ·map (raiseName r u) m))) h
+
+pub raise-off : (r u : ℕ) (s : ℕ) {n : ℕ} → List·Memᴰ n (setNames s) → n ≢ r → List·Memᴰ n (setNames (setRaise r u s))
+unfolding setRaise
+raise-off r u s {n} m h = mem-name (setRaise r u s) (setOf-mem (Memᴰ·cast (sym (raise-other r u n h)) (Memᴰ·map (raiseName r u) m))) (name-mem s m .1)
 
 raised : (r u : ℕ) (s : ℕ) {n : ℕ} → List·Memᴰ n (map (raiseName r u) (setNames s)) → (List·Memᴰ n (setNames s) × (n ≢ r)) ⊎ (List·Memᴰ r (setNames s) × (n ≡ u))
 raised r u s {n} m = let z = Memᴰ·of-map (raiseName r u) (setNames s) m in at (z .0) (z .1) (z .2) (eqb (z .0) r) refl
