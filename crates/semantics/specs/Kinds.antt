@@ -8,7 +8,7 @@ use mathlib.Core.List.{List, [], _∷_, map}
 use mathlib.Core.Option.{Option, none, some}
 use mathlib.Core.Logic.{_≢_}
 use lib.ListN.{length, getElem?}
-use Rattle.order.specs.Bools.{_and_, and-l, and-r}
+use Rattle.order.specs.Bools.{and-l, and-r}
 use Rattle.order.specs.Effects.{Effect}
 use Rattle.syntax.specs.Types.{Ty, num, pair, cell, fn, lim, grant, byType, onCell, onFn, onGrant, onLim, onNum, onPair}
 use Rattle.syntax.specs.Commands.{Cmd, c-num, c-top, c-var, c-pair, c-part, c-fn, c-app, c-new, c-asg, c-read, c-sum, c-test, c-lim, c-grant, c-newkey, c-assoc}

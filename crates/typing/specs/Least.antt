@@ -6,7 +6,7 @@ use mathlib.Core.Option.{Option, none, some}
 use lib.ListN.{length, getElem?}
 use lib.Dec.{eqb}
 use Rattle.order.specs.Effects.{Effect, pure, ofNames, touch, join, drop, raise, reduce, effBelow}
-use Rattle.syntax.specs.Types.{Ty, num, pair, cell, fn, lim, grant, onNum, onPair, onCell, onFn, onLim, onGrant, keyOf, rekey}
+use Rattle.syntax.specs.Types.{Ty, num, pair, cell, fn, lim, onNum, onPair, onCell, onFn, onLim, onGrant, keyOf, rekey}
 use Rattle.syntax.specs.Commands.{Cmd, c-num, c-top, c-var, c-pair, c-part, c-fn, c-app, c-new, c-asg, c-read, c-sum, c-test, c-lim, c-grant, c-newkey, c-assoc}
 use Rattle.syntax.specs.Operands.{nth}
 use Rattle.syntax.specs.Job.{Src, upOf}

@@ -79,10 +79,10 @@ module _ (S : Src) (ok : Formed S) (tree : TreeOk S) where
     under : EffBelow up eff t
 
   as-lim : {e a q r : ℕ} {t : Effect} → Known e a (lim q r) t → AsLim e a q r t
-  as-lim (known {s = s} h (s-lim {p = p} b z) u n) = record { own = p; eff = s; got = h ∙ ap (λ (n : ℕ). typed (lim p n) s) z; low = b; under = u }
+  as-lim (known {s = s} h (s-lim {p = p} b i) u ra) = record { own = p; eff = s; got = h ∙ ap (λ (n : ℕ). typed (lim p n) s) i; low = b; under = u }
 
   as-grant : {e a q r : ℕ} {t : Effect} → Known e a (grant q r) t → AsGrant e a q r t
-  as-grant (known {s = s} h (s-grant {p = p} b z) u n) = record { own = p; eff = s; got = h ∙ ap (λ (n : ℕ). typed (grant p n) s) z; low = b; under = u }
+  as-grant (known {s = s} h (s-grant {p = p} b i) u ra) = record { own = p; eff = s; got = h ∙ ap (λ (n : ℕ). typed (grant p n) s) i; low = b; under = u }
 
   -- the keys of a limit: the same names, the effect below
   record LeastKeys (e : ℕ) (ks rs : List ℕ) (s : Effect) : Type 0 where
@@ -122,63 +122,63 @@ module _ (S : Src) (ok : Formed S) (tree : TreeOk S) where
 
     pair-least : {a b : ℕ} {A B : Ty} {s t : Effect} → nth (S .cmds) e ≡ c-pair a b → Known e a A s → Known e b B t → Least S e (pair 0 A B) (join s t)
     unfolding typeAt with
-    pair-least c (known h x u n) (known k y v m) = record { ty = _; eff = _; got = rw (c, h, k) at fix; sub = s-pair here x y; under = red (jn u v) }
+    pair-least c (known h x u ra) (known k y v rb) = record { ty = _; eff = _; got = rw (c, h, k) at fix; sub = s-pair here x y; under = red (jn u v) }
 
     part-least : {a q : ℕ} {A B : Ty} {s : Effect} (i : Bool) → nth (S .cmds) e ≡ c-part a i → Known e a (pair q A B) s → Least S e (pick i A B) (touch q s)
     unfolding typeAt with wantPair pick onPair byType
-    part-least true c (known h (s-pair r x y) u n) = record { ty = _; eff = _; got = rw (c, h) at fix; sub = x; under = red (tch r u) }
-    part-least false c (known h (s-pair r x y) u n) = record { ty = _; eff = _; got = rw (c, h) at fix; sub = y; under = red (tch r u) }
+    part-least true c (known h (s-pair r x y) u ra) = record { ty = _; eff = _; got = rw (c, h) at fix; sub = x; under = red (tch r u) }
+    part-least false c (known h (s-pair r x y) u ra) = record { ty = _; eff = _; got = rw (c, h) at fix; sub = y; under = red (tch r u) }
 
     fn-least : {x b : ℕ} {T U : Ty} {s : Effect} → nth (S .cmds) e ≡ c-fn x T b → Known e b U s → Least S e (fn 0 T U s) pure
     unfolding typeAt with
-    fn-least {T = T} c (known h x u n) = record { ty = _; eff = pure; got = rw (c, h) at fix; sub = s-fn here (sr T) x u; under = eff-refl }
+    fn-least {T = T} c (known h x u ra) = record { ty = _; eff = pure; got = rw (c, h) at fix; sub = s-fn here (sr T) x u; under = eff-refl }
 
     app-least : {f a q : ℕ} {A T U : Ty} {l s t : Effect} → nth (S .cmds) e ≡ c-app f a → Known e f (fn q T U l) s → Known e a A t → Sub up A T → Least S e U (touch q (join l (join s t)))
     unfolding typeAt with wantFn require onFn byType
-    app-least {A = A} {T = T} c (known h (s-fn r x y w) u (r-fn n n′ o)) (known k v z m) s =
-        record { ty = _; eff = _; got = rw (c, h, k, →subTy (ok .proper) m n (sub-trans T (sub-trans A v s) x)) at fix; sub = y; under = red (tch r (jn w (jn u z))) }
+    app-least {A = A} {T = T} c (known h (s-fn r x y w) u (r-fn ra rb rs)) (known k v z rc) s =
+        record { ty = _; eff = _; got = rw (c, h, k, →subTy (ok .proper) rc ra (sub-trans T (sub-trans A v s) x)) at fix; sub = y; under = red (tch r (jn w (jn u z))) }
 
     new-least : {a : ℕ} {A T : Ty} {s : Effect} → nth (S .cmds) e ≡ c-new T a → Known e a A s → Sub up A T → Least S e (cell 0 T) s
     unfolding typeAt with require typesOf
-    new-least {A = A} {T = T} c (known h v u n) s = record { ty = cell 0 T; eff = _; got = rw (c, h, →subTy (ok .proper) n (written c (List·Memᴰ·head refl)) (sub-trans A v s)) at fix; sub = sr _; under = u }
+    new-least {A = A} {T = T} c (known h v u ra) s = record { ty = cell 0 T; eff = _; got = rw (c, h, →subTy (ok .proper) ra (written c (List·Memᴰ·head refl)) (sub-trans A v s)) at fix; sub = sr _; under = u }
 
     asg-least : {a b q : ℕ} {A T : Ty} {s t : Effect} → nth (S .cmds) e ≡ c-asg a b → Known e a (cell q T) s → Known e b A t → Sub up A T → Least S e T (touch q (join s t))
     unfolding typeAt with wantCell require onCell byType
-    asg-least {A = A} {T = T} c (known h (s-cell r x y) u (r-cell n)) (known k v z m) s =
-        record { ty = _; eff = _; got = rw (c, h, k, →subTy (ok .proper) m n (sub-trans T (sub-trans A v s) y)) at fix; sub = x; under = red (tch r (jn u z)) }
+    asg-least {A = A} {T = T} c (known h (s-cell r x y) u (r-cell ra)) (known k v z rb) s =
+        record { ty = _; eff = _; got = rw (c, h, k, →subTy (ok .proper) rb ra (sub-trans T (sub-trans A v s) y)) at fix; sub = x; under = red (tch r (jn u z)) }
 
     read-least : {a q : ℕ} {T : Ty} {s : Effect} → nth (S .cmds) e ≡ c-read a → Known e a (cell q T) s → Least S e T (touch q s)
     unfolding typeAt with wantCell onCell byType
-    read-least c (known h (s-cell r x y) u n) = record { ty = _; eff = _; got = rw (c, h) at fix; sub = x; under = red (tch r u) }
+    read-least c (known h (s-cell r x y) u ra) = record { ty = _; eff = _; got = rw (c, h) at fix; sub = x; under = red (tch r u) }
 
     sum-least : {a b p q : ℕ} {i : Bool} {s t : Effect} → nth (S .cmds) e ≡ c-sum i a b → Known e a (num p) s → Known e b (num q) t → Least S e (num 0) (touch p (touch q (join s t)))
     unfolding typeAt with wantNum onNum byType
-    sum-least c (known h (s-num x) u n) (known k (s-num y) z m) = record { ty = num 0; eff = _; got = rw (c, h, k) at fix; sub = sr _; under = red (tch x (tch y (jn u z))) }
+    sum-least c (known h (s-num x) u ra) (known k (s-num y) z rb) = record { ty = num 0; eff = _; got = rw (c, h, k) at fix; sub = sr _; under = red (tch x (tch y (jn u z))) }
 
     test-least : {a b d q : ℕ} {B C T : Ty} {s t u : Effect} → nth (S .cmds) e ≡ c-test a b d T → Known e a (num q) s → Known e b B t → Known e d C u → Sub up B T → Sub up C T
         → Least S e T (touch q (join s (join t u)))
     unfolding typeAt with wantNum require typesOf onNum byType
-    test-least {B = B} {C = C} {T = T} c (known h (s-num x) u n) (known k v z m) (known k′ v′ z′ m′) s s′ =
+    test-least {B = B} {C = C} {T = T} c (known h (s-num x) u ra) (known k v z rb) (known k′ v′ z′ rc) s s′ =
         let w = written c (List·Memᴰ·head refl) in
-        record { ty = T; eff = _; got = rw (c, h, k, k′, →subTy (ok .proper) m w (sub-trans B v s), →subTy (ok .proper) m′ w (sub-trans C v′ s′)) at fix; sub = sr T; under = red (tch x (jn u (jn z z′))) }
+        record { ty = T; eff = _; got = rw (c, h, k, k′, →subTy (ok .proper) rb w (sub-trans B v s), →subTy (ok .proper) rc w (sub-trans C v′ s′)) at fix; sub = sr T; under = red (tch x (jn u (jn z z′))) }
 
     lim-least : {b : ℕ} {ks rs : List ℕ} {T : Ty} {s t : Effect} → nth (S .cmds) e ≡ c-lim ks b → LeastKeys e ks rs s → Known e b T t → EffBelow up t (ofNames rs) → Least S e T (join s t)
     unfolding typeAt with require
-    lim-least c k (known {A = A} {s = t₀} h x u n) w = record { ty = A; eff = reduce up (join (k .eff) t₀); got = fix ∙ ap (typeAt S (pre e)) c ∙ k .got _ ∙ rw (h, →effBelow (ok .proper) (tr u w)); sub = x; under = red (jn (k .under) u) }
+    lim-least c k (known {A = A} {s = t₀} h x u ra) w = record { ty = A; eff = reduce up (join (k .eff) t₀); got = fix ∙ ap (typeAt S (pre e)) c ∙ k .got _ ∙ rw (h, →effBelow (ok .proper) (tr u w)); sub = x; under = red (jn (k .under) u) }
 
     grant-least : {a b q r : ℕ} {T : Ty} {s t : Effect} → nth (S .cmds) e ≡ c-grant a b → AsGrant e a q r s → Known e b T t → Least S e T (touch q (join s (drop up r t)))
     unfolding typeAt with wantGrant onGrant byType
-    grant-least {r = r} c h (known k v z n) = record { ty = _; eff = _; got = rw (c, h .got, k) at fix; sub = v; under = red (tch (h .low) (jn (h .under) (drop-mono (ok .proper) r z))) }
+    grant-least {r = r} c h (known k v z ra) = record { ty = _; eff = _; got = rw (c, h .got, k) at fix; sub = v; under = red (tch (h .low) (jn (h .under) (drop-mono (ok .proper) r z))) }
 
     newkey-least : {x r a b q u : ℕ} {B T : Ty} {s t : Effect} → nth (S .cmds) e ≡ c-newkey x r a b T → AsLim e a q u s → getElem? up r ≡ some u → Known e b B t → Sub up B T
         → Least S e T (touch q (join s (raise r u t)))
     unfolding typeAt with wantLim require isUpper typesOf onLim byType
-    newkey-least {r = r} {u = u} {B = B} {T = T} c h g (known k y z n) s =
-        record { ty = T; eff = _; got = rw (c, h .got, k, g, eq-eqb u u refl, →subTy (ok .proper) n (written c (List·Memᴰ·head refl)) (sub-trans B y s)) at fix; sub = sr T; under = red (tch (h .low) (jn (h .under) (raise-mono (ok .proper) r g z))) }
+    newkey-least {r = r} {u = u} {B = B} {T = T} c h g (known k y z ra) s =
+        record { ty = T; eff = _; got = rw (c, h .got, k, g, eq-eqb u u refl, →subTy (ok .proper) ra (written c (List·Memᴰ·head refl)) (sub-trans B y s)) at fix; sub = sr T; under = red (tch (h .low) (jn (h .under) (raise-mono (ok .proper) r g z))) }
 
     assoc-least : {a b q r : ℕ} {A : Ty} {s t : Effect} → nth (S .cmds) e ≡ c-assoc a b → Known e a A s → AsLim e b q r t → Least S e (rekey r A) (touch (keyOf A) (touch q (join s t)))
     unfolding typeAt with wantLim onLim byType
-    assoc-least {r = r} c (known h x u n) k = record { ty = _; eff = _; got = rw (c, h, k .got) at fix; sub = sub-rekey r x; under = red (tch (sub-key x) (tch (k .low) (jn u (k .under)))) }
+    assoc-least {r = r} c (known h x u ra) k = record { ty = _; eff = _; got = rw (c, h, k .got) at fix; sub = sub-rekey r x; under = red (tch (sub-key x) (tch (k .low) (jn u (k .under)))) }
 
   -- what is known of the expressions before e
   abbrev IH : ℕ → Type 0
