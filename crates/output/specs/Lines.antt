@@ -103,7 +103,7 @@ refusedLine r = line (space w-refused (space (decimal (r .number)) (space w-at (
 
 -- "`accepted`, the effect as 16 hexadecimal digits (letters small) and the type's kind"
 unfoldable pub acceptedLine : Ty → Effect → List ℕ
-acceptedLine T s = line (space w-accepted (space (hex 16 s) (typeKind T)))
+acceptedLine T s = line (space w-accepted (space (hex 16 (s .set)) (typeKind T)))
 
 -- "`done`, steps, kind and, for a number, its value; or `spent 100000`, or `no room` and steps". No line is defined for stuck and denied: demand 3 says that an
 -- accepted job never needs one. A run is never taken, which is a step's answer.

@@ -8,7 +8,7 @@ use lib.ListN.{length, getD, take}
 use lib.Seq.{take-all, length-take-le}
 use lib.Dec.{eqb}
 use borrow.Author.Tests.{ne-eqb}
-use Rattle.order.specs.Effects.{Effect}
+use Rattle.order.specs.Effects.{Effect, ofWord}
 use mathlib.Core.Option.{none, some}
 use Rattle.syntax.specs.Types.{Ty, e-num, entryTree, treeIn, tree}
 use Rattle.syntax.specs.Commands.{Cmd, mapCmd}
@@ -178,12 +178,12 @@ unfolding deskOf reported runRead
 desk-accepted bytes J T s e f = rw (e, f)
 
 pub told-accepted : (bytes : List ℕ) (r : Checked) (w x : Tables) (i s : ℕ) (text : List ℕ) → CheckTo bytes r w x → r .verdict ≡ verdicts.Accepted i s
-    → ((J : Job) (sets : List ℕ) → Ready J (r .shape) (x .names) (x .types) (x .values) → ((e : ℕ) → codeIn (x .heads) (x .slots) e ≡ exprOf J e) → text ≡ acceptedLine (treeOf (x .types) sets i) s ++ runLine (sourceOf J))
+    → ((J : Job) (sets : List ℕ) → Ready J (r .shape) (x .names) (x .types) (x .values) → ((e : ℕ) → codeIn (x .heads) (x .slots) e ≡ exprOf J e) → text ≡ acceptedLine (treeOf (x .types) sets i) (ofWord s) ++ runLine (sourceOf J))
     → Bytes bytes → text ≡ deskOf bytes
 told-accepted bytes r w x i s text c v f by = go (accepting bytes by r w x i s c v)
   where
-    go : Accepting bytes (r .shape) (treeOf (x .types) (x .sets) i) s x → text ≡ deskOf bytes
-    go y = f (y .job) (x .sets) (y .ready) (y .code) ∙ sym (desk-accepted bytes (y .job) _ s (y .verdict) (y .is))
+    go : Accepting bytes (r .shape) (treeOf (x .types) (x .sets) i) (ofWord s) x → text ≡ deskOf bytes
+    go y = f (y .job) (x .sets) (y .ready) (y .code) ∙ sym (desk-accepted bytes (y .job) _ (ofWord s) (y .verdict) (y .is))
 
 pub whole : (l : List ℕ) → length l ≤ 16384 → deskOf l ≡ printed l
 unfolding printed

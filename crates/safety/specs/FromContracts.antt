@@ -11,7 +11,7 @@ use borrow.Author.Tests.{ltb-false, le-ltb}
 use lib.ListN.{length, replicate, length-append, length-replicate}
 use lib.Dec.{ltb}
 use Rattle.order.specs.Bools.{_or_}
-use Rattle.order.specs.Effects.{Effect}
+use Rattle.order.specs.Effects.{Effect, ofWord}
 use Rattle.syntax.specs.Types.{Ty}
 use Rattle.syntax.specs.Commands.{Cmd}
 use Rattle.syntax.specs.Job.{Job, sourceOf}
@@ -158,7 +158,7 @@ pub record StartsJob (bytes : List ℕ) (o : Opened) : Type 0 where
   pub machine : seen (o .machine) ≡ startOf (sourceOf job)
 
 module _ (bytes : List ℕ) (by : Bytes bytes) {r : Checked} {w x : Tables} {i s : ℕ} (c : CheckTo bytes r w x) (v : r .verdict ≡ verdicts.Accepted i s) where
-  its : Accepting bytes (r .shape) (treeOf (x .types) (x .sets) i) s x
+  its : Accepting bytes (r .shape) (treeOf (x .types) (x .sets) i) (ofWord s) x
   its = accepting bytes by r w x i s c v
 
   tree-free : treeRefusal (sourceOf (its .job)) ≡ none
@@ -174,7 +174,7 @@ module _ (bytes : List ℕ) (by : Bytes bytes) {r : Checked} {w x : Tables} {i s
   pub checked-starts : {o : Opened} {y : JobTables} → Starts bytes o (jobPart x) y → StartsJob bytes o
   unfolding verdictIn verdictWith
   checked-starts h =
-      let a : accept (treeOf (x .types) (x .sets) i) s ≡ verdictWith w bytes = sym (ap (verdictIn (x .types) (x .sets)) v) ∙ c .verdict in
+      let a : accept (treeOf (x .types) (x .sets) i) (ofWord s) ≡ verdictWith w bytes = sym (ap (verdictIn (x .types) (x .sets)) v) ∙ c .verdict in
       let b = if-accepted (tables.short w) _ (verdictOf bytes) _ _ a in
       let t : x ≡ tables.filledBy (its .job) w = c .tables ∙ after-accept w bytes (its .job) (b .0) (its .verdict) (its .is) in
       accepted-starts h (ap (λ (y : Tables). starting.short (jobPart y)) t ∙ still-long (its .job) w (b .0))

@@ -9,7 +9,7 @@ use mathlib.Core.Logic.{_≢_, _↔_, _⊎_, inl, inr}
 use lib.ListN.{length, getElem?}
 use Rattle.order.specs.Bools.{_and_}
 use Rattle.order.specs.Effects.{Effect, pure, names, touch, join, drop, raise}
-use Rattle.order.specs.EffectLaws.{name-mem, pure-name, touch-name, touch-old, touch-cases, join-left, join-right, join-cases}
+use Rattle.order.specs.EffectLaws.{name-not-zero, pure-name, touch-name, touch-old, touch-cases, join-left, join-right, join-cases}
 use Rattle.syntax.specs.Types.{Ty, num, pair, cell, fn, lim, grant}
 use Rattle.syntax.specs.Types
 use Rattle.syntax.specs.Commands.{Cmd, c-num, c-top, c-var, c-pair, c-part, c-fn, c-app, c-new, c-asg, c-read, c-sum, c-test, c-lim, c-grant, c-newkey, c-assoc}
@@ -123,7 +123,7 @@ touch-from : (q : ℕ) (s : Effect) {n : ℕ} → List·Memᴰ n (names (touch q
 touch-from q s {n} m = at (touch-cases q s m)
   where
     at : (n ≡ q) ⊎ List·Memᴰ n (names s) → ((n ≡ q) × (n ≢ 0)) ⊎ List·Memᴰ n (names s)
-    at (inl e) = inl (e, name-mem (touch q s) m .1)
+    at (inl e) = inl (e, name-not-zero (touch q s) m)
     at (inr i) = inr i
 
 touch-to : (q : ℕ) (s : Effect) {n : ℕ} → n ≡ q → n ≢ 0 → List·Memᴰ n (names (touch q s))

@@ -15,7 +15,7 @@ use Rattle.order.specs.Order.{Below, here, below}
 use Rattle.order.specs.OrderLaws.{Proper, below-trans, below-zero, below→, →below}
 use Rattle.order.specs.Sets.{bit, consIf, members, setOf, keep, some-of}
 use Rattle.order.specs.SetLaws.{or→, →or-l, →or-r, bit-or, bit-pow, bit-zero, mem-bit, bit-mem, keep-mem, mem-keep, some-of→, →some-of, mem-setOf, setOf-mem}
-use Rattle.order.specs.Effects.{names}
+use Rattle.order.specs.Effects.{pure, names}
 use Rattle.order.specs.EffectLaws.{eff-pure}
 use Rattle.syntax.specs.Commands.{Cmd, c-num, c-app, c-asg, c-test, c-lim, c-grant}
 use Rattle.syntax.specs.Operands.{nth, evaluated}
@@ -153,7 +153,7 @@ nothing-exactly up k = (λ e. to (enabled-from up 0 k e), zero-enabled up 0 k)
 
 -- at the start: what is below the key of a right. The tree of keys depends on the names alone, so that its form is that of a job with the same names that does nothing
 idle : Src → Src
-idle S = record { names = S .names; values = S .values; rights = 0; cmds = c-num 0 ∷ [] }
+idle S = record { names = S .names; values = S .values; rights = pure; cmds = c-num 0 ∷ [] }
 
 pub start-proper : (S : Src) → WellRead S → Proper (named S .keys)
 unfolding idle startOf named nth root predecessor

@@ -7,6 +7,7 @@ use mathlib.Core.List.{List, _++_}
 use lib.ListN.{length, drop}
 use lib.Dec.{leb}
 use borrow.Author.Tests.{le-leb, lt-leb}
+use Rattle.order.specs.Effects.{ofWord}
 use Rattle.syntax.specs.Types.{Ty}
 use Rattle.syntax.specs.Reading.{Refusal, Read, read}
 use Rattle.syntax.specs.Job.{Job, sourceOf}
@@ -114,7 +115,7 @@ session-accepted bytes ws a b r w x i s m h c v f by = go (accepting bytes by r 
     number (verdicts.Accepted j t) = j
     number (verdicts.Refused j t) = 0
 
-    go : {T : Ty} → Accepting bytes (r .shape) T s x → SessionTo bytes ws (record { verdict = verdicts.Accepted i s; machine = m }) w x a b
+    go : {T : Ty} → Accepting bytes (r .shape) T (ofWord s) x → SessionTo bytes ws (record { verdict = verdicts.Accepted i s; machine = m }) w x a b
     go y =
         let e : verdictIn (x .types) (x .sets) (verdicts.Accepted i s) ≡ verdictWith w bytes = sym (ap (verdictIn (x .types) (x .sets)) v) ∙ c .verdict in
         record {

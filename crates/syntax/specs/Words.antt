@@ -5,6 +5,7 @@ use mathlib.Core.List.{List, [], _∷_, _++_, map, flatMap}
 use mathlib.Core.Option.{Option, none, some}
 use lib.ListN.{length, replicate, getD, take}
 use lib.Dec.{eqb}
+use Rattle.order.specs.Effects.{Effect, ofWord}
 use Rattle.syntax.specs.Types.{TypeEntry, e-num, e-pair, e-cell, e-fn, e-lim, e-grant}
 use Rattle.syntax.specs.Commands.{Cmd, c-num, c-top, c-var, c-pair, c-part, c-fn, c-app, c-new, c-asg, c-read, c-sum, c-test, c-lim, c-grant, c-newkey, c-assoc, form, row}
 use Rattle.syntax.specs.Commands.{Role, r-evaluated, r-entered, r-inside, r-count, r-keys, r-unused, r-variable, r-parameter, r-keypair, r-local, r-number, r-choice}
@@ -32,7 +33,7 @@ unfoldable pub setWord : TypeEntry → ℕ
 setWord (e-num q) = 0
 setWord (e-pair q a b) = 0
 setWord (e-cell q a) = 0
-setWord (e-fn q a b s) = s
+setWord (e-fn q a b s) = s .set
 setWord (e-lim q r) = 0
 setWord (e-grant q r) = 0
 
@@ -78,6 +79,9 @@ typeWords T = map typeWord T
 abbrev pub setWords : List TypeEntry → List ℕ
 setWords T = map setWord T
 
+abbrev pub effectWords : List Effect → List ℕ
+effectWords l = map (λ s. s .set) l
+
 abbrev pub valueWords : Job → List ℕ
 valueWords J = map valueWord (J .values)
 
@@ -119,7 +123,7 @@ entryBits byte q a b s =
     cond (eqb byte 0x10) (some (e-num q))
     (cond (eqb byte 0x11) (some (e-pair q a b))
     (cond (eqb byte 0x12) (some (e-cell q a))
-    (cond (eqb byte 0x13) (some (e-fn q a b s))
+    (cond (eqb byte 0x13) (some (e-fn q a b (ofWord s)))
     (cond (eqb byte 0x14) (some (e-lim q (a % 256)))
     (cond (eqb byte 0x15) (some (e-grant q (a % 256)))
     none)))))
