@@ -15,8 +15,8 @@ use Rattle.syntax.specs.Types
 use Rattle.syntax.specs.Commands.{Cmd, c-num, c-top, c-var, c-pair, c-part, c-fn, c-app, c-new, c-asg, c-read, c-sum, c-test, c-lim, c-grant, c-newkey, c-assoc}
 use Rattle.syntax.specs.Operands.{evaluated}
 use Rattle.syntax.specs.Job.{Src, upOf}
-use Rattle.syntax.specs.Tree.{Entry, e-var, e-name}
-use Rattle.typing.specs.Rules.{codeOf, keysType, Has, h-num, h-top, h-var, h-pair, h-part1, h-part2, h-fn, h-app, h-new, h-asg, h-read, h-sum, h-test, h-lim, h-grant, h-newkey, h-assoc, h-sub, HasKeys, k-nil, k-cons}
+use Rattle.syntax.specs.Tree.{Entry, e-var, e-name, keyPair}
+use Rattle.typing.specs.Rules.{codeOf, Has, h-num, h-top, h-var, h-pair, h-part1, h-part2, h-fn, h-app, h-new, h-asg, h-read, h-sum, h-test, h-lim, h-grant, h-newkey, h-assoc, h-sub, HasKeys, k-nil, k-cons}
 use Rattle.semantics.specs.Wants.{Want, anything, a-number, a-pair, a-function, a-cell, a-limit, a-grant, read, Use, touches, alike, wantsOf, holds, isTouched}
 
 -- a choice for each kind of type: number, pair, function, cell, limit key, grant key
@@ -73,7 +73,7 @@ pub data Brings (S : Src) (Γ : List Entry) : Cmd Ty → List Ty → Effect → 
   b-lim : {ks : List ℕ} {b : ℕ} {T : Ty} {t : Effect} {As : List Ty} → Has S Γ b T t → Brings S Γ (c-lim ks b) As t
   b-grant : {a b q r : ℕ} {T : Ty} {t : Effect} {As : List Ty} → Has S Γ b T t → Brings S Γ (c-grant a b) (grant q r ∷ As) (drop (upOf S) r t)
   b-newkey : {x r a b u : ℕ} {B T : Ty} {t : Effect} {As : List Ty}
-      → getElem? (upOf S) r ≡ some u → Has S (e-var x (keysType r) ∷ e-name r ∷ Γ) b B t → Brings S Γ (c-newkey x r a b T) As (raise r u t)
+      → getElem? (upOf S) r ≡ some u → Has S (e-var x (keyPair r) ∷ e-name r ∷ Γ) b B t → Brings S Γ (c-newkey x r a b T) As (raise r u t)
   b-assoc : {a b : ℕ} {As : List Ty} → Brings S Γ (c-assoc a b) As pure
 
 -- the name is in one of the effects

@@ -20,7 +20,7 @@ use Rattle.order.specs.EffectLaws.{eff-pure}
 use Rattle.syntax.specs.Commands.{Cmd, c-num, c-app, c-asg, c-test, c-lim, c-grant}
 use Rattle.syntax.specs.Operands.{nth, evaluated}
 use Rattle.syntax.specs.Job.{Src}
-use Rattle.syntax.specs.Tree.{root, past}
+use Rattle.syntax.specs.Tree.{root, predecessor}
 use Rattle.syntax.specs.WellRead.{WellRead}
 use Rattle.typing.specs.Rules.{h-num}
 use Rattle.semantics.specs.Machine.{k-num, k-fn, k-cell, k-lim, k-grant, Value, b-var, Closure, Frame, enter, hand, Machine, most-bindings}
@@ -156,7 +156,7 @@ idle : Src → Src
 idle S = record { names = S .names; values = S .values; rights = 0; cmds = c-num 0 ∷ [] }
 
 pub start-proper : (S : Src) → WellRead S → Proper (named S .keys)
-unfolding idle startOf named nth root past
+unfolding idle startOf named nth root predecessor
 start-proper S wr = start-ok (idle S) quiet (h-num {n = 0} last) eff-pure .keys .proper
   where
     quiet : WellRead (idle S)

@@ -10,7 +10,7 @@ use mathlib.Core.Logic.{_≢_}
 use lib.ListN.{length, getElem?}
 use Rattle.order.specs.Bools.{_and_, and-l, and-r}
 use Rattle.order.specs.Effects.{Effect}
-use Rattle.syntax.specs.Types.{Ty, num, pair, cell, fn, lim, grant}
+use Rattle.syntax.specs.Types.{Ty, num, pair, cell, fn, lim, grant, byType, onCell, onFn, onGrant, onLim, onNum, onPair}
 use Rattle.syntax.specs.Commands.{Cmd, c-num, c-top, c-var, c-pair, c-part, c-fn, c-app, c-new, c-asg, c-read, c-sum, c-test, c-lim, c-grant, c-newkey, c-assoc}
 use Rattle.syntax.specs.Operands.{evaluated}
 use Rattle.syntax.specs.Job.{Src, upOf}
@@ -63,7 +63,7 @@ by-condition false f g h = g refl
 -- a kind that suits is the one that typing wants
 module _ (s : Store) {P : Type 0} where
   num-is : {A : Ty} {k : Kind} → Of A k → suits a-number k s ≡ true → (f : ℕ → Typed) → ((q : ℕ) → A ≡ num q → f q ≡ untyped 11 → P) → wantNum A f ≡ untyped 11 → P
-  unfolding suits byKind yes no wantNum
+  unfolding suits byKind yes no wantNum onNum byType
   num-is (of-num {q = q}) h f g e = g q refl e
   num-is of-pair h f g e = absurd (false≢true h)
   num-is of-cell h f g e = absurd (false≢true h)
@@ -72,7 +72,7 @@ module _ (s : Store) {P : Type 0} where
   num-is of-grant h f g e = absurd (false≢true h)
 
   pair-is : {A : Ty} {k : Kind} → Of A k → suits a-pair k s ≡ true → (f : ℕ → Ty → Ty → Typed) → ((q : ℕ) (B C : Ty) → f q B C ≡ untyped 11 → P) → wantPair A f ≡ untyped 11 → P
-  unfolding suits byKind yes no wantPair
+  unfolding suits byKind yes no wantPair onPair byType
   pair-is of-num h f g e = absurd (false≢true h)
   pair-is (of-pair {q = q} {A = B} {B = C}) h f g e = g q B C e
   pair-is of-cell h f g e = absurd (false≢true h)
@@ -81,7 +81,7 @@ module _ (s : Store) {P : Type 0} where
   pair-is of-grant h f g e = absurd (false≢true h)
 
   cell-is : {A : Ty} {k : Kind} → Of A k → suits a-cell k s ≡ true → (f : ℕ → Ty → Typed) → ((q : ℕ) (B : Ty) → f q B ≡ untyped 11 → P) → wantCell A f ≡ untyped 11 → P
-  unfolding suits byKind yes no wantCell
+  unfolding suits byKind yes no wantCell onCell byType
   cell-is of-num h f g e = absurd (false≢true h)
   cell-is of-pair h f g e = absurd (false≢true h)
   cell-is (of-cell {q = q} {A = B}) h f g e = g q B e
@@ -90,7 +90,7 @@ module _ (s : Store) {P : Type 0} where
   cell-is of-grant h f g e = absurd (false≢true h)
 
   fn-is : {A : Ty} {k : Kind} → Of A k → suits a-function k s ≡ true → (f : ℕ → Ty → Ty → Effect → Typed) → ((q : ℕ) (B C : Ty) (l : Effect) → f q B C l ≡ untyped 11 → P) → wantFn A f ≡ untyped 11 → P
-  unfolding suits byKind yes no wantFn
+  unfolding suits byKind yes no wantFn onFn byType
   fn-is of-num h f g e = absurd (false≢true h)
   fn-is of-pair h f g e = absurd (false≢true h)
   fn-is of-cell h f g e = absurd (false≢true h)
@@ -99,7 +99,7 @@ module _ (s : Store) {P : Type 0} where
   fn-is of-grant h f g e = absurd (false≢true h)
 
   lim-is : {A : Ty} {k : Kind} → Of A k → suits a-limit k s ≡ true → (f : ℕ → ℕ → Typed) → ((q r : ℕ) → A ≡ lim q r → f q r ≡ untyped 11 → P) → wantLim A f ≡ untyped 11 → P
-  unfolding suits byKind yes no wantLim
+  unfolding suits byKind yes no wantLim onLim byType
   lim-is of-num h f g e = absurd (false≢true h)
   lim-is of-pair h f g e = absurd (false≢true h)
   lim-is of-cell h f g e = absurd (false≢true h)
@@ -108,7 +108,7 @@ module _ (s : Store) {P : Type 0} where
   lim-is of-grant h f g e = absurd (false≢true h)
 
   grant-is : {A : Ty} {k : Kind} → Of A k → suits a-grant k s ≡ true → (f : ℕ → ℕ → Typed) → ((q r : ℕ) → f q r ≡ untyped 11 → P) → wantGrant A f ≡ untyped 11 → P
-  unfolding suits byKind yes no wantGrant
+  unfolding suits byKind yes no wantGrant onGrant byType
   grant-is of-num h f g e = absurd (false≢true h)
   grant-is of-pair h f g e = absurd (false≢true h)
   grant-is of-cell h f g e = absurd (false≢true h)

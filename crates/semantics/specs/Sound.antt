@@ -19,21 +19,22 @@ use Rattle.syntax.specs.Types.{Ty, fn, keyOf}
 use Rattle.syntax.specs.Commands.{Cmd, c-lim}
 use Rattle.syntax.specs.Operands.{evaluated}
 use Rattle.syntax.specs.Job.{Src, upOf}
-use Rattle.syntax.specs.Tree.{Entry, e-var, e-name}
+use Rattle.syntax.specs.Tree.{Entry, e-var, e-name, keyPair}
 use Rattle.typing.specs.Subtype.{Sub}
-use Rattle.typing.specs.Scoped.{Free, scoped-free}
-use Rattle.typing.specs.Rules.{Has, h-num, h-top, h-var, h-pair, h-part1, h-part2, h-fn, h-app, h-new, h-asg, h-read, h-sum, h-test, h-lim, h-grant, h-newkey, h-assoc, h-sub, HasKeys, k-nil, k-cons, Fresh, codeOf, keysType}
-use Rattle.semantics.specs.Machine.{Kind, k-pair, k-lim, k-grant, Value, unkeyed, Bind, b-var, b-name, Link, Frame, Control, hand, Thread, Store, Machine, most-bindings}
+use Rattle.typing.specs.FreeNames.{Free}
+use Rattle.typing.specs.Scoped.{scoped-free}
+use Rattle.typing.specs.Rules.{Has, h-num, h-top, h-var, h-pair, h-part1, h-part2, h-fn, h-app, h-new, h-asg, h-read, h-sum, h-test, h-lim, h-grant, h-newkey, h-assoc, h-sub, HasKeys, k-nil, k-cons, Fresh, codeOf}
+use Rattle.semantics.specs.Machine.{Kind, k-pair, k-fn, k-lim, k-grant, Value, unkeyed, Bind, b-var, b-name, Link, Frame, Control, hand, Thread, Store, Machine, most-bindings}
 use Rattle.semantics.specs.Keys.{enabled, add}
 use Rattle.semantics.specs.Step
 use Rattle.semantics.specs.Step.{Out, o-step, o-done, o-room, Plan, p-done, p-try, room, touchAll, settle, asNum, asPair, asFn, asCell, asLim, asGrant, found, bare, one, two}
 use Rattle.semantics.specs.Step.{actPair, partOf, actPart, actFn, actApp, actNew, actAsg, actRead, actSum, branch, actTest, limitKeys, keysOf, actLim, actGrant, makeKey, actNewkey, actAssoc}
 use Rattle.semantics.specs.Step.{variable, push, act, enterAt, enterCmd, receive, handTo, planOn, plan, step}
-use Rattle.semantics.specs.RuntimeTypes.{RTy, rnum, rpair, rcell, rfn, rlim, rgrant, RSub, r-num, r-pair, r-cell, r-fn, r-lim, r-grant, rkey, rrekey, inst, rsub-refl, rsub-trans, rsub-key, rsub-rekey, inst-rekey, inst-key, under-refl}
+use Rattle.semantics.specs.RuntimeTypes.{RTy, rnum, rpair, rcell, rfn, rlim, rgrant, Under, RSub, r-num, r-pair, r-cell, r-fn, r-lim, r-grant, rkey, rrekey, inst, rsub-refl, rsub-trans, rsub-key, rsub-rekey, inst-rekey, inst-key, under-refl}
 use Rattle.semantics.specs.Chains.{look, lookVar, Chain, ch-cons, chain-le, chain-seek, chain-wider, seam, seam-next, length-two}
-use Rattle.semantics.specs.Invariant.{TwoTy, FnTy, World, worldOf, Ext, Typ, t-num, t-pair, t-cell, t-fn, t-lim, t-grant, Fits, On, on-zero, on-key, OnAll, Covers, EnvOk, eo-var, eo-name, Env, Held, hd-nil, hd-cons, Rest, rest-here, rest-next}
+use Rattle.semantics.specs.Invariant.{TwoTy, FnTy, fty, World, worldOf, Ext, Typ, t-num, t-pair, t-cell, t-fn, t-lim, t-grant, Fits, On, on-zero, on-key, OnAll, Covers, EnvOk, eo-var, eo-name, Env, Held, hd-nil, hd-cons, Rest, rest-here, rest-next}
 use Rattle.semantics.specs.Invariant.{FrameOk, fo-pair1, fo-pair2, fo-part1, fo-part2, fo-app1, fo-app2, fo-new, fo-read, fo-asg1, fo-asg2, fo-sum1, fo-sum2, fo-test, fo-lim, fo-grant, fo-newkey, fo-assoc1, fo-assoc2}
-use Rattle.semantics.specs.Invariant.{StackOk, so-nil, so-cons, ThreadOk, to-enter, to-hand, FnOk, StoreOk, KeysOk, Ok}
+use Rattle.semantics.specs.Invariant.{StackOk, so-nil, so-cons, ThreadOk, to-enter, to-hand, FnOk, f-fn, StoreOk, KeysOk, Ok}
 use Rattle.semantics.specs.Growth.{ext-refl, fits-ext, on-ext, covers-ext, envOk-ext, env-ext, stack-ext}
 use Rattle.semantics.specs.Enabled.{on-more, on-enabled, on-below, on-narrow, keys-snoc, on-under, add-new, add-old, on-name, covers-join-l, covers-join-r, covers-old, covers-touch, covers-map, map-covers, covers-more}
 use Rattle.semantics.specs.Bindings.{fits-sub, inst-off, env-zero, env-one, env-mono, env-sub, env-lt, env-lookup, covers-below, covers-keys, mono-new, up-new}
@@ -156,7 +157,7 @@ module _ (S : Src) (σ : Store) (pt : List TwoTy) (ft : List FnTy) (ct : List RT
         → Envs E Γ → Has S (e-var x T ∷ Γ) b U s → Stack (inst (look E) (fn 0 T U s)) → Sure S W (actFn x b m)
     unfolding actFn inst
     newFn-ok {x = x} {b = b} {E = E} {Γ = Γ} {T = T} {U = U} {s = s} o h k =
-        let t : FnTy = record { from = inst (look E) T; to = inst (look E) U; eff = map (look E) (names s) } in
+        let t : FnTy = fty (inst (look E) T) (inst (look E) U) (map (look E) (names s)) in
         let w = fn-extends st t in
         sure-try no-key (λ z. g-step (record {
           pt = pt;
@@ -164,21 +165,7 @@ module _ (S : Src) (σ : Store) (pt : List TwoTy) (ft : List FnTy) (ct : List RT
           ct = ct;
           keys = ko;
           few = few;
-          store = add-fn st t (record { var = x; body = b; env = θ .env })
-              (λ i q. record {
-                at = record { var = x; body = b; env = θ .env };
-                found = getElem?-at (σ .functions) _ i q;
-                binds = E;
-                ctx = Γ;
-                arg = T;
-                res = U;
-                used = s;
-                env = env-ext w o;
-                body = h;
-                from = refl;
-                to = refl;
-                eff = refl;
-              });
+          store = add-fn st t (record { var = x; body = b; env = θ .env }) (λ i q. f-fn (getElem?-at (σ .functions) _ i q) (env-ext w o) h);
           thread = to-hand (record { exact = rfn 0 (inst (look E) T) (inst (look E) U) (map (look E) (names s)); typ = t-fn (getElem?-at ft t (length (σ .functions)) (st .flen)); sub = r-fn bot kb-refl kb-refl under-refl })
               (stack-ext w k);
         }) w)
@@ -211,7 +198,7 @@ module _ (S : Src) (σ : Store) (pt : List TwoTy) (ft : List FnTy) (ct : List RT
         let r = covers-join-r l (join s t) w in
         rw c (push-ok _ c o x (covers-join-l s t r) kb-refl
         (fo-app1 o y (covers-join-r s t r) (env-sub (o .ok) z) (covers-touch (env-zero (o .ok)) q (join l (join s t)) v) (covers-map l (covers-join-l l (join s t) w))) k)
-    enter-ok o (h-new c p x y) v k = rw c (push-ok _ c o x v (env-sub (o .ok) y) fo-new (stack-sub (r-cell bot) k))
+    enter-ok o (h-new c p x y) v k = rw c (push-ok _ c o x v (env-sub (o .ok) y) fo-new (stack-sub (r-cell bot kb-refl kb-refl) k))
     enter-ok o (h-asg {q = q} {s = s} {t = t} c x y z) v k =
         let w = covers-old q (join s t) v in
         rw c (push-ok _ c o x (covers-join-l s t w) kb-refl (fo-asg1 o y (covers-join-r s t w) (env-sub (o .ok) z) (covers-touch (env-zero (o .ok)) q (join s t) v)) k)
@@ -273,25 +260,22 @@ module _ (S : Src) (σ : Store) (pt : List TwoTy) (ft : List FnTy) (ct : List RT
           thread = to-hand (record { exact = rpair 0 A B; typ = t-pair (getElem?-at pt t (length (σ .pairs)) (st .plen)); sub = kb-refl }) (stack-ext x k);
         }) x)
 
-    app-ok : {k q : ℕ} {x : Kind} {X T U : RTy} {L : List ℕ} {w : Value}
-        → RSub (σ .keys) X (rfn q T U L) → Typ W k x X → OnHere q → OnAll (σ .keys) (members (θ .on)) L → Fits W w T → Stack U → Sure S W (actApp (val k x) w m)
+    -- the function that the closure i stands for is called
+    call-ok : {k q i : ℕ} {A B T U : RTy} {L M : List ℕ} {w : Value} → FnOk S W (σ .functions) i (fty A B M) → Below (σ .keys) k q → RSub (σ .keys) T A → RSub (σ .keys) B U → Under (σ .keys) M L
+        → OnHere q → OnAll (σ .keys) (members (θ .on)) L → Fits W w T → Stack U → Sure S W (actApp (val k (k-fn i)) w m)
     unfolding actApp asFn found look
-    app-ok {U = U} {w = w} (r-fn b y z u) (t-fn {f = i} {t = t} e) on c g k = rw (o .found) (sure-try (one-key (on-below ko on b)) (λ q. g-step (record {
+    call-ok {w = w} (f-fn {x = x} {E = E} {Γ = Γ} {A = A} {s = s} e o h) b y z u on c g k = rw e (sure-try (one-key (on-below ko on b)) (λ q. g-step (record {
       pt = pt;
       ft = ft;
       ct = ct;
       keys = ko;
       few = room-left (ltb-true (length (σ .bindings)) most-bindings q);
       store = store-wider st (σ .keys) B′ wx;
-      thread = to-enter inner (o .body) (covers-ext wx (map-covers (o .used) (subst (λ L. OnAll (σ .keys) (members (θ .on)) L) (o .eff) (on-under ko u c))))
-          (stack-ext wx (stack-sub (subst (λ h. RSub (σ .keys) h U) (o .to) z) k));
+      thread = to-enter inner h (covers-ext wx (map-covers s (on-under ko u c))) (stack-ext wx (stack-sub z k));
     }) wx))
       where
-        o : FnOk S W (σ .functions) i t
-        o = st .fs i t e
-
         l : Link
-        l = record { bind = b-var (o .at .var) w; next = o .at .env }
+        l = record { bind = b-var (x .var) w; next = x .env }
 
         B′ : List Link
         B′ = σ .bindings ++ (l ∷ [])
@@ -302,11 +286,12 @@ module _ (S : Src) (σ : Store) (pt : List TwoTy) (ft : List FnTy) (ct : List RT
         wx : Ext W (world pt ft ct (σ .keys) B′)
         wx = record { pts = λ i a e. e; fts = λ i a e. e; cts = λ i a e. e; ks = λ a b h. h; klen = omega arith; lks = getElem?-append (σ .bindings) (l ∷ []) }
 
-        inner : Env S (world pt ft ct (σ .keys) B′) (suc (length (σ .bindings))) (b-var (o .at .var) w ∷ o .binds) (e-var (o .at .var) (o .arg) ∷ o .ctx)
-        inner = record {
-          chain = ch-cons (getElem?-seam (σ .bindings) l) (chain-le (o .env .chain)) (chain-wider (wx .lks) (o .env .chain));
-          ok = eo-var (envOk-ext wx (o .env .ok)) (subst (λ h. Fits (world pt ft ct (σ .keys) B′) w h) (o .from) (fits-ext wx (fits-sub g y)));
-        }
+        inner : Env S (world pt ft ct (σ .keys) B′) (suc (length (σ .bindings))) (b-var (x .var) w ∷ E) (e-var (x .var) A ∷ Γ)
+        inner = record { chain = ch-cons (getElem?-seam (σ .bindings) l) (chain-le (o .chain)) (chain-wider (wx .lks) (o .chain)); ok = eo-var (envOk-ext wx (o .ok)) (fits-ext wx (fits-sub g y)) }
+
+    app-ok : {k q : ℕ} {x : Kind} {X T U : RTy} {L : List ℕ} {w : Value}
+        → RSub (σ .keys) X (rfn q T U L) → Typ W k x X → OnHere q → OnAll (σ .keys) (members (θ .on)) L → Fits W w T → Stack U → Sure S W (actApp (val k x) w m)
+    app-ok (r-fn b y z u) (t-fn {f = i} {A = A} {B = B} {L = M} e) on c g k = call-ok (st .fs i (fty A B M) e) b y z u on c g k
 
     new-ok : {v : Value} {T : RTy} → Fits W v T → Stack (rcell 0 T) → Sure S W (actNew v m)
     unfolding actNew
@@ -324,19 +309,19 @@ module _ (S : Src) (σ : Store) (pt : List TwoTy) (ft : List FnTy) (ct : List RT
 
     read-ok : {k q : ℕ} {x : Kind} {X A : RTy} → RSub (σ .keys) X (rcell q A) → Typ W k x X → OnHere q → Stack A → Sure S W (actRead (val k x) m)
     unfolding actRead asCell found
-    read-ok (r-cell b) (t-cell {A = t} e) on k = let o = st .cs _ t e in rw (o .found) (sure-try (one-key (on-below ko on b)) (λ z. step-ok (to-hand (o .fits) k)))
+    read-ok (r-cell b y z) (t-cell {A = t} e) on k = let o = st .cs _ t e in rw (o .found) (sure-try (one-key (on-below ko on b)) (λ r. step-ok (to-hand (fits-sub (o .fits) y) k)))
 
     asg-ok : {k q : ℕ} {x : Kind} {X A : RTy} {w : Value} → RSub (σ .keys) X (rcell q A) → Typ W k x X → OnHere q → Fits W w A → Stack A → Sure S W (actAsg (val k x) w m)
     unfolding actAsg asCell found
-    asg-ok {w = w} (r-cell b) (t-cell {A = t} e) on g k =
+    asg-ok {w = w} (r-cell b y z) (t-cell {A = t} e) on g k =
         let o = st .cs _ t e in
-        rw (o .found) (sure-try (one-key (on-below ko on b)) (λ z. g-step (record {
+        rw (o .found) (sure-try (one-key (on-below ko on b)) (λ r. g-step (record {
           pt = pt;
           ft = ft;
           ct = ct;
           keys = ko;
           few = few;
-          store = set-cell st _ t w e g;
+          store = set-cell st _ t w e (fits-sub g z);
           thread = to-hand g k;
         }) (ext-refl W)))
 
@@ -404,7 +389,7 @@ module _ (S : Src) (σ : Store) (pt : List TwoTy) (ft : List FnTy) (ct : List RT
 
     newkey-ok : {k q j x r b u : ℕ} {z : Kind} {X : RTy} {B T : Ty} {E : List Bind} {Γ : List Entry} {t : Effect}
         → RSub (σ .keys) X (rlim q j) → Typ W k z X → j ≡ look E u → OnHere q → Envs E Γ → getElem? (upOf S) r ≡ some u → Fresh (upOf S) Γ r
-        → Has S (e-var x (keysType r) ∷ e-name r ∷ Γ) b B t → Sub (upOf S) B T → Free r T
+        → Has S (e-var x (keyPair r) ∷ e-name r ∷ Γ) b B t → Sub (upOf S) B T → Free r T
         → ((n : ℕ) → List·Memᴰ n (names t) → n ≢ r → OnHere (look E n)) → (List·Memᴰ r (names t) → OnHere (look E u))
         → Stack (inst (look E) T) → Sure S W (actNewkey x r b (val k z) m)
     unfolding actNewkey makeKey asLim found look inst
@@ -474,16 +459,16 @@ module _ (S : Src) (σ : Store) (pt : List TwoTy) (ft : List FnTy) (ct : List RT
         named : EnvOk S W′ (b-name r K ∷ E) (e-name r ∷ Γ)
         named = eo-name o′ f (mono-new o′ f e kb) (up-new r o′ e (rw ju at pos) posK) (omega (arith, length-snoc (σ .keys) j))
 
-        sb : RSub ks′ (rpair 0 (rlim 0 K) (rgrant 0 K)) (inst (look (b-name r K ∷ E)) (keysType r))
+        sb : RSub ks′ (rpair 0 (rlim 0 K) (rgrant 0 K)) (inst (look (b-name r K ∷ E)) (keyPair r))
         sb = rw (eq-eqb r r refl) (r-pair bot (r-lim bot) (r-grant bot))
 
-        fits : Fits W′ (unkeyed (k-pair (length (σ .pairs)))) (inst (look (b-name r K ∷ E)) (keysType r))
+        fits : Fits W′ (unkeyed (k-pair (length (σ .pairs)))) (inst (look (b-name r K ∷ E)) (keyPair r))
         fits = record { exact = rpair 0 (rlim 0 K) (rgrant 0 K); typ = t-pair (getElem?-at pt tw (length (σ .pairs)) (st .plen)); sub = sb }
 
         one-more : Chain B′ (suc n) (b-name r K ∷ E)
         one-more = ch-cons (seam (σ .bindings) l1 (l2 ∷ [])) (chain-le (o .chain)) (chain-wider (wx .lks) (o .chain))
 
-        inner : Env S W′ (suc (suc n)) (b-var x (unkeyed (k-pair (length (σ .pairs)))) ∷ b-name r K ∷ E) (e-var x (keysType r) ∷ e-name r ∷ Γ)
+        inner : Env S W′ (suc (suc n)) (b-var x (unkeyed (k-pair (length (σ .pairs)))) ∷ b-name r K ∷ E) (e-var x (keyPair r) ∷ e-name r ∷ Γ)
         inner = record { chain = ch-cons (seam-next (σ .bindings) l1 l2 []) (omega arith) one-more; ok = eo-var named fits }
 
         at : (i : ℕ) → List·Memᴰ i (names t) → (z : Bool) → eqb i r ≡ z → On ks′ (members (θ .on)) (look (b-name r K ∷ E) i)
