@@ -79,7 +79,7 @@ told r = record { answer = r .answer; count = r .count }
 unfoldable pub ranFrom : ℕ → Reading.Read → Starting.Started → Option Told
 ranFrom n (Reading.refused r) st = none
 ranFrom n (Reading.read J) (Starting.unstarted r) = none
-ranFrom n (Reading.read J) (Starting.started m) = some (told (Calls.run (Operands.nth (J .cmds)) n 0 m))
+ranFrom n (Reading.read J) (Starting.started m) = some (told (Calls.run (Calls.stepsOf (Operands.nth (J .cmds))) n 0 m))
 
 unfoldable pub started : ℕ → List ℕ → Option Told
 started n s = ranFrom n (Reading.reading s) (Starting.starting s)

@@ -8,7 +8,7 @@ use mathlib.Core.List.{List, [], _∷_, map}
 use mathlib.Core.Option.{Option, none, some}
 use mathlib.Core.Logic.{_≢_}
 use lib.ListN.{length, getElem?}
-use Rattle.order.specs.Bools.{_and_, and-l, and-r}
+use Rattle.order.specs.Bools.{and-l, and-r}
 use Rattle.order.specs.Effects.{Effect}
 use Rattle.syntax.specs.Types.{Ty, num, pair, cell, fn, lim, grant, byType, onCell, onFn, onGrant, onLim, onNum, onPair}
 use Rattle.syntax.specs.Commands.{Cmd, c-num, c-top, c-var, c-pair, c-part, c-fn, c-app, c-new, c-asg, c-read, c-sum, c-test, c-lim, c-grant, c-newkey, c-assoc}
@@ -45,7 +45,7 @@ unfolding ofVar
 no-variable none h = refl
 no-variable (some T) h = no-number h
 
--- 12 and 13 are not 11
+-- refusals 12 and 13 are not 11
 no-other : {A : Type 0} (n : ℕ) → n ≢ 11 → (b : Bool) {t : Typed} → (t ≡ untyped 11 → A) → require n b t ≡ untyped 11 → A
 unfolding require
 no-other n d true f h = f h
@@ -54,7 +54,7 @@ no-other n d false f h = absurd (d cc)
 no-12 : {A : Type 0} (b : Bool) {t : Typed} → (t ≡ untyped 11 → A) → require 12 b t ≡ untyped 11 → A
 no-12 b f h = no-other 12 (λ z. omega arith) b f h
 
--- 11 by a condition, or past it
+-- refusal 11 by a condition, or past it
 by-condition : {A : Type 0} (b : Bool) {t : Typed} → (t ≡ untyped 11 → A) → (b ≡ false → A) → require 11 b t ≡ untyped 11 → A
 unfolding require
 by-condition true f g h = f h

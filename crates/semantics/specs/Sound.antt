@@ -3,7 +3,7 @@ use mathlib.Core.Path.{_≡_, refl, sym, _∙_, subst, subst⁻¹}
 use Prim.Native.Nat.{ℕ, zero, suc, _≤_, _<_}
 use native.Mathlib.Omega.{arith}
 use mathlib.Core.Bool.{Bool, true, false}
-use mathlib.Core.List.{List, [], _∷_, _++_, map, List·Memᴰ, List·Memᴰ·not-nil, Memᴰ·cast, append-assoc, append-nil}
+use mathlib.Core.List.{List, [], _∷_, _++_, map, List·Memᴰ, Memᴰ·cast, append-assoc, append-nil}
 use mathlib.Core.Option.{none, some}
 use mathlib.Core.Logic.{_≢_, _⊎_, inl, inr}
 use lib.ListN.{length, getElem?}
@@ -36,7 +36,7 @@ use Rattle.semantics.specs.Invariant.{TwoTy, FnTy, fty, World, worldOf, 
 use Rattle.semantics.specs.Invariant.{FrameOk, fo-pair1, fo-pair2, fo-part1, fo-part2, fo-app1, fo-app2, fo-new, fo-read, fo-asg1, fo-asg2, fo-sum1, fo-sum2, fo-test, fo-lim, fo-grant, fo-newkey, fo-assoc1, fo-assoc2}
 use Rattle.semantics.specs.Invariant.{StackOk, so-nil, so-cons, ThreadOk, to-enter, to-hand, FnOk, f-fn, StoreOk, KeysOk, Ok}
 use Rattle.semantics.specs.Growth.{ext-refl, fits-ext, on-ext, covers-ext, envOk-ext, env-ext, stack-ext}
-use Rattle.semantics.specs.Enabled.{on-more, on-enabled, on-below, on-narrow, keys-snoc, on-under, add-new, add-old, on-name, covers-join-l, covers-join-r, covers-old, covers-touch, covers-map, map-covers, covers-more}
+use Rattle.semantics.specs.Enabled.{on-more, on-enabled, on-below, on-narrow, keys-snoc, on-under, add-new, add-old, on-name, covers-join-l, covers-join-r, covers-old, covers-touch, covers-map, map-covers}
 use Rattle.semantics.specs.Bindings.{fits-sub, inst-off, env-zero, env-one, env-mono, env-sub, env-lt, env-lookup, covers-below, covers-keys, mono-new, up-new}
 use Rattle.semantics.specs.Stores.{world, store-wider, fn-extends, add-fn, pair-extends, add-pair, cell-extends, add-cell, set-cell}
 
