@@ -19,7 +19,7 @@ use Rattle.syntax.specs.Operands
 use Rattle.semantics.specs.Machine.{Kind, k-num, k-pair, k-fn, k-cell, k-lim, k-grant, Value, Frame, Control, enter, hand, Thread, Store, Machine, most-cells, most-keys, most-pairs, most-functions, most-frames, most-bindings}
 use Rattle.semantics.specs.Keys.{enabled}
 use Rattle.semantics.specs.Step
-use Rattle.semantics.specs.Step.{Out, o-step, o-done, o-room, o-stuck, o-denied, Plan, p-done, p-wrong, p-try, room, touchAll, settle, asNum, asPair, asFn, asCell, asLim, asGrant, found, bare, one, two}
+use Rattle.semantics.specs.Step.{Out, o-step, o-done, o-room, o-stuck, o-denied, Plan, p-done, p-wrong, p-try, room, touchAll, settle, onKind, other, asNum, asPair, asFn, asCell, asLim, asGrant, found, bare, one, two}
 use Rattle.semantics.specs.Step.{seek, variable, actPair, actPart, actFn, actApp, actNew, actAsg, actRead, actSum, actTest, limitKeys, keysOf, actLim, actGrant, makeKey, actNewkey, actAssoc}
 use Rattle.semantics.specs.Step.{push, act, enterAt, enterCmd, receive, handTo, planOn, plan, step}
 use Rattle.semantics.specs.Room.{doneAt, isDone, lacking, anyLacking}
@@ -102,60 +102,41 @@ unfolding _and_
 whole true h = h
 whole false h = h
 
+-- the list's reader of kinds and the step's, where they choose alike
+alike-read : (k : Kind) (a b c d e f : ℕ → Option ℕ) (g : ℕ → Bool)
+    → byKind k (λ n. holds (a n) g) (λ n. holds (b n) g) (λ n. holds (c n) g) (λ n. holds (d n) g) (λ n. holds (e n) g) (λ n. holds (f n) g) ≡ holds (onKind k a b c d e f) g
+unfolding byKind
+alike-read (k-num n) a b c d e f g = refl
+alike-read (k-pair n) a b c d e f g = refl
+alike-read (k-fn n) a b c d e f g = refl
+alike-read (k-cell n) a b c d e f g = refl
+alike-read (k-lim n) a b c d e f g = refl
+alike-read (k-grant n) a b c d e f g = refl
+
 -- a kind that is wanted, as the step reads it
 is-number : (k : Kind) (s : Store) → suits a-number k s ≡ holds (asNum k) (λ n. true)
-unfolding suits byKind yes no holds asNum
-is-number (k-num n) s = refl
-is-number (k-pair n) s = refl
-is-number (k-fn n) s = refl
-is-number (k-cell n) s = refl
-is-number (k-lim n) s = refl
-is-number (k-grant n) s = refl
+unfolding suits yes no holds asNum
+is-number k s = alike-read k some other other other other other _
 
 is-pair : (k : Kind) (s : Store) → suits a-pair k s ≡ holds (asPair k) (λ i. holds (getElem? (s .pairs) i) (λ t. true))
-unfolding suits byKind no isThere holds asPair
-is-pair (k-num n) s = refl
-is-pair (k-pair n) s = refl
-is-pair (k-fn n) s = refl
-is-pair (k-cell n) s = refl
-is-pair (k-lim n) s = refl
-is-pair (k-grant n) s = refl
+unfolding suits no isThere holds asPair
+is-pair k s = alike-read k other some other other other other _
 
 is-function : (k : Kind) (s : Store) → suits a-function k s ≡ holds (asFn k) (λ i. holds (getElem? (s .functions) i) (λ t. true))
-unfolding suits byKind no isThere holds asFn
-is-function (k-num n) s = refl
-is-function (k-pair n) s = refl
-is-function (k-fn n) s = refl
-is-function (k-cell n) s = refl
-is-function (k-lim n) s = refl
-is-function (k-grant n) s = refl
+unfolding suits no isThere holds asFn
+is-function k s = alike-read k other other some other other other _
 
 is-cell : (k : Kind) (s : Store) → suits a-cell k s ≡ holds (asCell k) (λ i. holds (getElem? (s .cells) i) (λ t. true))
-unfolding suits byKind no isThere holds asCell
-is-cell (k-num n) s = refl
-is-cell (k-pair n) s = refl
-is-cell (k-fn n) s = refl
-is-cell (k-cell n) s = refl
-is-cell (k-lim n) s = refl
-is-cell (k-grant n) s = refl
+unfolding suits no isThere holds asCell
+is-cell k s = alike-read k other other other some other other _
 
 is-limit : (k : Kind) (s : Store) → suits a-limit k s ≡ holds (asLim k) (λ n. true)
-unfolding suits byKind yes no holds asLim
-is-limit (k-num n) s = refl
-is-limit (k-pair n) s = refl
-is-limit (k-fn n) s = refl
-is-limit (k-cell n) s = refl
-is-limit (k-lim n) s = refl
-is-limit (k-grant n) s = refl
+unfolding suits yes no holds asLim
+is-limit k s = alike-read k other other other other some other _
 
 is-grant : (k : Kind) (s : Store) → suits a-grant k s ≡ holds (asGrant k) (λ n. true)
-unfolding suits byKind yes no holds asGrant
-is-grant (k-num n) s = refl
-is-grant (k-pair n) s = refl
-is-grant (k-fn n) s = refl
-is-grant (k-cell n) s = refl
-is-grant (k-lim n) s = refl
-is-grant (k-grant n) s = refl
+unfolding suits yes no holds asGrant
+is-grant k s = alike-read k other other other other other some _
 
 module _ {s : Store} {on : ℕ} {ks : List ℕ} {l : Bool} where
   -- what is wanted is there, and the rest (r) suits
