@@ -1,10 +1,12 @@
 -- The commands of a job (document 01, "The bytes of a job"): their bytes, operands and sections, and the expressions that they write.
 use Prim.Native.Nat.{ℕ, _+_, _-_, _*_}
-use mathlib.Core.Bool.{Bool, true, cond}
+use mathlib.Core.Bool.{Bool, true, false, cond}
 use mathlib.Core.List.{List, [], _∷_, map, flatMap}
 use mathlib.Core.Option.{Option, none, some}
-use lib.ListN.{length, replicate, take, drop}
-use lib.Dec.{eqb}
+use lib.ListN.{length, getD, replicate, take, drop}
+use lib.Dec.{eqb, leb}
+use Rattle.order.specs.Bools.{_and_}
+use Rattle.order.specs.Sets.{all-of}
 
 -- an expression; T is how a type operand is given: by its number, or as a tree
 pub data Cmd (T : Type 0) : Type 0 where
@@ -78,26 +80,46 @@ pub data Role : Type 0 where
   r-variable r-parameter r-keypair : Role
   -- r: a local name that is bound, with a key; q, r: a name
   r-local r-name : Role
-  -- t: a type; s: a set of names; n: a number; op, i: a choice of two
-  r-type r-set r-number r-choice : Role
+  -- t: a type; s: a set of names; n: a number
+  r-type r-set r-number : Role
+  -- op, i: a choice from the first number to the second
+  r-choice : ℕ → ℕ → Role
 
--- the widths of what a role stands for; the places of 3C's keys are four, used or not
-unfoldable pub widths : Role → List ℕ
-widths r-evaluated = 2 ∷ []
-widths r-entered = 2 ∷ []
-widths r-inside = 2 ∷ []
-widths r-count = 1 ∷ []
-widths r-keys = 2 ∷ 2 ∷ 2 ∷ 2 ∷ []
-widths r-unused = []
-widths r-variable = 1 ∷ []
-widths r-parameter = 1 ∷ []
-widths r-keypair = 1 ∷ []
-widths r-local = 1 ∷ []
-widths r-name = 1 ∷ []
-widths r-type = 2 ∷ []
-widths r-set = 8 ∷ []
-widths r-number = 4 ∷ []
-widths r-choice = 1 ∷ []
+-- what a role says: a number of its own, by which roles are compared; the widths of its operands; and whether the numbers from there on are allowed
+pub record Says : Type 0 where
+  pub code : ℕ
+  pub widths : List ℕ
+  pub allows : List ℕ → Bool
+
+abbrev pub free : ℕ → List ℕ → Says
+free c ws = record { code = c; widths = ws; allows = λ o. true }
+
+abbrev pub ranged : ℕ → (List ℕ → Bool) → Says
+ranged c p = record { code = c; widths = 1 ∷ []; allows = p }
+
+-- the places of 0x3C's keys are four, used or not: "c (0 to 4) keys, unused key operands FFFF"
+unfoldable pub says : Role → Says
+says r-evaluated = free 0 (2 ∷ [])
+says r-entered = free 1 (2 ∷ [])
+says r-inside = free 2 (2 ∷ [])
+says r-count = ranged 3 (λ o. leb (getD o 0 0) 4 and all-of (λ e. eqb e 0xFFFF) (drop (getD o 0 0) (take 4 (drop 1 o))))
+says r-keys = free 4 (2 ∷ 2 ∷ 2 ∷ 2 ∷ [])
+says r-unused = free 5 []
+says r-variable = free 6 (1 ∷ [])
+says r-parameter = free 7 (1 ∷ [])
+says r-keypair = free 8 (1 ∷ [])
+says r-local = free 9 (1 ∷ [])
+says r-name = free 10 (1 ∷ [])
+says r-type = free 11 (2 ∷ [])
+says r-set = free 12 (8 ∷ [])
+says r-number = free 13 (4 ∷ [])
+says (r-choice lo hi) = ranged 14 (λ o. leb lo (getD o 0 0) and leb (getD o 0 0) hi)
+
+-- every operand is one that its role allows
+unfoldable pub allowed : List Role → List ℕ → Bool
+unfolding says
+allowed [] o = true
+allowed (r ∷ rs) o = cond (says r .allows o) (allowed rs (drop (length (says r .widths)) o)) false
 
 -- "Sections come in this order": names 0, types 1, host values 2, rights 3, expressions 4, the end 5
 pub record Form : Type 0 where
@@ -108,7 +130,7 @@ pub record Form : Type 0 where
 abbrev pub form-of : ℕ → ℕ → List Role → Form
 form-of b s rs = record { byte = b; section = s; roles = rs }
 
--- one row a command: its byte, its section, and what its operands are for, in order
+-- one row a command: its byte, its section, and what its operands are for, in order. In rows of names, types, host values and rights a role says the width alone
 unfoldable pub form : Op → Form
 form o-host = form-of 0x01 0 (r-name ∷ [])
 form o-local = form-of 0x02 0 (r-name ∷ [])
@@ -124,13 +146,13 @@ form x-number = form-of 0x30 4 (r-number ∷ [])
 form x-top = form-of 0x31 4 []
 form x-variable = form-of 0x32 4 (r-variable ∷ [])
 form x-pair = form-of 0x33 4 (r-evaluated ∷ r-evaluated ∷ [])
-form x-part = form-of 0x34 4 (r-evaluated ∷ r-choice ∷ [])
+form x-part = form-of 0x34 4 (r-evaluated ∷ r-choice 1 2 ∷ [])
 form x-function = form-of 0x35 4 (r-parameter ∷ r-type ∷ r-inside ∷ [])
 form x-apply = form-of 0x36 4 (r-evaluated ∷ r-evaluated ∷ [])
 form x-cell = form-of 0x37 4 (r-type ∷ r-evaluated ∷ [])
 form x-assign = form-of 0x38 4 (r-evaluated ∷ r-evaluated ∷ [])
 form x-read = form-of 0x39 4 (r-evaluated ∷ [])
-form x-sum = form-of 0x3A 4 (r-choice ∷ r-evaluated ∷ r-evaluated ∷ [])
+form x-sum = form-of 0x3A 4 (r-choice 0 1 ∷ r-evaluated ∷ r-evaluated ∷ [])
 form x-test = form-of 0x3B 4 (r-evaluated ∷ r-entered ∷ r-entered ∷ r-type ∷ [])
 form x-limit = form-of 0x3C 4 (r-count ∷ r-keys ∷ r-unused ∷ r-entered ∷ [])
 form x-grant = form-of 0x3D 4 (r-evaluated ∷ r-entered ∷ [])
@@ -195,8 +217,8 @@ opOf b = findOp commands b
 
 -- the widths of a command's operands
 unfoldable pub operands : Op → List ℕ
-unfolding form widths flatMap
-operands o = flatMap widths (form o .roles)
+unfolding form says flatMap
+operands o = flatMap (λ r. says r .widths) (form o .roles)
 
 unfoldable pub total : List ℕ → ℕ
 total [] = 0

@@ -10,7 +10,7 @@ use Rattle.order.specs.Sets.{members, all-of}
 use Rattle.order.specs.Effects.{Effect, reduced}
 use Rattle.syntax.specs.Types.{Ty, onNum, onCell, onLim, onGrant, TypeEntry, e-num, e-pair, e-cell, e-fn, e-lim, e-grant, tree, depth}
 use Rattle.syntax.specs.Commands.{Cmd, c-num, c-top, c-var, c-pair, c-part, c-fn, c-app, c-new, c-asg, c-read, c-sum, c-test, c-lim, c-grant, c-newkey, c-assoc}
-use Rattle.syntax.specs.Commands.{Op, o-host, o-local, o-number, o-pair, o-cell, o-function, o-limit, o-grant, o-value, o-rights, o-end, opOf, operands, width, sectionOf, fields}
+use Rattle.syntax.specs.Commands.{Op, o-host, o-local, o-number, o-pair, o-cell, o-function, o-limit, o-grant, o-value, o-rights, o-end, form, allowed, opOf, operands, width, sectionOf, fields}
 use Rattle.syntax.specs.Commands.{x-number, x-top, x-variable, x-pair, x-part, x-function, x-apply, x-cell, x-assign, x-read, x-sum, x-test, x-limit, x-grant, x-newkey, x-associate}
 use Rattle.syntax.specs.Operands.{children, typesOf, usesVar, bindsVar, bindsName}
 use Rattle.syntax.specs.Job.{Name, HostValue, Job, uppers}
@@ -116,47 +116,40 @@ pub data Written : Type 0 where
   w-end : Written
   unwritten : Written
 
--- 34: part 1 or 2
-unfoldable pub partOf : ℕ → ℕ → Written
-partOf a i = cond (eqb i 1) (w-cmd (c-part a true)) (cond (eqb i 2) (w-cmd (c-part a false)) unwritten)
+-- what a command's operands mean, in order
+unfoldable pub means : Op → List ℕ → Written
+means o-host o = w-name (record { host = true; upper = getD o 0 0 })
+means o-local o = w-name (record { host = false; upper = getD o 0 0 })
+means o-number o = w-type (e-num (getD o 0 0))
+means o-pair o = w-type (e-pair (getD o 0 0) (getD o 1 0) (getD o 2 0))
+means o-cell o = w-type (e-cell (getD o 0 0) (getD o 1 0))
+means o-function o = w-type (e-fn (getD o 0 0) (getD o 1 0) (getD o 2 0) (getD o 3 0))
+means o-limit o = w-type (e-lim (getD o 0 0) (getD o 1 0))
+means o-grant o = w-type (e-grant (getD o 0 0) (getD o 1 0))
+means o-value o = w-value (record { ty = getD o 0 0; init = getD o 1 0 })
+means o-rights o = w-rights (getD o 0 0)
+means x-number o = w-cmd (c-num (getD o 0 0))
+means x-top o = w-cmd c-top
+means x-variable o = w-cmd (c-var (getD o 0 0))
+means x-pair o = w-cmd (c-pair (getD o 0 0) (getD o 1 0))
+means x-part o = w-cmd (c-part (getD o 0 0) (eqb (getD o 1 0) 1))
+means x-function o = w-cmd (c-fn (getD o 0 0) (getD o 1 0) (getD o 2 0))
+means x-apply o = w-cmd (c-app (getD o 0 0) (getD o 1 0))
+means x-cell o = w-cmd (c-new (getD o 0 0) (getD o 1 0))
+means x-assign o = w-cmd (c-asg (getD o 0 0) (getD o 1 0))
+means x-read o = w-cmd (c-read (getD o 0 0))
+means x-sum o = w-cmd (c-sum (eqb (getD o 0 0) 0) (getD o 1 0) (getD o 2 0))
+means x-test o = w-cmd (c-test (getD o 0 0) (getD o 1 0) (getD o 2 0) (getD o 3 0))
+means x-limit o = w-cmd (c-lim (take (getD o 0 0) (take 4 (drop 1 o))) (getD o 5 0))
+means x-grant o = w-cmd (c-grant (getD o 0 0) (getD o 1 0))
+means x-newkey o = w-cmd (c-newkey (getD o 0 0) (getD o 1 0) (getD o 2 0) (getD o 3 0) (getD o 4 0))
+means x-associate o = w-cmd (c-assoc (getD o 0 0) (getD o 1 0))
+means o-end o = w-end
 
--- 3A: sum (0) or difference (1)
-unfoldable pub sumOf : ℕ → ℕ → ℕ → Written
-sumOf op a b = cond (eqb op 0) (w-cmd (c-sum true a b)) (cond (eqb op 1) (w-cmd (c-sum false a b)) unwritten)
-
--- 3C: "c (0 to 4) keys, unused key operands FFFF, then the body"
-unfoldable pub limitOf : ℕ → List ℕ → ℕ → Written
-limitOf c ks b = cond (leb c 4 and all-of (λ e. eqb e 0xFFFF) (drop c ks)) (w-cmd (c-lim (take c ks) b)) unwritten
-
--- by a command's operands, in order
+-- what they write: nothing where one of them is not allowed
 unfoldable pub written : Op → List ℕ → Written
-written o-host o = w-name (record { host = true; upper = getD o 0 0 })
-written o-local o = w-name (record { host = false; upper = getD o 0 0 })
-written o-number o = w-type (e-num (getD o 0 0))
-written o-pair o = w-type (e-pair (getD o 0 0) (getD o 1 0) (getD o 2 0))
-written o-cell o = w-type (e-cell (getD o 0 0) (getD o 1 0))
-written o-function o = w-type (e-fn (getD o 0 0) (getD o 1 0) (getD o 2 0) (getD o 3 0))
-written o-limit o = w-type (e-lim (getD o 0 0) (getD o 1 0))
-written o-grant o = w-type (e-grant (getD o 0 0) (getD o 1 0))
-written o-value o = w-value (record { ty = getD o 0 0; init = getD o 1 0 })
-written o-rights o = w-rights (getD o 0 0)
-written x-number o = w-cmd (c-num (getD o 0 0))
-written x-top o = w-cmd c-top
-written x-variable o = w-cmd (c-var (getD o 0 0))
-written x-pair o = w-cmd (c-pair (getD o 0 0) (getD o 1 0))
-written x-part o = partOf (getD o 0 0) (getD o 1 0)
-written x-function o = w-cmd (c-fn (getD o 0 0) (getD o 1 0) (getD o 2 0))
-written x-apply o = w-cmd (c-app (getD o 0 0) (getD o 1 0))
-written x-cell o = w-cmd (c-new (getD o 0 0) (getD o 1 0))
-written x-assign o = w-cmd (c-asg (getD o 0 0) (getD o 1 0))
-written x-read o = w-cmd (c-read (getD o 0 0))
-written x-sum o = sumOf (getD o 0 0) (getD o 1 0) (getD o 2 0)
-written x-test o = w-cmd (c-test (getD o 0 0) (getD o 1 0) (getD o 2 0) (getD o 3 0))
-written x-limit o = limitOf (getD o 0 0) (take 4 (drop 1 o)) (getD o 5 0)
-written x-grant o = w-cmd (c-grant (getD o 0 0) (getD o 1 0))
-written x-newkey o = w-cmd (c-newkey (getD o 0 0) (getD o 1 0) (getD o 2 0) (getD o 3 0) (getD o 4 0))
-written x-associate o = w-cmd (c-assoc (getD o 0 0) (getD o 1 0))
-written o-end o = w-end
+unfolding form allowed means
+written op o = cond (allowed (form op .roles) o) (means op o) unwritten
 
 -- the job with one entry more, where the entry meets its conditions
 unfoldable pub given : Bool → Job → Option Job

@@ -25,11 +25,12 @@ use Rattle.syntax.specs.Operands.{nth, wanted, ofRoles, plain, inner, ch
 use Rattle.syntax.specs.RowLaws.{among, roles-among, roles-split}
 use Rattle.syntax.specs.Job.{Name, HostValue, Job}
 use Rattle.syntax.specs.Reading.{Refusal, State, declared, localName, setOk, nameOk, partsOk, typeOk, hostValueOk, rightsOk, cmdOk}
-use Rattle.syntax.specs.Reading.{Written, w-name, w-type, w-value, w-rights, w-cmd, w-end, unwritten, partOf, sumOf, limitOf, written, given, enter, misplaced, full}
+use Rattle.syntax.specs.Reading.{Written, w-name, w-type, w-value, w-rights, w-cmd, w-end, unwritten, written, given, enter, misplaced, full}
 use Rattle.syntax.specs.Reading.{Step, refuse, proceed, finish, settle, command, Read, refused, read, ended, onward, onOp, readFrom, noJob, reading}
 use Rattle.syntax.specs.Words.{nameWord, typeWord, setWord, valueWord, headBits, headWord, filled, placeRoles, slots, nameWords, typeWords, setWords, valueWords, headWords, slotWords, decode, codeIn}
 use Rattle.syntax.specs.ReadLaws.{JobOk, built-at, read-ok}
 use Rattle.syntax.specs.ReadFormed.{declared-lt, nth-at, entry-parts, CmdFormed, cmds-formed}
+use Rattle.syntax.specs.WrittenLaws.{partOf, sumOf, limitOf, written-part, written-sum, written-limit, numbersIn, numbersOf}
 
 -- Ranges
 
@@ -162,15 +163,6 @@ two-high v r h k = let z : (v + 256 * r) / 256 ≡ r = omega arith in ap (λ n. 
 first : {a : ℕ} {l : List ℕ} → List·Memᴰ a (a ∷ l)
 first = List·Memᴰ·head refl
 
--- the numbers of an expression's operands, in the order written
-unfoldable pub numbersIn : List (Operand ℕ) → List ℕ
-numbersIn [] = []
-numbersIn (numbers l ∷ os) = l ++ numbersIn os
-numbersIn (type t ∷ os) = t ∷ numbersIn os
-
-abbrev pub numbersOf : Cmd ℕ → List ℕ
-numbersOf k = numbersIn (row k .given)
-
 -- an expression's words: it is read back from its head and its five places, and the head is a word of 64 bits; and its operands: it is what they write, one for each width
 pub record InWords (k : Cmd ℕ) : Type 0 where
   pub back : decode (headWord k % 256) (headWord k / 256 % 4294967296) (getD (slots k) 0 0) (getD (slots k) 1 0) (getD (slots k) 2 0) (getD (slots k) 3 0) (getD (slots k) 4 0) ≡ k
@@ -180,7 +172,7 @@ pub record InWords (k : Cmd ℕ) : Type 0 where
   pub wide : length (numbersOf k) ≡ length (operands (row k .op))
 
 pub in-words : (k : Cmd ℕ) → CmdFits k → InWords k
-unfolding headWord slots decode usesVar bindsVar bindsName ofRoles numbersIn row written partOf sumOf limitOf all-of operands _and_
+unfolding headWord slots decode usesVar bindsVar bindsName ofRoles numbersIn row written all-of operands _and_
 in-words (c-num n) f = let h = f .number n first in record { back = head-parts 0x30 n 0 0 0 0 0 (omega arith) h; five = refl; low = omega arith; writes = refl; wide = refl }
 in-words c-top f = record { back = head-parts 0x31 0 0 0 0 0 0 (omega arith) (omega arith); five = refl; low = omega arith; writes = refl; wide = refl }
 in-words (c-var v) f =
@@ -216,6 +208,10 @@ in-words (c-newkey v r a b t) f =
       wide = refl;
     }
 in-words (c-assoc a b) f = record { back = head-parts 0x3F 0 a b 0 0 0 (omega arith) (omega arith); five = refl; low = omega arith; writes = refl; wide = refl }
+
+-- the numbers of an expression's operands write it
+pub numbers-write : (k : Cmd ℕ) → CmdFits k → written (row k .op) (numbersOf k) ≡ w-cmd k
+numbers-write k f = in-words k f .writes
 
 -- from any tables that hold its words
 pub decode-back : (heads places : List ℕ) (e : ℕ) (k : Cmd ℕ) → CmdFits k → getD heads e 0 ≡ headWord k → ((i : ℕ) → i < 5 → getD places (e * 5 + i) 0 ≡ getD (slots k) i 0)
@@ -360,15 +356,15 @@ thin-op x-number s h = thin-cmd (c-num (little (take 4 s))) (record { number = �
 thin-op x-top s h = thin-plain _ refl
 thin-op x-variable s h = thin-plain _ refl
 thin-op x-pair s h = thin-plain _ refl
-thin-op x-part s h = thin-part _ _
+thin-op x-part s h = subst⁻¹ (λ w. Thin w) (written-part (fields (operands x-part) s)) (thin-part _ _)
 thin-op x-function s h = thin-plain _ refl
 thin-op x-apply s h = thin-plain _ refl
 thin-op x-cell s h = thin-plain _ refl
 thin-op x-assign s h = thin-plain _ refl
 thin-op x-read s h = thin-plain _ refl
-thin-op x-sum s h = thin-sum _ _ _
+thin-op x-sum s h = subst⁻¹ (λ w. Thin w) (written-sum (fields (operands x-sum) s)) (thin-sum _ _ _)
 thin-op x-test s h = thin-plain _ refl
-thin-op x-limit s h = let o = fields (operands x-limit) s in thin-limit (getD o 0 0) (drop 1 o) (getD o 5 0)
+thin-op x-limit s h = let o = fields (operands x-limit) s in subst⁻¹ (λ w. Thin w) (written-limit o) (thin-limit (getD o 0 0) (drop 1 o) (getD o 5 0))
 thin-op x-grant s h = thin-plain _ refl
 thin-op x-newkey s h = thin-plain _ refl
 thin-op x-associate s h = thin-plain _ refl

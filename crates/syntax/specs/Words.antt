@@ -3,13 +3,14 @@ use Prim.Native.Nat.{ℕ, _+_, _-_, _*_, _/_, _%_}
 use mathlib.Core.Bool.{cond}
 use mathlib.Core.List.{List, [], _∷_, _++_, map, flatMap}
 use mathlib.Core.Option.{Option, none, some}
-use lib.ListN.{length, replicate, getD, take}
+use lib.ListN.{length, replicate, getD, take, drop}
 use lib.Dec.{eqb}
 use Rattle.syntax.specs.Types.{TypeEntry, e-num, e-pair, e-cell, e-fn, e-lim, e-grant}
-use Rattle.syntax.specs.Commands.{Cmd, c-num, c-top, c-var, c-pair, c-part, c-fn, c-app, c-new, c-asg, c-read, c-sum, c-test, c-lim, c-grant, c-newkey, c-assoc, form, row}
-use Rattle.syntax.specs.Commands.{Role, r-evaluated, r-entered, r-inside, r-count, r-keys, r-unused, r-variable, r-parameter, r-keypair, r-local, r-number, r-choice}
-use Rattle.syntax.specs.Operands.{ofRoles, typesOf}
+use Rattle.syntax.specs.Commands.{Cmd, c-num, Op, says, form, row, commands, findOp, opOf}
+use Rattle.syntax.specs.Commands.{Role, r-evaluated, r-entered, r-inside, r-count, r-keys, r-unused, r-variable, r-parameter, r-keypair, r-local, r-type, r-number, r-choice}
+use Rattle.syntax.specs.Operands.{wanted, ofRoles, typesOf}
 use Rattle.syntax.specs.Job.{Name, HostValue, Job}
+use Rattle.syntax.specs.Reading.{Written, w-name, w-type, w-value, w-rights, w-cmd, w-end, unwritten, means}
 
 -- the upper name, and 1 for a host name or 2 for a local one
 unfoldable pub nameWord : Name → ℕ
@@ -49,8 +50,12 @@ packed [] = 0
 packed (x ∷ []) = x
 packed (x ∷ y ∷ l) = x + 256 * packed (y ∷ l)
 
+abbrev pub byteRoles : List Role
+byteRoles = r-variable ∷ r-parameter ∷ r-keypair ∷ r-local ∷ []
+
+-- (roles are compared without their range)
 abbrev pub headRoles : List Role
-headRoles = r-count ∷ r-variable ∷ r-parameter ∷ r-keypair ∷ r-local ∷ r-number ∷ r-choice ∷ []
+headRoles = byteRoles ++ (r-count ∷ r-number ∷ r-choice 0 0 ∷ [])
 
 unfoldable pub headWord : Cmd ℕ → ℕ
 unfolding ofRoles form row packed
@@ -87,25 +92,39 @@ headWords J = map headWord (J .cmds)
 abbrev pub slotWords : Job → List ℕ
 slotWords J = flatMap slots (J .cmds)
 
+-- how many places the expressions of a row have; its type stands behind them
+unfoldable pub placesIn : List Role → ℕ
+unfolding wanted says flatMap
+placesIn rs = length (flatMap (λ r. cond (wanted placeRoles r) (says r .widths) []) rs)
+
+-- the operands' numbers in order, by their roles: from x, the head's operands, of which all but those of one byte are the last; from the places l; from t, the type's place
+unfoldable pub numbersBy : List Role → ℕ → List ℕ → ℕ → List ℕ
+unfolding wanted says
+numbersBy [] x l t = []
+numbersBy (r ∷ rs) x l t =
+    cond (wanted byteRoles r) (x % 256 ∷ numbersBy rs (x / 256) l t)
+    (cond (wanted headRoles r) (x ∷ numbersBy rs x l t)
+    (cond (wanted (r-type ∷ []) r) (t ∷ numbersBy rs x l t)
+    (take (length (says r .widths)) l ++ numbersBy rs x (drop (length (says r .widths)) l) t)))
+
+unfoldable pub expression : Cmd ℕ → Written → Cmd ℕ
+expression z (w-name d) = z
+expression z (w-type e) = z
+expression z (w-value h) = z
+expression z (w-rights s) = z
+expression z (w-cmd k) = k
+expression z w-end = z
+expression z unwritten = z
+
 -- the expression that a head and five places stand for; a head with no expression's command byte stands for a number
+unfoldable pub decodeAs : Option Op → ℕ → List ℕ → Cmd ℕ
+unfolding expression means numbersBy placesIn form
+decodeAs none x l = c-num x
+decodeAs (some o) x l = expression (c-num x) (means o (numbersBy (form o .roles) x l (getD l (placesIn (form o .roles)) 0)))
+
 unfoldable pub decode : ℕ → ℕ → ℕ → ℕ → ℕ → ℕ → ℕ → Cmd ℕ
-decode byte x a b c d e =
-    cond (eqb byte 0x31) c-top
-    (cond (eqb byte 0x32) (c-var (x % 256))
-    (cond (eqb byte 0x33) (c-pair a b)
-    (cond (eqb byte 0x34) (c-part a (eqb x 1))
-    (cond (eqb byte 0x35) (c-fn (x % 256) b a)
-    (cond (eqb byte 0x36) (c-app a b)
-    (cond (eqb byte 0x37) (c-new b a)
-    (cond (eqb byte 0x38) (c-asg a b)
-    (cond (eqb byte 0x39) (c-read a)
-    (cond (eqb byte 0x3A) (c-sum (eqb x 0) a b)
-    (cond (eqb byte 0x3B) (c-test a b c d)
-    (cond (eqb byte 0x3C) (c-lim (take x (a ∷ b ∷ c ∷ d ∷ [])) e)
-    (cond (eqb byte 0x3D) (c-grant a b)
-    (cond (eqb byte 0x3E) (c-newkey (x % 256) (x / 256 % 256) a b c)
-    (cond (eqb byte 0x3F) (c-assoc a b)
-    (c-num x)))))))))))))))
+unfolding decodeAs opOf findOp commands
+decode byte x a b c d e = decodeAs (opOf byte) x (a ∷ b ∷ c ∷ d ∷ e ∷ [])
 
 -- expression i of the tables
 unfoldable pub codeIn : List ℕ → List ℕ → ℕ → Cmd ℕ
