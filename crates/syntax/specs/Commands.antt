@@ -10,37 +10,37 @@ use Rattle.order.specs.Sets.{all-of}
 
 -- an expression; T is how a type operand is given: by its number, or as a tree
 pub data Cmd (T : Type 0) : Type 0 where
-  -- 30 n
+  -- 0x30 n
   c-num : ℕ → Cmd T
-  -- 31: the top's limit key
+  -- 0x31: the top's limit key
   c-top : Cmd T
-  -- 32 v
+  -- 0x32 v
   c-var : ℕ → Cmd T
-  -- 33 e e
+  -- 0x33 e e
   c-pair : ℕ → ℕ → Cmd T
-  -- 34 e i: part 1 (true) or 2
+  -- 0x34 e i: part 1 (true) or 2
   c-part : ℕ → Bool → Cmd T
-  -- 35 v t e
+  -- 0x35 v t e
   c-fn : ℕ → T → ℕ → Cmd T
-  -- 36 e e: function, argument
+  -- 0x36 e e: function, argument
   c-app : ℕ → ℕ → Cmd T
-  -- 37 t e
+  -- 0x37 t e
   c-new : T → ℕ → Cmd T
-  -- 38 e e: cell, value
+  -- 0x38 e e: cell, value
   c-asg : ℕ → ℕ → Cmd T
-  -- 39 e
+  -- 0x39 e
   c-read : ℕ → Cmd T
-  -- 3A op e e: sum (true) or difference
+  -- 0x3A op e e: sum (true) or difference
   c-sum : Bool → ℕ → ℕ → Cmd T
-  -- 3B e e e t: number, branch if not zero, branch if zero, result type
+  -- 0x3B e e e t: number, branch if not zero, branch if zero, result type
   c-test : ℕ → ℕ → ℕ → T → Cmd T
-  -- 3C c e e e e e: limit keys, body
+  -- 0x3C c e e e e e: limit keys, body
   c-lim : List ℕ → ℕ → Cmd T
-  -- 3D e e: grant key, body
+  -- 0x3D e e: grant key, body
   c-grant : ℕ → ℕ → Cmd T
-  -- 3E v r e e t: variable, local name, limit key above, body, result type
+  -- 0x3E v r e e t: variable, local name, limit key above, body, result type
   c-newkey : ℕ → ℕ → ℕ → ℕ → T → Cmd T
-  -- 3F e e: value, limit key
+  -- 0x3F e e: value, limit key
   c-assoc : ℕ → ℕ → Cmd T
 
 -- the same with another form of type operands
@@ -74,7 +74,7 @@ pub data Op : Type 0 where
 pub data Role : Type 0 where
   -- e: an expression that is evaluated before the act; one that is entered later, in the same scope; one where what the command binds is in scope
   r-evaluated r-entered r-inside : Role
-  -- c: how many of the next four places are used; e e e e: limit keys, evaluated before the act; the places that are not used, FFFF
+  -- c: how many of the next four places are used; e e e e: limit keys, evaluated before the act; the places that are not used, 0xFFFF
   r-count r-keys r-unused : Role
   -- v: a variable that is used; one that is bound, of the type operand; one that is bound, of the limit and grant key of the name that is bound
   r-variable r-parameter r-keypair : Role
@@ -160,7 +160,7 @@ form x-newkey = form-of 0x3E 4 (r-keypair ∷ r-local ∷ r-evaluated ∷ r-insi
 form x-associate = form-of 0x3F 4 (r-evaluated ∷ r-evaluated ∷ [])
 form o-end = form-of 0xFF 5 []
 
--- what is given for an operand: numbers, one but for 3C's keys; or a type
+-- what is given for an operand: numbers, one but for 0x3C's keys; or a type
 pub data Operand (T : Type 0) : Type 0 where
   numbers : List ℕ → Operand T
   type : T → Operand T

@@ -1,4 +1,4 @@
--- Reading (document 01, "The bytes of a job" and numbers 2 to 7): the job that the bytes write, or the first refusal.
+-- Reading (document 01, "The bytes of a job" and refusals 2 to 7): the job that the bytes write, or the first refusal.
 use Prim.Native.Nat.{ℕ, zero, suc, _+_, _-_}
 use mathlib.Core.Bool.{Bool, true, false, cond, not}
 use mathlib.Core.List.{List, [], _∷_, _++_}
@@ -65,11 +65,11 @@ localName ds q = leb 2 q and declared ds q and not (hostName ds q)
 unfoldable pub setOk : List Name → Effect → Bool
 setOk ds s = all-of (declared ds) (members s) and reduced (uppers ds) s
 
--- 01, 02: the upper name is not 0 and declared earlier; a host name's is a host name or 1
+-- 0x01, 0x02: the upper name is not 0 and declared earlier; a host name's is a host name or 1
 unfoldable pub nameOk : List Name → Name → Bool
 nameOk ds d = not (eqb (d .upper) 0) and declared ds (d .upper) and (not (d .host) or hostName ds (d .upper))
 
--- 10 to 15: names declared, r not 0, parts earlier, the set as above; depth at most 16
+-- 0x10 to 0x15: names declared, r not 0, parts earlier, the set as above; depth at most 16
 unfoldable pub partsOk : List Name → ℕ → TypeEntry → Bool
 partsOk ds n (e-num q) = declared ds q
 partsOk ds n (e-pair q a b) = declared ds q and ltb a n and ltb b n
@@ -81,7 +81,7 @@ partsOk ds n (e-grant q r) = declared ds q and declared ds r and not (eqb r 0)
 unfoldable pub typeOk : List Name → List TypeEntry → TypeEntry → Bool
 typeOk ds ts e = partsOk ds (length ts) e and leb (depth (tree (ts ++ (e ∷ [])) (length ts))) most-depth
 
--- 20: a cell of unkeyed numbers, or a limit or grant key (n is then 0), of 0, 1 and host names
+-- 0x20: a cell of unkeyed numbers, or a limit or grant key (n is then 0), of 0, 1 and host names
 unfoldable pub unkeyedNumber : Ty → Bool
 unkeyedNumber T = onNum T (λ q. eqb q 0) false
 
@@ -93,7 +93,7 @@ hostTypeOk ds T n =
 unfoldable pub hostValueOk : List Name → List TypeEntry → HostValue ℕ → Bool
 hostValueOk ds ts h = ltb (h .ty) (length ts) and hostTypeOk ds (tree ts (h .ty)) (h .init)
 
--- 21: of 1 and host names
+-- 0x21: of 1 and host names
 unfoldable pub rightsOk : List Name → Effect → Bool
 rightsOk ds s = setOk ds s and all-of (hostName ds) (members s)
 
@@ -170,7 +170,7 @@ enter (w-cmd k) J =
 enter w-end J = some J
 enter unwritten J = none
 
--- number 3: before or after its section, a second 21, an expression or FF before 21, FF with no expression
+-- refusal 3: before or after its section, a second 0x21, an expression or 0xFF before 0x21, 0xFF with no expression
 unfoldable pub misplaced : State → ℕ → Bool
 misplaced st sec =
     ltb sec (st .section)
@@ -178,7 +178,7 @@ misplaced st sec =
     or (leb 4 sec and ltb (st .section) 3)
     or (eqb sec 5 and eqb (length (st .job .cmds)) 0)
 
--- number 5: one entry more than a limit; the rights and the end have none
+-- refusal 5: one entry more than a limit; the rights and the end have none
 unfoldable pub full : Job → ℕ → Bool
 full J sec =
     (eqb sec 0 and leb most-names (2 + length (J .names)))
@@ -196,7 +196,7 @@ unfoldable pub settle : ℕ → Option Job → Step
 settle sec none = refuse 6
 settle sec (some J) = cond (eqb sec 5) (finish J) (proceed (record { section = sec; job = J }))
 
--- "within one command": 3, 4, 5, 6 in this order; `s` is what follows the command byte
+-- "within one command": refusals 3, 4, 5, 6 in this order; `s` is what follows the command byte
 unfoldable pub command : Op → List ℕ → State → Step
 command op s st =
     cond (misplaced st (sectionOf op)) (refuse 3)
@@ -212,7 +212,7 @@ pub data Read : Type 0 where
 abbrev pub refusedAt : ℕ → ℕ → Read
 refusedAt n p = refused (record { number = n; place = p })
 
--- after FF: 7 where a byte follows
+-- after 0xFF: refusal 7 where a byte follows
 unfoldable pub ended : ℕ → List ℕ → Job → Read
 ended pos [] J = read J
 ended pos (b ∷ s) J = refusedAt 7 pos

@@ -7,12 +7,12 @@ use mathlib.Core.List.{List, [], _∷_, _++_, map, append-nil, List·Memᴰ, Lis
 use mathlib.Core.Logic.{_⊎_, inl, inr}
 use lib.ListN.{length}
 use lib.Dec.{eqb}
-use borrow.Author.Tests.{eq-eqb, eqb-true}
+use borrow.Author.Tests.{eqb-true}
 use Rattle.order.specs.Bools.{_and_, and-l, and-r}
 use Rattle.syntax.specs.Types.{Ty}
 use Rattle.syntax.specs.Commands.{Cmd, c-num, c-top, c-var, c-pair, c-part, c-fn, c-app, c-new, c-asg, c-read, c-sum, c-test, c-lim, c-grant, c-newkey, c-assoc, mapCmd}
 use Rattle.syntax.specs.Commands.{Role, says, r-parameter, r-keypair, form, Operand, numbers, type, Row, row-of, row}
-use Rattle.syntax.specs.Operands.{wanted, someWanted, having, types, ofRoles, plain, inner, children, evaluated, typesOf, bindsVar, bindsName}
+use Rattle.syntax.specs.Operands.{wanted, someWanted, having, types, ofRoles, plain, inner, children, typesOf, usesVar, bindsVar, bindsName}
 use Rattle.syntax.specs.Tree.{entriesOf, binds}
 
 -- Roles that are wanted
@@ -214,13 +214,13 @@ module _ {T U : Type 0} (f : T → U) where
   unfolding ofRoles
   roles-map ws k = ap (λ (r : Row U). having ws (form (r .op) .roles) (r .given)) (row-map k) ∙ having-map ws (form (row k .op) .roles) (row k .given)
 
-  pub evaluated-map : (k : Cmd T) → evaluated (mapCmd f k) ≡ evaluated k
-  unfolding evaluated
-  evaluated-map k = roles-map _ k
-
   pub children-map : (k : Cmd T) → children (mapCmd f k) ≡ children k
   unfolding children plain inner
   children-map k = ap₂ (λ l m. l ++ m) (roles-map _ k) (roles-map _ k)
+
+  pub usesVar-map : (k : Cmd T) → usesVar (mapCmd f k) ≡ usesVar k
+  unfolding usesVar
+  usesVar-map k = roles-map _ k
 
   pub bindsVar-map : (k : Cmd T) → bindsVar (mapCmd f k) ≡ bindsVar k
   unfolding bindsVar

@@ -23,7 +23,7 @@ partOf a i = cond (eqb i 1) (w-cmd (c-part a true)) (cond (eqb i 2) (w-cmd (c-pa
 unfoldable pub sumOf : ℕ → ℕ → ℕ → Written
 sumOf op a b = cond (eqb op 0) (w-cmd (c-sum true a b)) (cond (eqb op 1) (w-cmd (c-sum false a b)) unwritten)
 
--- 0x3C: at most four keys, and FFFF where no key stands
+-- 0x3C: at most four keys, and 0xFFFF where no key stands
 unfoldable pub limitOf : ℕ → List ℕ → ℕ → Written
 limitOf c ks b = cond (leb c 4 and all-of (λ e. eqb e 0xFFFF) (drop c ks)) (w-cmd (c-lim (take c ks) b)) unwritten
 
@@ -108,7 +108,7 @@ same-cmd e = cc
 raw : {op : Op} (o : List ℕ) {j k : Cmd ℕ} → row j .op ≡ op → numbersOf j ≡ o → w-cmd j ≡ w-cmd k → Raw op o k
 raw {op} o a b e = subst (λ z. Raw op o z) (same-cmd e) (record { command = a; numbers-are = b })
 
--- all are FFFF
+-- all are 0xFFFF
 unused-are : (l : List ℕ) → all-of (λ e. eqb e 0xFFFF) l ≡ true → replicate (length l) 0xFFFF ≡ l
 unfolding all-of
 unused-are [] h = refl

@@ -1,4 +1,4 @@
--- The least type and effect of each expression: what the checker computes, and the numbers 11, 12 and 13.
+-- The least type and effect of each expression: what the checker computes, and refusals 11, 12 and 13.
 use Prim.Native.Nat.{ℕ, zero, suc}
 use mathlib.Core.Bool.{Bool, true, false, cond}
 use mathlib.Core.List.{List, [], _∷_, _++_}
@@ -6,7 +6,7 @@ use mathlib.Core.Option.{Option, none, some}
 use lib.ListN.{length, getElem?}
 use lib.Dec.{eqb}
 use Rattle.order.specs.Effects.{Effect, pure, ofNames, touch, join, drop, raise, reduce, effBelow}
-use Rattle.syntax.specs.Types.{Ty, num, pair, cell, fn, lim, grant, onNum, onPair, onCell, onFn, onLim, onGrant, keyOf, rekey}
+use Rattle.syntax.specs.Types.{Ty, num, pair, cell, fn, lim, onNum, onPair, onCell, onFn, onLim, onGrant, keyOf, rekey}
 use Rattle.syntax.specs.Commands.{Cmd, c-num, c-top, c-var, c-pair, c-part, c-fn, c-app, c-new, c-asg, c-read, c-sum, c-test, c-lim, c-grant, c-newkey, c-assoc}
 use Rattle.syntax.specs.Operands.{nth}
 use Rattle.syntax.specs.Job.{Src, upOf}
@@ -24,7 +24,7 @@ unfoldable pub with : Typed → (Ty → Effect → Typed) → Typed
 with (typed T s) f = f T s
 with (untyped n) f = untyped n
 
--- 11: an operand of the wrong kind
+-- refusal 11: an operand of the wrong kind
 unfoldable pub wantNum : Ty → (ℕ → Typed) → Typed
 wantNum T f = onNum T f (untyped 11)
 
@@ -69,7 +69,7 @@ unfoldable pub ofVar : Option Ty → Typed
 ofVar none = untyped 11
 ofVar (some T) = typed T pure
 
--- the limit keys of 3C: their names, and the effect of working them out and touching them
+-- the limit keys of 0x3C: their names, and the effect of evaluating them and touching them
 unfoldable pub keysAt : (ℕ → Typed) → List ℕ → (List ℕ → Effect → Typed) → Typed
 keysAt tab [] f = f [] pure
 keysAt tab (a ∷ ks) f = with (tab a) (λ K s. wantLim K (λ q r. keysAt tab ks (λ rs t. f (r ∷ rs) (touch q (join s t)))))
