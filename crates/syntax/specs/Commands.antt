@@ -1,7 +1,7 @@
 -- The commands of a job (document 01, "The bytes of a job"): their bytes, operands and sections, and the expressions that they write.
 use Prim.Native.Nat.{ℕ, _+_, _-_, _*_}
 use mathlib.Core.Bool.{Bool, true, false, cond}
-use mathlib.Core.List.{List, [], _∷_, map, flatMap}
+use mathlib.Core.List.{List, [], _∷_, flatMap}
 use mathlib.Core.Option.{Option, none, some}
 use lib.ListN.{length, getD, replicate, take, drop}
 use lib.Dec.{eqb, leb}
@@ -194,22 +194,17 @@ row (c-grant a b) = row-of x-grant (one a ∷ one b ∷ [])
 row (c-newkey v r a b t) = row-of x-newkey (one v ∷ one r ∷ one a ∷ one b ∷ type t ∷ [])
 row (c-assoc a b) = row-of x-associate (one a ∷ one b ∷ [])
 
-pub record Coded : Type 0 where
-  pub byte : ℕ
-  pub op : Op
-
--- every command byte
-unfoldable pub commands : List Coded
-unfolding form
+-- every command
+unfoldable pub commands : List Op
 commands =
-    map (λ o. record { byte = form o .byte; op = o })
-    (o-host ∷ o-local ∷ o-number ∷ o-pair ∷ o-cell ∷ o-function ∷ o-limit ∷ o-grant ∷ o-value ∷ o-rights
+    o-host ∷ o-local ∷ o-number ∷ o-pair ∷ o-cell ∷ o-function ∷ o-limit ∷ o-grant ∷ o-value ∷ o-rights
     ∷ x-number ∷ x-top ∷ x-variable ∷ x-pair ∷ x-part ∷ x-function ∷ x-apply ∷ x-cell ∷ x-assign ∷ x-read
-    ∷ x-sum ∷ x-test ∷ x-limit ∷ x-grant ∷ x-newkey ∷ x-associate ∷ o-end ∷ [])
+    ∷ x-sum ∷ x-test ∷ x-limit ∷ x-grant ∷ x-newkey ∷ x-associate ∷ o-end ∷ []
 
-unfoldable pub findOp : List Coded → ℕ → Option Op
+unfoldable pub findOp : List Op → ℕ → Option Op
+unfolding form
 findOp [] b = none
-findOp (c ∷ l) b = cond (eqb b (c .byte)) (some (c .op)) (findOp l b)
+findOp (o ∷ l) b = cond (eqb b (form o .byte)) (some o) (findOp l b)
 
 -- the command of a byte, if it is one
 unfoldable pub opOf : ℕ → Option Op

@@ -7,7 +7,7 @@ use mathlib.Core.Option.{some}
 use lib.ListN.{drop, take}
 use lib.Dec.{eqb}
 use borrow.Author.Tests.{eqb-true}
-use Rattle.syntax.specs.Commands.{Cmd, c-num, c-top, c-var, c-pair, c-part, c-fn, c-app, c-new, c-asg, c-read, c-sum, c-test, c-lim, c-grant, c-newkey, c-assoc, Op, o-host, o-local, o-number, o-pair, o-cell, o-function, o-limit, o-grant, o-value, o-rights, x-number, form, Coded, commands, findOp}
+use Rattle.syntax.specs.Commands.{Cmd, c-num, c-top, c-var, c-pair, c-part, c-fn, c-app, c-new, c-asg, c-read, c-sum, c-test, c-lim, c-grant, c-newkey, c-assoc, Op, o-host, o-local, o-number, o-pair, o-cell, o-function, o-limit, o-grant, o-value, o-rights, x-number, form, commands, findOp}
 use Rattle.syntax.specs.Words.{decodeAs, decode}
 
 -- z where the byte is none of these
@@ -35,21 +35,21 @@ decodeBy byte x a b c d e = decodeOr (c-num x) byte x a b c d e
 
 module _ (byte x : ℕ) (places : List ℕ) where
   -- by the commands of a list, one after another
-  chain : ℕ → List Coded → Cmd ℕ
+  chain : ℕ → List Op → Cmd ℕ
   chain b [] = c-num x
-  chain b (c ∷ l) = cond (eqb b (c .byte)) (decodeAs (some (c .op)) x places) (chain b l)
+  chain b (o ∷ l) = cond (eqb b (form o .byte)) (decodeAs (some o) x places) (chain b l)
 
-  spread : (l : List Coded) → decodeAs (findOp l byte) x places ≡ chain byte l
+  spread : (l : List Op) → decodeAs (findOp l byte) x places ≡ chain byte l
   unfolding chain findOp decodeAs
   spread [] = refl
-  spread (c ∷ l) = at (eqb byte (c .byte)) ∙ ap (λ (k : Cmd ℕ). cond (eqb byte (c .byte)) (decodeAs (some (c .op)) x places) k) (spread l)
+  spread (o ∷ l) = at (eqb byte (form o .byte)) ∙ ap (λ (k : Cmd ℕ). cond (eqb byte (form o .byte)) (decodeAs (some o) x places) k) (spread l)
     where
-      at : (t : Bool) → decodeAs (cond t (some (c .op)) (findOp l byte)) x places ≡ cond t (decodeAs (some (c .op)) x places) (decodeAs (findOp l byte) x places)
+      at : (t : Bool) → decodeAs (cond t (some o) (findOp l byte)) x places ≡ cond t (decodeAs (some o) x places) (decodeAs (findOp l byte) x places)
       at true = refl
       at false = refl
 
   -- a command that is no expression stands for a number, and so does its byte to the commands after it
-  skip : (o : Op) (l : List Coded) → decodeAs (some o) x places ≡ c-num x → chain (form o .byte) l ≡ c-num x → chain byte (record { byte = form o .byte; op = o } ∷ l) ≡ chain byte l
+  skip : (o : Op) (l : List Op) → decodeAs (some o) x places ≡ c-num x → chain (form o .byte) l ≡ c-num x → chain byte (o ∷ l) ≡ chain byte l
   unfolding chain
   skip o l h k = at (eqb byte (form o .byte)) refl
     where

@@ -1,7 +1,8 @@
 -- What the operands of an expression are: expressions, variables, types. Uses, references and scopes go through these; all are read off the command's row.
-use Prim.Native.Nat.{ℕ, zero, suc}
+use Prim.Native.Nat.{ℕ}
 use mathlib.Core.Bool.{Bool, true, false, cond}
 use mathlib.Core.List.{List, [], _∷_, _++_}
+use lib.ListN.{getD}
 use lib.Dec.{eqb}
 use Rattle.syntax.specs.Commands.{Cmd, c-num, Role, r-evaluated, r-entered, r-inside, r-keys, r-variable, r-parameter, r-keypair, r-local, says, form, Operand, numbers, type, row}
 
@@ -19,9 +20,7 @@ someWanted ws (r ∷ rs) = cond (wanted ws r) true (someWanted ws rs)
 module _ {T : Type 0} where
   -- the command of an expression; past the end a number
   unfoldable pub nth : List (Cmd T) → ℕ → Cmd T
-  nth [] i = c-num 0
-  nth (k ∷ l) zero = k
-  nth (k ∷ l) (suc i) = nth l i
+  nth l i = getD l i (c-num 0)
 
   -- the numbers given for the wanted roles, in order; those for the last wanted role stand as they are
   unfoldable pub having : List Role → List Role → List (Operand T) → List ℕ

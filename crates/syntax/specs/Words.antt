@@ -6,7 +6,7 @@ use mathlib.Core.Option.{Option, none, some}
 use lib.ListN.{length, replicate, getD, take, drop}
 use lib.Dec.{eqb}
 use Rattle.syntax.specs.Types.{TypeEntry, e-num, e-pair, e-cell, e-fn, e-lim, e-grant}
-use Rattle.syntax.specs.Commands.{Cmd, c-num, Op, says, form, row, commands, findOp, opOf}
+use Rattle.syntax.specs.Commands.{Cmd, c-num, Op, o-number, o-pair, o-cell, o-function, o-limit, o-grant, says, form, row, commands, findOp, opOf}
 use Rattle.syntax.specs.Commands.{Role, r-evaluated, r-entered, r-inside, r-count, r-keys, r-unused, r-variable, r-parameter, r-keypair, r-local, r-type, r-number, r-choice}
 use Rattle.syntax.specs.Operands.{wanted, ofRoles, typesOf}
 use Rattle.syntax.specs.Job.{Name, HostValue, Job}
@@ -16,26 +16,27 @@ use Rattle.syntax.specs.Reading.{Written, w-name, w-type, w-value, w-rig
 unfoldable pub nameWord : Name → ℕ
 nameWord d = d .upper + 256 * cond (d .host) 1 2
 
+-- a type entry's command, and its operands in order
+unfoldable pub entryRow : TypeEntry → Op × List ℕ
+entryRow (e-num q) = (o-number, q ∷ [])
+entryRow (e-pair q a b) = (o-pair, q ∷ a ∷ b ∷ [])
+entryRow (e-cell q a) = (o-cell, q ∷ a ∷ [])
+entryRow (e-fn q a b s) = (o-function, q ∷ a ∷ b ∷ s ∷ [])
+entryRow (e-lim q r) = (o-limit, q ∷ r ∷ [])
+entryRow (e-grant q r) = (o-grant, q ∷ r ∷ [])
+
 -- command byte, key, first and second part
 abbrev pub typeBits : ℕ → ℕ → ℕ → ℕ → ℕ
 typeBits byte q a b = byte + 256 * q + 65536 * a + 4294967296 * b
 
 unfoldable pub typeWord : TypeEntry → ℕ
-typeWord (e-num q) = typeBits 0x10 q 0 0
-typeWord (e-pair q a b) = typeBits 0x11 q a b
-typeWord (e-cell q a) = typeBits 0x12 q a 0
-typeWord (e-fn q a b s) = typeBits 0x13 q a b
-typeWord (e-lim q r) = typeBits 0x14 q r 0
-typeWord (e-grant q r) = typeBits 0x15 q r 0
+unfolding entryRow form
+typeWord e = typeBits (form (entryRow e .0) .byte) (getD (entryRow e .1) 0 0) (getD (entryRow e .1) 1 0) (getD (entryRow e .1) 2 0)
 
 -- the set of a function's effect stands in a table of its own
 unfoldable pub setWord : TypeEntry → ℕ
-setWord (e-num q) = 0
-setWord (e-pair q a b) = 0
-setWord (e-cell q a) = 0
-setWord (e-fn q a b s) = s
-setWord (e-lim q r) = 0
-setWord (e-grant q r) = 0
+unfolding entryRow
+setWord e = getD (entryRow e .1) 3 0
 
 -- command byte, type, starting number
 unfoldable pub valueWord : HostValue ℕ → ℕ

@@ -13,7 +13,9 @@ use Rattle.order.specs.Bools.{_and_, and-l, and-r, and2}
 use Rattle.order.specs.Sets.{all-of}
 use Rattle.syntax.specs.Commands.{Cmd, c-part, c-sum, c-lim, Op, o-host, o-local, o-number, o-pair, o-cell, o-function, o-limit, o-grant, o-value, o-rights, o-end, operands, Operand, numbers, type, row}
 use Rattle.syntax.specs.Commands.{x-number, x-top, x-variable, x-pair, x-part, x-function, x-apply, x-cell, x-assign, x-read, x-sum, x-test, x-limit, x-grant, x-newkey, x-associate}
-use Rattle.syntax.specs.Reading.{Written, w-cmd, unwritten, written}
+use Rattle.syntax.specs.Types.{TypeEntry, e-num, e-pair, e-cell, e-fn, e-lim, e-grant}
+use Rattle.syntax.specs.Reading.{Written, w-type, w-cmd, unwritten, written}
+use Rattle.syntax.specs.Words.{entryRow}
 
 -- 0x34: part 1 or 2
 unfoldable pub partOf : ℕ → ℕ → Written
@@ -188,3 +190,13 @@ numbers-back x-grant o k h e = raw o refl (firsts-are 2 o h) e
 numbers-back x-newkey o k h e = raw o refl (firsts-are 5 o h) e
 numbers-back x-associate o k h e = raw o refl (firsts-are 2 o h) e
 numbers-back o-end o k h e = absurd (let z : _≡_ {A = ℕ} 0 1 = cc in omega arith)
+
+-- a type entry is written by its command and the numbers of its operands
+pub entry-written : (e : TypeEntry) → (written (entryRow e .0) (entryRow e .1) ≡ w-type e) × (length (entryRow e .1) ≡ length (operands (entryRow e .0)))
+unfolding written entryRow operands
+entry-written (e-num q) = (refl, refl)
+entry-written (e-pair q a b) = (refl, refl)
+entry-written (e-cell q a) = (refl, refl)
+entry-written (e-fn q a b s) = (refl, refl)
+entry-written (e-lim q r) = (refl, refl)
+entry-written (e-grant q r) = (refl, refl)

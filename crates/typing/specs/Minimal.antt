@@ -3,7 +3,7 @@
 use mathlib.Core.Path.{_≡_, refl, ap, _∙_, subst⁻¹}
 use Prim.Native.Nat.{ℕ, zero, suc, _<_}
 use native.Mathlib.Omega.{arith}
-use mathlib.Core.Bool.{Bool, true, false}
+use mathlib.Core.Bool.{Bool, true, false, cond}
 use mathlib.Core.List.{List, [], _∷_, List·Memᴰ, List·Memᴰ·head, List·Memᴰ·tail, Memᴰ·append-left, Memᴰ·append-right}
 use mathlib.Core.Option.{some}
 use lib.ListN.{length, getElem?}
@@ -22,7 +22,7 @@ use Rattle.syntax.specs.Context.{ctx-le, root-lt}
 use Rattle.typing.specs.Subtype.{Sub, s-num, s-pair, s-cell, s-fn, s-lim, s-grant}
 use Rattle.typing.specs.Rules.{Lookup, l-here, l-var, l-name, Has, h-num, h-top, h-var, h-pair, h-part1, h-part2, h-fn, h-app, h-new, h-asg, h-read, h-sum, h-test, h-lim, h-grant, h-newkey, h-assoc, h-sub, HasKeys, k-nil, k-cons}
 use Rattle.typing.specs.SubtypeLaws.{sub-refl, sub-trans, sub-key, sub-rekey, →subTy}
-use Rattle.typing.specs.Least.{Typed, typed, with, wantNum, wantPair, wantCell, wantFn, wantLim, wantGrant, require, isUpper, pick, varType, ofVar, keysAt, typeAt, get, typesTo, typeOf}
+use Rattle.typing.specs.Least.{Typed, typed, with, wantNum, wantPair, wantCell, wantFn, wantLim, wantGrant, require, isUpper, varType, ofVar, keysAt, typeAt, get, typesTo, typeOf}
 use Rattle.typing.specs.Scoped.{ctx-type, fn-type, key-type}
 use Rattle.typing.specs.Filled.{seen, typeOf-is}
 
@@ -108,8 +108,8 @@ module _ (S : Src) (ok : Formed S) (tree : TreeOk S) where
     unfolding typeAt with
     pair-least c h x u k y v = record { ty = _; eff = _; got = rw (c, h, k) at fix; sub = s-pair here x y; under = red (jn u v) }
 
-    part-least : {a q : ℕ} {P A B : Ty} {s₀ s : Effect} (i : Bool) → nth (S .cmds) e ≡ c-part a i → pre e a ≡ typed P s₀ → Sub up P (pair q A B) → EffBelow up s₀ s → Least S e (pick i A B) (touch q s)
-    unfolding typeAt with wantPair pick onPair byType
+    part-least : {a q : ℕ} {P A B : Ty} {s₀ s : Effect} (i : Bool) → nth (S .cmds) e ≡ c-part a i → pre e a ≡ typed P s₀ → Sub up P (pair q A B) → EffBelow up s₀ s → Least S e (cond i A B) (touch q s)
+    unfolding typeAt with wantPair onPair byType
     part-least true c h (s-pair r x y) u = record { ty = _; eff = _; got = rw (c, h) at fix; sub = x; under = red (tch r u) }
     part-least false c h (s-pair r x y) u = record { ty = _; eff = _; got = rw (c, h) at fix; sub = y; under = red (tch r u) }
 
@@ -211,7 +211,7 @@ module _ (S : Src) (ok : Formed S) (tree : TreeOk S) where
   least-keys l c ih (k-cons x ks) g i = let z = ih _ (below _ c (i _ hd)) _ _ _ x g in key-least (as-lim (saw _ l c (i _ hd) (z .got)) (z .sub)) (z .under) (least-keys l c ih ks g (λ a m. i a (List·Memᴰ·tail m)))
 
   at : {Γ : List Entry} {e : ℕ} {T : Ty} {t : Effect} → e < length (S .cmds) → IH e → Has S Γ e T t → Agree Γ → Least S e T t
-  unfolding children plain inner pick
+  unfolding children plain inner
   at l ih (h-num c) g = num-least l c
   at l ih (h-top c) g = top-least l c
   at l ih (h-var {x = x} {T = T} c v) g = var-least l c (g x T v)
