@@ -153,8 +153,7 @@ written op o = cond (allowed (form op .roles) o) (means op o) unwritten
 
 -- the job with one entry more, where the entry meets its conditions
 unfoldable pub given : Bool → Job → Option Job
-given true J = some J
-given false J = none
+given b J = cond b (some J) none
 
 unfoldable pub enter : Written → Job → Option Job
 enter (w-name d) J =

@@ -1,6 +1,6 @@
 -- The least type and effect of each expression: what the checker computes, and refusals 11, 12 and 13.
 use Prim.Native.Nat.{ℕ, zero, suc}
-use mathlib.Core.Bool.{Bool, true, false, cond}
+use mathlib.Core.Bool.{Bool, false, cond}
 use mathlib.Core.List.{List, [], _∷_, _++_}
 use mathlib.Core.Option.{Option, none, some}
 use lib.ListN.{length, getD, getElem?}
@@ -45,8 +45,7 @@ wantGrant T f = onGrant T f (untyped 11)
 
 -- a condition, and the number given where it fails
 unfoldable pub require : ℕ → Bool → Typed → Typed
-require n true t = t
-require n false t = untyped n
+require n b t = cond b t (untyped n)
 
 unfoldable pub isUpper : Option ℕ → ℕ → Bool
 isUpper none u = false
