@@ -10,13 +10,13 @@ ghost use Rattle.semantics.specs.Start.{hostValue};
 ghost use Rattle.names.specs.Ancestors.{namesIn};
 ghost use Rattle.store.specs.Meaning.{keysIn, valueIn};
 ghost use Rattle.store.specs.Words.{upIn, cellIn};
-ghost use Rattle.store.specs.Tables.{Stored, Wrote};
+ghost use Rattle.store.specs.Tables.{Wrote};
 ghost use Rattle.initial.specs.Entries.{keyIn, headOf, NameEntered, NamesEntered, ValueEntered, ValuesEntered, Within};
 ghost use Rattle.initial.specs.Begun.{wordSource, isJob, sourceIn, Begun};
-use store::Key;
 use store::Keys;
 use store::Kind;
 use store::Value;
+use table::Key;
 
 pub struct Started {
     pub keys: [u8; 128],
@@ -34,7 +34,7 @@ fn key_of(of: &[u8; 64], n: usize, q: usize) -> u8
     ensures { λ r. ⌜ r ≡ keyIn (now (of .entry)) n q ⌝ }
 {
     if q < n {
-        return store::at8(of, q);
+        return table::at8(of, q);
     }
     0
 }

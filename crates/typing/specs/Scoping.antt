@@ -25,6 +25,7 @@ use Rattle.syntax.specs.Context.{plain-lt, inner-lt, ctx-le, root-lt, ctx-uses,
 use Rattle.typing.specs.Least.{Typed, typed, varType, keysAt, typeAt, get, typesTo, typeOf}
 use Rattle.typing.specs.Scoped.{lookup-var, absent-of, ctx-type, ctx-var}
 use Rattle.typing.specs.Rules.{Fresh}
+use Rattle.typing.specs.RulesScoped.{ScopedContext}
 use Rattle.typing.specs.Filled.{seen, typeOf-is, typed-ty, typed-eff, of-var, by-with, by-require, by-num, by-pair, by-cell, by-fn, by-lim, by-grant}
 
 -- a type in scope whose sets are reduced
@@ -152,11 +153,14 @@ module _ (S : Src) (ok : Formed S) (tree : TreeOk S) where
       at (inl w) f = bind-good Γ (nth (S .cmds) p) (operand-good d) w
       at (inr w) f = let z = f w in record { scoped = wider-type (λ n m. name-right (binds (nth (S .cmds) p)) Γ m) (z .scoped); reduced = z .reduced }
 
+  ctx-scoped : {e : ℕ} {Γ : List Entry} → Ctx S e Γ → ScopedContext Γ
+  ctx-scoped d = record { each = λ x T l. var-good d (lookup-var l) .scoped }
+
   -- what the rule for a new key needs: the new name is fresh
   pub newkey-fresh : {e x r a b : ℕ} {T : Ty} {Γ : List Entry} → Ctx S e Γ → nth (S .cmds) e ≡ c-newkey x r a b T → Fresh (upOf S) Γ r
   unfolding binds namesOf
   newkey-fresh {e} {r = r} {Γ = Γ} d c = record {
-    types = λ y U l. var-good d (lookup-var l) .scoped;
+    types = ctx-scoped d .each;
     local = above;
     proper = λ z. itself (ok .proper .down r r z);
     absent = absent-of r Γ (λ n m. bound-apart S ok tree own (ctx-names S ok d m));
