@@ -2,7 +2,7 @@
 use mathlib.Core.Path.{_≡_, refl, sym, _∙_, subst}
 use Prim.Native.Nat.{ℕ, zero, suc, _<_}
 use native.Mathlib.Omega.{arith}
-use mathlib.Core.Bool.{Bool, true, false}
+use mathlib.Core.Bool.{Bool, true, false, cond}
 use mathlib.Core.List.{List, [], _∷_, _++_, List·Memᴰ, List·Memᴰ·head, List·Memᴰ·tail, List·Memᴰ·not-nil, Memᴰ·append-left, Memᴰ·append-right}
 use mathlib.Core.Logic.{_⊎_, inl, inr}
 use lib.ListN.{length}
@@ -22,7 +22,7 @@ use Rattle.syntax.specs.TreeFacts.{Ctx, x-root, x-plain, x-inner, TreeOk}
 use Rattle.syntax.specs.Scope.{VarIn, v-here, v-var, varin-cases, varin-mem, name-right, host-mem, host-var, open-cases}
 use Rattle.syntax.specs.ScopeLaws.{zero-scoped, one-scoped, names-type, wider-type, wider-effect, key-scoped, rekey-scoped, pure-scoped, join-scoped, touch-scoped, drop-scoped, reduce-scoped, raise-scoped}
 use Rattle.syntax.specs.Context.{plain-lt, inner-lt, ctx-le, root-lt, ctx-uses, ctx-names, bound-apart, bound-above}
-use Rattle.typing.specs.Least.{Typed, typed, pick, varType, keysAt, typeAt, get, typesTo, typeOf}
+use Rattle.typing.specs.Least.{Typed, typed, varType, keysAt, typeAt, get, typesTo, typeOf}
 use Rattle.typing.specs.Scoped.{lookup-var, absent-of, ctx-type, ctx-var}
 use Rattle.typing.specs.Rules.{Fresh}
 use Rattle.typing.specs.RulesScoped.{ScopedContext}
@@ -68,8 +68,7 @@ module _ {S : Src} {Γ : List Entry} where
   rekey-good : {k : ℕ} {T : Ty} → ScopedName Γ k → GoodTy S Γ T → GoodTy S Γ (rekey k T)
   rekey-good {k} n t = record { scoped = rekey-scoped n (t .scoped); reduced = rekey-reduced k (t .reduced) }
 
-  pick-good : (i : Bool) {A B : Ty} → GoodTy S Γ A → GoodTy S Γ B → GoodTy S Γ (pick i A B)
-  unfolding pick
+  pick-good : (i : Bool) {A B : Ty} → GoodTy S Γ A → GoodTy S Γ B → GoodTy S Γ (cond i A B)
   pick-good true a b = a
   pick-good false a b = b
 
