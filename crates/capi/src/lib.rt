@@ -3,6 +3,7 @@ use machine::Machine;
 use session::Held;
 use start::Told;
 ghost use Rattle.syntax.specs.Words.{codeIn};
+ghost use Rattle.semantics.specs.Calls.{stepsOf};
 ghost use Rattle.machine.specs.View.{seen};
 ghost use Rattle.start.specs.Lent.{jobBefore, jobAfter};
 ghost use Rattle.checker.specs.Lent.{before, after};
@@ -20,7 +21,7 @@ fn go(
     rooms: &mut [u64],
 )
     ensures { λ _. ⌜
-        Goes (codeIn (now (heads .entry)) (now (slots .entry))) (now (calls .entry)) (seen m)
+        Goes (stepsOf (codeIn (now (heads .entry)) (now (slots .entry)))) (now (calls .entry)) (seen m)
         (now (answers .entry)) (now (answers .exit)) (now (rooms .entry)) (now (rooms .exit))
         ⌝ }
 {

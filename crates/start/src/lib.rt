@@ -5,7 +5,7 @@ use machine::Control;
 use machine::Machine;
 use machine::Now;
 use machine::Thread;
-use store::Expr;
+use table::Expr;
 ghost use mathlib.Core.Path.{_≡_};
 ghost use Prim.Native.Nat.{ℕ};
 ghost use Rattle.syntax.specs.Job.{Job, Src};
