@@ -1,5 +1,7 @@
 // Runs recorded cases: standard input, of which 65,536 bytes are read, holds jobs and what another
 // implementation prints for each. Standard output says how many of these answers are the desk's.
+use format::TEXT_BYTES;
+use libc::STDIN_FILENO;
 use libc::STDOUT_FILENO;
 ghost use mathlib.Core.Path.{_≡_};
 ghost use Rattle.output.specs.Lines.{printed};
@@ -66,7 +68,7 @@ fn prints<'a>(job: &'a [u8], answer: &'a [u8]) -> bool
     let text = print::print(job);
     let bytes = text.bytes;
     let n = text.len;
-    if n < 128 {
+    if n < TEXT_BYTES {
         return check::same(&bytes[..n], answer);
     }
     check::same(&bytes, answer)
@@ -116,7 +118,7 @@ fn write(word: &[u8], n: usize) {
 
 fn main() {
     let mut file = [0u8; 65536];
-    let n = io::read_full(0, &mut file);
+    let n = io::read_full(STDIN_FILENO, &mut file);
     let t = count(&file[..n]);
     write(b"agree ", t.agree);
     write(b"differ ", t.differ);

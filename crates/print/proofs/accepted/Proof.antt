@@ -16,31 +16,24 @@ use Rattle.machine.proofs.Machine.run.Reads as run-reads
 use Rattle.table.proofs.at64.Reads as at64-reads
 use Rattle.format.proofs.accepted.Reads as accepted-reads
 
--- src/lib.rt:119:9
 at64-requires : tie.Need-at64-requires
 at64-requires c κs = search needs
 
--- src/lib.rt:120:9
 type-sort-requires : tie.Need-type-sort-requires
 type-sort-requires c κs = search needs
 
--- src/lib.rt:121:9
 accepted-requires : tie.Need-accepted-requires
 accepted-requires c κs = search needs
 
--- src/lib.rt:122:9
 built-requires : tie.Need-built-requires
 built-requires c κs = search needs
 
--- src/lib.rt:123:9
 run-requires : tie.Need-run-requires
 run-requires c κs = search needs
 
--- src/lib.rt:124:5
 ended-requires : tie.Need-ended-requires
 ended-requires c κs = search needs
 
--- src/lib.rt:107:1
 returns : tie.Need-returns
 returns c =
     λ J sets y k. accepted-ran (treeOf (c .before .before .before .before .before .before .before .before .before .before .before .args .types .now) sets (c .before .before .before .before .before .before .before .before .before .before .before .args .i)) (ofWord (c .before .before .before .before .before .before .before .before .before .before .before .args .s))
