@@ -64,14 +64,14 @@ pub begun :
     (names : List ℕ) (n : ℕ) (types values : List ℕ) (m rights cmds : ℕ) (of bound : List ℕ) (r : Started) → n ≤ 62 → m ≤ 64 → r .nbindings ≡ r .nkeys - 2 + m → r .root ≡ predecessor cmds →
     NamesEntered (namesIn names n) (r .keys) of bound (r .nkeys) (n + 2) →
     ValuesEntered (keyIn of (n + 2)) types values m (r .nkeys - 2) bound (r .cells) (r .bindings) (r .ncells) →
-    keysIn (r .on) ≡ setOf (map (keyIn of (n + 2)) (effects.names rights)) → Begun (wordSource names n types values m rights cmds) r
+    keysIn (r .on) ≡ setOf (map (keyIn of (n + 2)) (effects.names (effects.ofWord rights))) → Begun (wordSource names n types values m rights cmds) r
 unfolding wordSource named keyNamed valued namedIn valuedIn root
 begun names n types values m rights cmds of bound r hn hm eb er sn sv so =
     record {
       keys = ap (λ (s : Named). s .keys) all;
       cells = ap (λ (s : Valued). s .cells) held;
       bindings = ap (λ (i : ℕ). listOf linkIn (r .bindings) i) eb ∙ ap (λ (s : Valued). s .bindings) held;
-      on = so ∙ ap (λ (f : ℕ → ℕ). setOf (map f (effects.names rights))) key;
+      on = so ∙ ap (λ (f : ℕ → ℕ). setOf (map f (effects.names (effects.ofWord rights)))) key;
       its-root = er ∙ ap predecessor (sym (length-replicate cmds _));
       few-keys = omega (arith, sn .few);
       few-cells = omega (arith, sv .few);

@@ -34,7 +34,7 @@ use Rattle.initial.specs.Begun.{wordSource, isJob, sourceIn}
 pub record Holds (J : Job) (names : List ℕ) (nnames : ℕ) (types values : List ℕ) (nvalues rights : ℕ) : Type 0 where
   pub all-names : nnames ≡ length (J .names)
   pub all-values : nvalues ≡ length (J .values)
-  pub its-rights : rights ≡ J .rights
+  pub its-rights : effects.ofWord rights ≡ J .rights
   pub name : (i : ℕ) (d : Name) → getElem? (J .names) i ≡ some d → getD names (2 + i) 0 ≡ nameWord d
   pub type : (i : ℕ) (e : TypeEntry) → getElem? (J .types) i ≡ some e → getD types i 0 ≡ typeWord e
   pub value : (i : ℕ) (h : HostValue ℕ) → getElem? (J .values) i ≡ some h → getD values i 0 ≡ valueWord h
@@ -137,7 +137,7 @@ same-start : (S R : Src) → S .names ≡ R .names → S .values ≡ R .values �
 unfolding startOf named keyNamed valued root
 same-start S R a b c d = λ i. starts (a i) (b i) (c i) (d i)
   where
-    starts : List Name → List (HostValue Ty) → ℕ → ℕ → Machine
+    starts : List Name → List (HostValue Ty) → effects.Effect → ℕ → Machine
     starts ns vs rs k =
         let N = addNames ns (record { keys = 0 ∷ 1 ∷ []; of = 0 ∷ 1 ∷ []; bindings = [] }) in
         let W = addValues (λ n. getD (N .of) n 0) 0 vs (record { cells = []; bindings = N .bindings }) in
@@ -168,7 +168,7 @@ module _ {J : Job} (j : JobOk J) {names : List ℕ} {nnames : ℕ} {types values
   held-start = ap (λ (b : Bool). startOf (cond b (wordSource names nnames types values nvalues rights cmds) noJob)) is-job ∙ same-words
 
 -- filled tables hold the job
-pub filled-holds : (J : Job) → JobFits J → (n t v : ℕ) → Holds J (filled n 0 (nameWords J)) (length (J .names)) (filled t 0 (typeWords (J .types))) (filled v 0 (valueWords J)) (length (J .values)) (J .rights)
+pub filled-holds : (J : Job) → JobFits J → (n t v : ℕ) → Holds J (filled n 0 (nameWords J)) (length (J .names)) (filled t 0 (typeWords (J .types))) (filled v 0 (valueWords J)) (length (J .values)) (J .rights .set)
 filled-holds J j n t v =
     record {
       all-names = refl;

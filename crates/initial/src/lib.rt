@@ -197,7 +197,7 @@ fn enter_values(
 // The keys of the names that the rights have.
 fn enabled_keys(of: &[u8; 64], n: usize, nkeys: u16, rights: u64) -> Keys
     requires { ⌜ Within (keyIn (now of) n) nkeys ⌝ }
-    ensures { λ r. ⌜ keysIn r ≡ setOf (map (keyIn (now (of .entry)) n) (effects.names rights)) ⌝ }
+    ensures { λ r. ⌜ keysIn r ≡ setOf (map (keyIn (now (of .entry)) n) (effects.names (effects.ofWord rights))) ⌝ }
 {
     let mut on = Keys(0, 0);
     let mut rest = rights - rights % 2;

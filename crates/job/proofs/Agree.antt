@@ -11,7 +11,7 @@ use borrow.Author.Tests.{ne-eqb, ltb-false}
 use Rattle.order.specs.Bools.{_and_, _or_}
 use Rattle.order.specs.OrderLaws.{Proper}
 use Rattle.order.specs.Sets.{all-of}
-use Rattle.order.specs.Effects.{Effect}
+use Rattle.order.specs.Effects.{Effect, ofWord}
 use Rattle.syntax.specs.Types.{TypeEntry, tree, depth}
 use Rattle.syntax.specs.Commands.{Cmd, c-lim, Op, o-host, o-local, o-number, o-pair, o-cell, o-function, o-limit, o-grant, o-value, o-rights, o-end, opOf, operands, width, sectionOf, fields}
 use Rattle.syntax.specs.Commands.{x-number, x-top, x-variable, x-pair, x-part, x-function, x-apply, x-cell, x-assign, x-read, x-sum, x-test, x-limit, x-grant, x-newkey, x-associate}
@@ -60,7 +60,7 @@ pub record Kept (J : Job) (names types depths : List ℕ) : Type 0 where
   pub deep : (i : ℕ) → i < length (J .types) → getD depths i 0 ≡ depth (tree (J .types) i)
 
 module _ (J : Job) (names types depths : List ℕ) (k : Kept J names types depths) (s : List ℕ) where
-  sets : (x : ℕ) → setOkBy (ancestorsBy (namesIn names (length (J .names)))) (length (J .names)) x ≡ setOk (J .names) x
+  sets : (x : ℕ) → setOkBy (ancestorsBy (namesIn names (length (J .names)))) (length (J .names)) x ≡ setOk (J .names) (ofWord x)
   sets x = ap (λ (l : List Name). setOkBy (ancestorsBy l) (length (J .names)) x) (k .back) ∙ set-ok-by (J .names) (k .proper) (k .few) (ancestors-by (J .names) (k .proper) (k .few)) x
 
   law-o-host : nameEntry (byteOf o-host) s names (length (J .names)) ≡ judgedW (written o-host (fieldsFrom (operands o-host) s 1)) J

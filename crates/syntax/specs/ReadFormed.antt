@@ -13,7 +13,6 @@ use Rattle.order.specs.Bools.{_and_, _or_, and-l, and-r, or-cases, or-l, or-r, 
 use Rattle.order.specs.SetLaws.{all-of→}
 use Rattle.order.specs.OrderLaws.{Proper, proper-two, proper-snoc, getElem?-append, getElem?-lt, length-snoc}
 use Rattle.order.specs.Effects.{Effect, names}
-use Rattle.order.specs.EffectLaws.{name-mem}
 use Rattle.syntax.specs.Types.{Ty, num, pair, cell, fn, lim, grant, TypeEntry, e-num, e-pair, e-cell, e-fn, e-lim, e-grant, entryTree, treeIn, tree, depth, namesIn, byType, onNum, onCell, onGrant, onLim}
 use Rattle.syntax.specs.TypeLaws.{Part, of-pair-1, of-pair-2, of-cell, of-fn-1, of-fn-2, Earlier, tree-entry, tree-kept}
 use Rattle.syntax.specs.Commands.{Cmd, c-num, mapCmd}
@@ -133,7 +132,7 @@ declared-lt ds q e = ltb-true q (2 + length ds) e
 -- a written set has declared names alone
 set-declared : (ds : List Name) (s : Effect) → setOk ds s ≡ true → {n : ℕ} → List·Memᴰ n (names s) → declared ds n ≡ true
 unfolding setOk
-set-declared ds s h m = all-of→ (declared ds) (and-l _ _ h) (name-mem s m .0)
+set-declared ds s h m = all-of→ (declared ds) (and-l _ _ h) m
 
 zero-declared : (ds : List Name) → declared ds 0 ≡ true
 unfolding declared

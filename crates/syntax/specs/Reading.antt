@@ -6,8 +6,8 @@ use mathlib.Core.Option.{Option, none, some}
 use lib.ListN.{length, getD, getElem?, drop, take}
 use lib.Dec.{eqb, ltb, leb}
 use Rattle.order.specs.Bools.{_and_, _or_}
-use Rattle.order.specs.Sets.{members, all-of}
-use Rattle.order.specs.Effects.{Effect, reduced}
+use Rattle.order.specs.Sets.{all-of}
+use Rattle.order.specs.Effects.{Effect, ofWord, pure, names, reduced}
 use Rattle.syntax.specs.Types.{Ty, onNum, onCell, onLim, onGrant, TypeEntry, e-num, e-pair, e-cell, e-fn, e-lim, e-grant, tree, depth}
 use Rattle.syntax.specs.Commands.{Cmd, c-num, c-top, c-var, c-pair, c-part, c-fn, c-app, c-new, c-asg, c-read, c-sum, c-test, c-lim, c-grant, c-newkey, c-assoc}
 use Rattle.syntax.specs.Commands.{Op, o-host, o-local, o-number, o-pair, o-cell, o-function, o-limit, o-grant, o-value, o-rights, o-end, form, allowed, opOf, operands, width, sectionOf, fields}
@@ -63,7 +63,7 @@ localName ds q = leb 2 q and declared ds q and not (hostName ds q)
 
 -- a written set: reduced, of declared names
 unfoldable pub setOk : List Name → Effect → Bool
-setOk ds s = all-of (declared ds) (members s) and reduced (uppers ds) s
+setOk ds s = all-of (declared ds) (names s) and reduced (uppers ds) s
 
 -- 0x01, 0x02: the upper name is not 0 and declared earlier; a host name's is a host name or 1
 unfoldable pub nameOk : List Name → Name → Bool
@@ -95,7 +95,7 @@ hostValueOk ds ts h = ltb (h .ty) (length ts) and hostTypeOk ds (tree ts (h .ty)
 
 -- 0x21: of 1 and host names
 unfoldable pub rightsOk : List Name → Effect → Bool
-rightsOk ds s = setOk ds s and all-of (hostName ds) (members s)
+rightsOk ds s = setOk ds s and all-of (hostName ds) (names s)
 
 -- an expression: operands and types earlier, variables below 64, a bound variable not the host's, a bound name local
 unfoldable pub cmdOk : Job → Cmd ℕ → Bool
@@ -123,11 +123,11 @@ means o-local o = w-name (record { host = false; upper = getD o 0 0 })
 means o-number o = w-type (e-num (getD o 0 0))
 means o-pair o = w-type (e-pair (getD o 0 0) (getD o 1 0) (getD o 2 0))
 means o-cell o = w-type (e-cell (getD o 0 0) (getD o 1 0))
-means o-function o = w-type (e-fn (getD o 0 0) (getD o 1 0) (getD o 2 0) (getD o 3 0))
+means o-function o = w-type (e-fn (getD o 0 0) (getD o 1 0) (getD o 2 0) (ofWord (getD o 3 0)))
 means o-limit o = w-type (e-lim (getD o 0 0) (getD o 1 0))
 means o-grant o = w-type (e-grant (getD o 0 0) (getD o 1 0))
 means o-value o = w-value (record { ty = getD o 0 0; init = getD o 1 0 })
-means o-rights o = w-rights (getD o 0 0)
+means o-rights o = w-rights (ofWord (getD o 0 0))
 means x-number o = w-cmd (c-num (getD o 0 0))
 means x-top o = w-cmd c-top
 means x-variable o = w-cmd (c-var (getD o 0 0))
@@ -234,7 +234,7 @@ readFrom (suc f) pos st (b ∷ s) =
     onOp (opOf b) pos (λ op. onward (command op s st) pos s (λ next. readFrom f (pos + 1 + width op) next (drop (width op) s)))
 
 abbrev pub noJob : Job
-noJob = record { names = []; types = []; values = []; rights = 0; cmds = [] }
+noJob = record { names = []; types = []; values = []; rights = pure; cmds = [] }
 
 unfoldable pub reading : List ℕ → Read
 reading s = readFrom (suc (length s)) 0 (record { section = 0; job = noJob }) s

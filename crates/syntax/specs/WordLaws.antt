@@ -14,7 +14,8 @@ use borrow.Author.Tests.{ltb-true}
 use Rattle.order.specs.Bools.{_and_, and-l, and-r}
 use Rattle.order.specs.Sets.{all-of}
 use Rattle.order.specs.SetLaws.{all-of→, lt-bit, bit-mem}
-use Rattle.order.specs.Effects.{Effect}
+use Rattle.order.specs.Effects.{Effect, ofWord, pure}
+use Rattle.order.specs.EffectLaws.{Within, within-names}
 use Rattle.order.specs.OrderLaws.{getElem?-lt, getElem?-snoc, length-snoc}
 use Rattle.syntax.specs.Types.{TypeEntry, e-num, e-pair, e-cell, e-fn, e-lim, e-grant}
 use Rattle.syntax.specs.Commands.{Cmd, c-num, c-top, c-var, c-pair, c-part, c-fn, c-app, c-new, c-asg, c-read, c-sum, c-test, c-lim, c-grant, c-newkey, c-assoc}
@@ -27,7 +28,7 @@ use Rattle.syntax.specs.Job.{Name, HostValue, Job}
 use Rattle.syntax.specs.Reading.{Refusal, State, declared, localName, setOk, nameOk, partsOk, typeOk, hostValueOk, rightsOk, cmdOk}
 use Rattle.syntax.specs.Reading.{Written, w-name, w-type, w-value, w-rights, w-cmd, w-end, unwritten, written, given, enter, misplaced, full}
 use Rattle.syntax.specs.Reading.{Step, refuse, proceed, finish, settle, command, Read, refused, read, ended, onward, onOp, readFrom, noJob, reading}
-use Rattle.syntax.specs.Words.{valueWord, headBits, headWord, filled, slots, valueWords, headWords, slotWords, decode, codeIn}
+use Rattle.syntax.specs.Words.{nameWord, typeWord, setWord, valueWord, headBits, headWord, filled, placeRoles, slots, nameWords, typeWords, setWords, valueWords, headWords, slotWords, effectWords, decode, codeIn}
 use Rattle.syntax.specs.ReadLaws.{JobOk, built-at, read-ok}
 use Rattle.syntax.specs.ReadFormed.{declared-lt, nth-at, entry-parts, CmdFormed, cmds-formed}
 use Rattle.syntax.specs.WrittenLaws.{partOf, sumOf, limitOf, written-part, written-sum, written-limit, numbersIn, numbersOf}
@@ -49,7 +50,7 @@ pub data TypeFits : TypeEntry → Type 0 where
   t-num : {q : ℕ} → q < 64 → TypeFits (e-num q)
   t-pair : {q a b : ℕ} → q < 64 → a < 256 → b < 256 → TypeFits (e-pair q a b)
   t-cell : {q a : ℕ} → q < 64 → a < 256 → TypeFits (e-cell q a)
-  t-fn : {q a b : ℕ} {s : Effect} → q < 64 → a < 256 → b < 256 → s < 18446744073709551616 → TypeFits (e-fn q a b s)
+  t-fn : {q a b : ℕ} {s : Effect} → q < 64 → a < 256 → b < 256 → Within 64 s → TypeFits (e-fn q a b s)
   t-lim : {q r : ℕ} → q < 64 → r < 64 → TypeFits (e-lim q r)
   t-grant : {q r : ℕ} → q < 64 → r < 64 → TypeFits (e-grant q r)
 
@@ -62,7 +63,7 @@ pub record JobFits (J : Job) : Type 0 where
   pub upper : (i : ℕ) (d : Name) → getElem? (J .names) i ≡ some d → d .upper < 64
   pub types : (i : ℕ) (e : TypeEntry) → getElem? (J .types) i ≡ some e → TypeFits e
   pub values : (i : ℕ) (h : HostValue ℕ) → getElem? (J .values) i ≡ some h → ValueFits h
-  pub rights : J .rights < 18446744073709551616
+  pub rights : Within 64 (J .rights)
   pub cmds : (e : ℕ) → CmdFits (nth (J .cmds) e)
 
 -- Lists filled up
@@ -88,6 +89,15 @@ unfolding filled
 filled-none n = ap (λ (k : ℕ). replicate k 0) (sub-zero n)
 
 -- a store just past what is used is one entry more
+-- an effect is read back from its word
+pub effect-back : (n : ℕ) (l : List Effect) (i : ℕ) → ofWord (getD (filled n 0 (effectWords l)) i 0) ≡ getD l i pure
+effect-back n l i = ap ofWord (filled-at n (effectWords l) i) ∙ at l i
+  where
+    at : (l : List Effect) (i : ℕ) → ofWord (getD (effectWords l) i 0) ≡ getD l i pure
+    at [] i = refl
+    at (s ∷ l) zero = refl
+    at (s ∷ l) (suc i) = at l i
+
 pub filled-set : (n : ℕ) (l : List ℕ) (i x : ℕ) → length l < n → i ≡ length l → set (filled n 0 l) i x ≡ filled n 0 (l ++ (x ∷ []))
 unfolding filled
 filled-set n l i x h e =
@@ -441,9 +451,9 @@ read-slim s J h e = slim-done (slim-from (suc (length s)) 0 (record { section = 
 -- The ranges of a job that is read
 
 -- a set of declared names
-set-lt : (ds : List Name) (s : Effect) → 2 + length ds ≤ 64 → setOk ds s ≡ true → s < 18446744073709551616
+set-lt : (ds : List Name) (s : Effect) → 2 + length ds ≤ 64 → setOk ds s ≡ true → Within 64 s
 unfolding setOk declared
-set-lt ds s h e = lt-bit 64 s (λ i b. omega (arith, ltb-true i (2 + length ds) (all-of→ (λ q. ltb q (2 + length ds)) (and-l _ _ e) (bit-mem s b))))
+set-lt ds s h e = within-names 64 s (omega arith) (λ i m. omega (arith, ltb-true i (2 + length ds) (all-of→ (λ q. ltb q (2 + length ds)) (and-l _ _ e) m)))
 
 name-lt : (ds : List Name) (q : ℕ) → 2 + length ds ≤ 64 → declared ds q ≡ true → q < 64
 name-lt ds q h e = omega (arith, declared-lt ds q e)

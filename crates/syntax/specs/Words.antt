@@ -5,6 +5,7 @@ use mathlib.Core.List.{List, [], _∷_, _++_, map, flatMap}
 use mathlib.Core.Option.{Option, none, some}
 use lib.ListN.{length, replicate, getD, take, drop}
 use lib.Dec.{eqb}
+use Rattle.order.specs.Effects.{Effect, ofWord}
 use Rattle.syntax.specs.Types.{TypeEntry, e-num, e-pair, e-cell, e-fn, e-lim, e-grant}
 use Rattle.syntax.specs.Commands.{Cmd, c-num, Op, o-number, o-pair, o-cell, o-function, o-limit, o-grant, traits, form, row, commands, findOp, opOf}
 use Rattle.syntax.specs.Commands.{Role, r-evaluated, r-entered, r-inside, r-count, r-keys, r-unused, r-variable, r-parameter, r-keypair, r-local, r-type, r-number, r-choice}
@@ -21,7 +22,7 @@ unfoldable pub entryRow : TypeEntry → Op × List ℕ
 entryRow (e-num q) = (o-number, q ∷ [])
 entryRow (e-pair q a b) = (o-pair, q ∷ a ∷ b ∷ [])
 entryRow (e-cell q a) = (o-cell, q ∷ a ∷ [])
-entryRow (e-fn q a b s) = (o-function, q ∷ a ∷ b ∷ s ∷ [])
+entryRow (e-fn q a b s) = (o-function, q ∷ a ∷ b ∷ s .set ∷ [])
 entryRow (e-lim q r) = (o-limit, q ∷ r ∷ [])
 entryRow (e-grant q r) = (o-grant, q ∷ r ∷ [])
 
@@ -84,6 +85,9 @@ typeWords T = map typeWord T
 abbrev pub setWords : List TypeEntry → List ℕ
 setWords T = map setWord T
 
+abbrev pub effectWords : List Effect → List ℕ
+effectWords l = map (λ s. s .set) l
+
 abbrev pub valueWords : Job → List ℕ
 valueWords J = map valueWord (J .values)
 
@@ -140,7 +144,7 @@ entryBits byte q a b s =
     cond (eqb byte 0x10) (some (e-num q))
     (cond (eqb byte 0x11) (some (e-pair q a b))
     (cond (eqb byte 0x12) (some (e-cell q a))
-    (cond (eqb byte 0x13) (some (e-fn q a b s))
+    (cond (eqb byte 0x13) (some (e-fn q a b (ofWord s)))
     (cond (eqb byte 0x14) (some (e-lim q (a % 256)))
     (cond (eqb byte 0x15) (some (e-grant q (a % 256)))
     none)))))

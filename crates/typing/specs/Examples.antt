@@ -3,7 +3,7 @@ use mathlib.Core.Path.{_≡_, refl, subst}
 use native.Mathlib.Omega.{arith}
 use mathlib.Core.Bool.{false}
 use mathlib.Core.List.{List, [], _∷_, List·Memᴰ, List·Memᴰ·head, List·Memᴰ·not-nil}
-use Rattle.order.specs.Effects.{Effect}
+use Rattle.order.specs.Effects.{Effect, pure}
 use Rattle.syntax.specs.Types.{Ty, num, e-num, entryTree, treeIn, tree}
 use Rattle.syntax.specs.Commands.{c-num, c-new, mapCmd}
 use Rattle.syntax.specs.Operands.{nth, typesOf}
@@ -18,7 +18,7 @@ unscoped = record {
   names = record { host = false; upper = 1 } ∷ [];
   types = e-num 2 ∷ [];
   values = [];
-  rights = 0;
+  rights = pure;
   cmds = c-num 0 ∷ c-new 0 0 ∷ [];
 }
 

@@ -7,7 +7,7 @@ use mathlib.Core.List.{List, [], _∷_}
 use mathlib.Core.Option.{Option, none, some}
 use mathlib.Core.Logic.{_↔_}
 use lib.ListN.{length, getD, getElem?, length-map}
-use Rattle.order.specs.Effects.{Effect}
+use Rattle.order.specs.Effects.{Effect, pure}
 use Rattle.syntax.specs.Types.{Ty, tree, TypeEntry, e-num, e-pair, e-cell, e-fn, e-lim, e-grant}
 use Rattle.syntax.specs.Commands.{Cmd, c-num, c-top, c-var, c-pair, c-part, c-fn, c-app, c-new, c-asg, c-read, c-sum, c-test, c-lim, c-grant, c-newkey, c-assoc, mapCmd}
 use Rattle.syntax.specs.Job.{Job, sourceOf}
@@ -106,7 +106,7 @@ grant-fine (some (e-lim q r)) g = wrong-11
 grant-fine (some (e-grant q r)) g = g q r
 
 module _ (O : Ops) (var : ℕ → ℕ) (at : ℕ → Option TypeEntry) (of : ℕ → ℕ) (eff : ℕ → Effect) where
-  keys-fine : (ks : List ℕ) (rs : ℕ) (s : Effect) {f : ℕ → Effect → Result} → ((rs : ℕ) (s : Effect) → Fine (f rs s)) → Fine (keysFrom O var at of eff ks rs s f)
+  keys-fine : (ks : List ℕ) (rs s : Effect) {f : Effect → Effect → Result} → ((rs s : Effect) → Fine (f rs s)) → Fine (keysFrom O var at of eff ks rs s f)
   unfolding keysFrom
   keys-fine [] rs s g = g rs s
   keys-fine (a ∷ ks) rs s g = lim-fine (at (of a)) (λ q r. keys-fine ks _ _ g)
@@ -125,7 +125,7 @@ module _ (O : Ops) (var : ℕ → ℕ) (at : ℕ → Option TypeEntry) (of : ℕ
   result-fine (c-read a) = cell-fine (at (of a)) (λ q t. f-points _ _)
   result-fine (c-sum i a b) = num-fine (at (of a)) (λ p. num-fine (at (of b)) (λ q. f-makes _ _))
   result-fine (c-test a b c t) = num-fine (at (of a)) (λ q. need-12 _ (need-12 _ (f-points _ _)))
-  result-fine (c-lim ks b) = keys-fine ks 0 _ (λ rs s. need-13 _ (f-points _ _))
+  result-fine (c-lim ks b) = keys-fine ks pure _ (λ rs s. need-13 _ (f-points _ _))
   result-fine (c-grant a b) = grant-fine (at (of a)) (λ q r. f-points _ _)
   result-fine (c-newkey v r a b t) = lim-fine (at (of a)) (λ q u. need-11 _ (need-12 _ (f-points _ _)))
   result-fine (c-assoc a b) = lim-fine (at (of b)) (λ q r. f-makes _ _)
@@ -139,7 +139,7 @@ data Halts (k : ℕ) : Whole → Type 0 where
 halts : (O : Ops) (var : ℕ → ℕ) (e : ℕ) (l : List (Cmd ℕ)) (σ : Sofar) (k : ℕ) → e + length l ≤ k → Halts k (numberAll O var e l σ)
 unfolding numberAll numberAt settle onto
 halts O var e [] σ k h = h-whole σ
-halts O var e (c ∷ l) σ k h = go (result-fine O var (getElem? (σ .entries)) (λ a. getD (σ .of) a 0) (λ a. getD (σ .effects) a 0) c) (λ τ. halts O var (suc e) l τ k (omega arith))
+halts O var e (c ∷ l) σ k h = go (result-fine O var (getElem? (σ .entries)) (λ a. getD (σ .of) a 0) (λ a. getD (σ .effects) a pure) c) (λ τ. halts O var (suc e) l τ k (omega arith))
   where
     go : {r : Result} → Fine r → ((τ : Sofar) → Halts k (numberAll O var (suc e) l τ)) → Halts k (onto (settle σ r) e (λ τ. numberAll O var (suc e) l τ))
     go (f-makes x s) g = g _

@@ -9,7 +9,7 @@ use lib.ListN.{length}
 use Rattle.order.specs.OrderLaws.{getElem?-mem}
 use Rattle.order.specs.Sets.{membersFrom, members, all-of}
 use Rattle.order.specs.Effects.{Effect, pure, touch, join, reduced, reduce}
-use Rattle.order.specs.EffectLaws.{reduce-reduced}
+use Rattle.order.specs.EffectLaws.{pure-reduced, reduce-reduced}
 use Rattle.syntax.specs.Types.{Ty, num, pair, cell, fn, lim, keyOf, rekey}
 use Rattle.syntax.specs.Commands.{Cmd, c-num, c-top, c-var, c-pair, c-part, c-fn, c-app, c-new, c-asg, c-read, c-sum, c-test, c-lim, c-grant, c-newkey, c-assoc}
 use Rattle.syntax.specs.Operands.{nth, plain, inner, typesOf}
@@ -97,8 +97,7 @@ module _ {S : Src} {Γ : List Entry} where
   good {s = s} t p = record { ty = t; eff = reduce-scoped (upOf S) p; red = reduce-reduced (upOf S) s }
 
   good-pure : {T : Ty} → GoodTy S Γ T → Good S Γ T pure
-  unfolding reduced all-of members membersFrom
-  good-pure t = record { ty = t; eff = pure-scoped; red = refl }
+  good-pure t = record { ty = t; eff = pure-scoped; red = pure-reduced (upOf S) }
 
   same : {A T : Ty} {s t : Effect} → typed A s ≡ typed T t → Good S Γ A s → Good S Γ T t
   same {T = T} {s = s} h d = subst (λ u. Good S Γ T u) (typed-eff h) (subst (λ U. Good S Γ U s) (typed-ty h) d)

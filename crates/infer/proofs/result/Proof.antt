@@ -1,6 +1,7 @@
 use native.Mathlib.Omega.{arith}
 use borrow.Author.Tests.{ne-eqb}
 use borrow.Author.Needs.{needs}
+use Rattle.order.specs.Effects.{ofWord}
 use Rattle.typing.specs.Numbered.{resultAt, fits}
 use Rattle.syntax.specs.Words.{codeIn, decode, entryIn}
 use Rattle.syntax.specs.DecodeLaws.{decodeBy, decode-is}
@@ -96,7 +97,7 @@ limit-requires c κs = search needs
 
 returns-8 : tie.Need-returns-8
 unfolding resultAt codeIn decode
-returns-8 c = (simp (← (c .before .before .before .before .at64 .ensures), (c .before .before .match .keys8), (c .limit .ensures), (c .before .lead2 .ensures)) (keys-any (c .before .before .before .before .before .before .before .before .before .before .before .before .before .args .anc .now) (c .before .before .before .before .before .before .before .before .before .before .before .before .before .args .names .now) (λ v. getD (c .before .before .before .before .before .before .before .before .before .before .before .before .before .args .vars .now) v 0) (entryIn (c .before .before .before .before .before .before .before .before .before .before .before .before .before .args .types .now) (c .before .before .before .before .before .before .before .before .before .before .before .before .before .args .sets .now)) (λ a. getD (c .before .before .before .before .before .before .before .before .before .before .before .before .before .args .entries .now) a 0) (λ a. getD (c .before .before .before .before .before .before .before .before .before .before .before .before .before .args .effects .now) a 0) _ _ _ _), c .before .before .before .before .before .before .before .before .before .before .before .before .before .pre)
+returns-8 c = (simp (← (c .before .before .before .before .at64 .ensures), (c .before .before .match .keys8), (c .limit .ensures), (c .before .lead2 .ensures)) (keys-any (c .before .before .before .before .before .before .before .before .before .before .before .before .before .args .anc .now) (c .before .before .before .before .before .before .before .before .before .before .before .before .before .args .names .now) (λ v. getD (c .before .before .before .before .before .before .before .before .before .before .before .before .before .args .vars .now) v 0) (entryIn (c .before .before .before .before .before .before .before .before .before .before .before .before .before .args .types .now) (c .before .before .before .before .before .before .before .before .before .before .before .before .before .args .sets .now)) (λ a. getD (c .before .before .before .before .before .before .before .before .before .before .before .before .before .args .entries .now) a 0) (λ a. ofWord (getD (c .before .before .before .before .before .before .before .before .before .before .before .before .before .args .effects .now) a 0)) _ _ _ _), c .before .before .before .before .before .before .before .before .before .before .before .before .before .pre)
 
 two-requires : tie.Need-two-requires
 two-requires c κs = search needs
