@@ -3,11 +3,11 @@
 use Prim.Native.Nat.{ℕ, suc}
 use mathlib.Core.Bool.{Bool, true, false, cond}
 use mathlib.Core.List.{List, [], _∷_, _++_}
-use mathlib.Core.Option.{Option, none, some}
+use mathlib.Core.Option.{Option}
 use lib.ListN.{length, getD, getElem?}
 use Rattle.order.specs.Order.{below}
 use Rattle.order.specs.Effects.{Effect, pure, touch, join, drop, raise, reduce, effBelow}
-use Rattle.syntax.specs.Types.{TypeEntry, e-num, e-pair, e-cell, e-fn, e-lim, e-grant, byEntry}
+use Rattle.syntax.specs.Types.{TypeEntry, e-num, e-pair, e-cell, e-fn, e-lim, byEntry}
 use Rattle.syntax.specs.Commands.{Cmd, c-num, c-top, c-var, c-pair, c-part, c-fn, c-app, c-new, c-asg, c-read, c-sum, c-test, c-lim, c-grant, c-newkey, c-assoc}
 use Rattle.syntax.specs.Job.{Job}
 use Rattle.syntax.specs.Reading.{Refusal, most-depth}
@@ -78,13 +78,8 @@ need n false r = wrong n
 
 -- the key of an entry
 unfoldable pub keyIn : Option TypeEntry → ℕ
-keyIn none = 0
-keyIn (some (e-num q)) = q
-keyIn (some (e-pair q a b)) = q
-keyIn (some (e-cell q a)) = q
-keyIn (some (e-fn q a b s)) = q
-keyIn (some (e-lim q r)) = q
-keyIn (some (e-grant q r)) = q
+unfolding byEntry
+keyIn o = byEntry 0 (λ q. q) (λ q a b. q) (λ q a. q) (λ q a b s. q) (λ q r. q) (λ q r. q) o
 
 -- var: the entry of each variable; at: the entries; of, eff: the entry and the effect of each expression so far
 module _ (O : Ops) (var : ℕ → ℕ) (at : ℕ → Option TypeEntry) (of : ℕ → ℕ) (eff : ℕ → Effect) where
