@@ -17,8 +17,9 @@ use Rattle.syntax.specs.Commands.{Cmd, c-lim, Op, o-host, o-local, o-number, o-
 use Rattle.syntax.specs.Commands.{x-number, x-top, x-variable, x-pair, x-part, x-function, x-apply, x-cell, x-assign, x-read, x-sum, x-test, x-limit, x-grant, x-newkey, x-associate}
 use Rattle.syntax.specs.Job.{Name, HostValue, Job, uppers}
 use Rattle.syntax.specs.Words.{nameWord, typeWord, filled, slots}
-use Rattle.syntax.specs.Reading.{State, declared, hostName, nameOk, typeOk, hostValueOk, setOk, rightsOk, cmdOk, Written, w-name, w-type, w-value, w-rights, w-cmd, w-end, unwritten, partOf, sumOf, limitOf, written, given, enter, misplaced, full}
+use Rattle.syntax.specs.Reading.{State, declared, hostName, nameOk, typeOk, hostValueOk, setOk, rightsOk, cmdOk, Written, w-name, w-type, w-value, w-rights, w-cmd, w-end, unwritten, written, given, enter, misplaced, full}
 use Rattle.syntax.specs.Reading.{Step, refuse, proceed, finish, settle, command}
+use Rattle.syntax.specs.WrittenLaws.{partOf, sumOf, limitOf, written-part, written-sum, written-limit}
 use Rattle.syntax.specs.ReadLaws.{TypesOk, Wrote, wrote-name, wrote-type, wrote-value, wrote-rights, wrote-cmd, wrote-end, wrote-none, wrote}
 use Rattle.names.specs.Ancestors.{namesIn, declaredOf, ancestorsBy, setOkBy}
 use Rattle.names.specs.Laws.{set-ok-by, rights-ok-by}
@@ -146,15 +147,15 @@ five-places x-number l = refl
 five-places x-top l = refl
 five-places x-variable l = refl
 five-places x-pair l = refl
-five-places x-part l = if-places (eqb (getD l 1 0) 1) _ _ refl (if-places (eqb (getD l 1 0) 2) _ _ refl refl)
+five-places x-part l = ap places (written-part l) ∙ if-places (eqb (getD l 1 0) 1) _ _ refl (if-places (eqb (getD l 1 0) 2) _ _ refl refl)
 five-places x-function l = refl
 five-places x-apply l = refl
 five-places x-cell l = refl
 five-places x-assign l = refl
 five-places x-read l = refl
-five-places x-sum l = if-places (eqb (getD l 0 0) 0) _ _ refl (if-places (eqb (getD l 0 0) 1) _ _ refl refl)
+five-places x-sum l = ap places (written-sum l) ∙ if-places (eqb (getD l 0 0) 0) _ _ refl (if-places (eqb (getD l 0 0) 1) _ _ refl refl)
 five-places x-test l = refl
-five-places x-limit l = if-places (leb (getD l 0 0) 4 and all-of (λ e. eqb e 0xFFFF) (drop (getD l 0 0) (take 4 (drop 1 l)))) (c-lim (take (getD l 0 0) (take 4 (drop 1 l))) (getD l 5 0)) unwritten (limit-places (getD l 0 0) (drop 1 l) (getD l 5 0)) refl
+five-places x-limit l = ap places (written-limit l) ∙ if-places (leb (getD l 0 0) 4 and all-of (λ e. eqb e 0xFFFF) (drop (getD l 0 0) (take 4 (drop 1 l)))) (c-lim (take (getD l 0 0) (take 4 (drop 1 l))) (getD l 5 0)) unwritten (limit-places (getD l 0 0) (drop 1 l) (getD l 5 0)) refl
 five-places x-grant l = refl
 five-places x-newkey l = refl
 five-places x-associate l = refl

@@ -1,6 +1,6 @@
 -- What the bytes of a command come to.
 use Prim.Native.Nat.{ℕ, zero, suc, _+_, _*_, _/_, _%_, _<_, _≤_}
-use mathlib.Core.Path.{_≡_, refl, sym, _∙_, ap}
+use mathlib.Core.Path.{_≡_, refl, sym, _∙_, ap, subst⁻¹}
 use mathlib.Core.Bool.{Bool, true, false, cond}
 use mathlib.Core.List.{List, [], _∷_, _++_}
 use mathlib.Core.Option.{none, some}
@@ -11,6 +11,7 @@ use lib.ListN.{take, getD, getElem?}
 use Rattle.syntax.specs.Commands.{Cmd, c-num, c-top, c-var, c-pair, c-part, c-fn, c-app, c-new, c-asg, c-read, c-sum, c-test, c-lim, c-grant, c-newkey, c-assoc}
 use Rattle.syntax.specs.Operands.{evaluated}
 use Rattle.syntax.specs.Words.{decode, codeIn}
+use Rattle.syntax.specs.DecodeLaws.{decodeBy, decode-is}
 use Rattle.semantics.specs.Machine.{Value, Machine}
 use Rattle.semantics.specs.Step.{o-stuck, room, touchAll, p-wrong, settle, push, act, enterAt, enterCmd, bare, one, two, limitKeys, keysOf, actLim, actTest}
 use Rattle.semantics.specs.KeyLaws.{narrow-none}
@@ -30,9 +31,10 @@ module _ (P : Cmd ℕ → Type 0) (op x a b c d e : ℕ) where
       (op ≡ 0x39 → P (c-read a)) → (op ≡ 0x3A → P (c-sum (eqb x 0) a b)) → (op ≡ 0x3B → P (c-test a b c d)) →
       (op ≡ 0x3C → P (c-lim (take x (a ∷ b ∷ c ∷ d ∷ [])) e)) → (op ≡ 0x3D → P (c-grant a b)) →
       (op ≡ 0x3E → P (c-newkey (x % 256) (x / 256 % 256) a b c)) → (op ≡ 0x3F → P (c-assoc a b)) → P (c-num x) → P (decode op x a b c d e)
-  unfolding decode
+  unfolding decodeBy
   decode-cases f1 f2 f3 f4 f5 f6 f7 f8 f9 fa fb fc fd fe ff g =
-      by P (eqb op 0x31) _ _ (λ h. f1 (eqb-true op 0x31 h))
+      subst⁻¹ P (decode-is op x a b c d e)
+      (by P (eqb op 0x31) _ _ (λ h. f1 (eqb-true op 0x31 h))
       (by P (eqb op 0x32) _ _ (λ h. f2 (eqb-true op 0x32 h))
       (by P (eqb op 0x33) _ _ (λ h. f3 (eqb-true op 0x33 h))
       (by P (eqb op 0x34) _ _ (λ h. f4 (eqb-true op 0x34 h))
@@ -46,7 +48,7 @@ module _ (P : Cmd ℕ → Type 0) (op x a b c d e : ℕ) where
       (by P (eqb op 0x3C) _ _ (λ h. fc (eqb-true op 0x3C h))
       (by P (eqb op 0x3D) _ _ (λ h. fd (eqb-true op 0x3D h))
       (by P (eqb op 0x3E) _ _ (λ h. fe (eqb-true op 0x3E h))
-      (by P (eqb op 0x3F) _ _ (λ h. ff (eqb-true op 0x3F h)) g))))))))))))))
+      (by P (eqb op 0x3F) _ _ (λ h. ff (eqb-true op 0x3F h)) g)))))))))))))))
 
 cons-nil : {x : ℕ} {t : List ℕ} → x ∷ t ≡ [] → ⊥
 cons-nil p = let z : _≡_ {A = ℕ} 0 1 = cc in omega arith

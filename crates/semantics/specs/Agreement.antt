@@ -4,13 +4,13 @@ use mathlib.Core.Path.{_≡_, refl, sym, _∙_, subst}
 use Prim.Native.Nat.{ℕ}
 use mathlib.Core.Bool.{Bool, true, false, cond, false≢true}
 use mathlib.Core.List.{List, [], _∷_, List·Memᴰ, List·Memᴰ·head, List·Memᴰ·tail}
-use mathlib.Core.Option.{none, some}
+use mathlib.Core.Option.{some}
 use mathlib.Core.Logic.{_≢_, _↔_, _⊎_, inl, inr}
 use lib.ListN.{length, getElem?}
 use Rattle.order.specs.Bools.{_and_}
 use Rattle.order.specs.Effects.{Effect, pure, names, touch, join, drop, raise}
 use Rattle.order.specs.EffectLaws.{name-not-zero, pure-name, touch-name, touch-old, touch-cases, join-left, join-right, join-cases}
-use Rattle.syntax.specs.Types.{Ty, num, pair, cell, fn, lim, grant}
+use Rattle.syntax.specs.Types.{Ty, fn, lim, grant, byType, onNum, onPair, onCell, onFn, onLim, onGrant}
 use Rattle.syntax.specs.Types
 use Rattle.syntax.specs.Commands.{Cmd, c-num, c-top, c-var, c-pair, c-part, c-fn, c-app, c-new, c-asg, c-read, c-sum, c-test, c-lim, c-grant, c-newkey, c-assoc}
 use Rattle.syntax.specs.Operands.{evaluated}
@@ -19,24 +19,15 @@ use Rattle.syntax.specs.Tree.{Entry, e-var, e-name, keyPair}
 use Rattle.typing.specs.Rules.{codeOf, Has, h-num, h-top, h-var, h-pair, h-part1, h-part2, h-fn, h-app, h-new, h-asg, h-read, h-sum, h-test, h-lim, h-grant, h-newkey, h-assoc, h-sub, HasKeys, k-nil, k-cons}
 use Rattle.semantics.specs.Wants.{Want, anything, a-number, a-pair, a-function, a-cell, a-limit, a-grant, read, Use, touches, alike, wantsOf, holds, isTouched}
 
--- a choice for each kind of type: number, pair, function, cell, limit key, grant key
-unfoldable pub byType : Ty → Bool → Bool → Bool → Bool → Bool → Bool → Bool
-byType (num q) a b c d e f = a
-byType (pair q A B) a b c d e f = b
-byType (fn q A B s) a b c d e f = c
-byType (cell q A) a b c d e f = d
-byType (lim q r) a b c d e f = e
-byType (grant q r) a b c d e f = f
-
 -- a type is of the kind wanted
 unfoldable pub suitsType : Want → Ty → Bool
 suitsType anything T = true
-suitsType a-number T = byType T true false false false false false
-suitsType a-pair T = byType T false true false false false false
-suitsType a-function T = byType T false false true false false false
-suitsType a-cell T = byType T false false false true false false
-suitsType a-limit T = byType T false false false false true false
-suitsType a-grant T = byType T false false false false false true
+suitsType a-number T = onNum T (λ q. true) false
+suitsType a-pair T = onPair T (λ q A B. true) false
+suitsType a-function T = onFn T (λ q A B s. true) false
+suitsType a-cell T = onCell T (λ q A. true) false
+suitsType a-limit T = onLim T (λ q r. true) false
+suitsType a-grant T = onGrant T (λ q r. true) false
 
 -- each type suits its place, and there are as many
 unfoldable pub suitTypes : List Use → List Ty → Bool
@@ -218,7 +209,7 @@ record Keyed (S : Src) (Γ : List Entry) (ks : List ℕ) (s : Effect) : Type 0 w
   exactly : Names s (touchedNames (alike (length types) (touches read a-limit)) types) effects pure
 
 keyed : {S : Src} {Γ : List Entry} {ks rs : List ℕ} {s : Effect} → HasKeys S Γ ks rs s → Keyed S Γ ks s
-unfolding suitTypes suitsType byType touchedNames isTouched holds alike _and_ Types.keyOf
+unfolding suitTypes suitsType byType onNum onPair onFn onCell onLim onGrant touchedNames isTouched holds alike _and_ Types.keyOf
 keyed k-nil = record { types = []; effects = []; operands = op-nil; suit = refl; exactly = nothing }
 keyed (k-cons {q = q} {r = r} {s = s} {t = t} h hs) =
     let z = keyed hs in
@@ -226,7 +217,7 @@ keyed (k-cons {q = q} {r = r} {s = s} {t = t} h hs) =
 
 -- the theorem
 pub touched-exactly : {S : Src} {Γ : List Entry} {e : ℕ} {T : Ty} {s : Effect} (h : Has S Γ e T s) → bySub h ≡ false → Ruled S Γ (codeOf S e) s
-unfolding bySub wantsOf evaluated suitTypes suitsType byType touchedNames isTouched holds _and_ Types.keyOf
+unfolding bySub wantsOf evaluated suitTypes suitsType byType onNum onPair onFn onCell onLim onGrant touchedNames isTouched holds _and_ Types.keyOf
 touched-exactly (h-num c) z = rw c (by-act op-nil refl b-num nothing)
 touched-exactly (h-top c) z = rw c (by-act op-nil refl b-top nothing)
 touched-exactly (h-var c l) z = rw c (by-act op-nil refl b-var nothing)

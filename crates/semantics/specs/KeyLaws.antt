@@ -26,7 +26,7 @@ use Rattle.typing.specs.Rules.{h-num}
 use Rattle.semantics.specs.Machine.{k-num, k-fn, k-cell, k-lim, k-grant, Value, b-var, Closure, Frame, enter, hand, Machine, most-bindings}
 use Rattle.semantics.specs.Keys.{enabled, upto, narrow, add}
 use Rattle.semantics.specs.Step
-use Rattle.semantics.specs.Step.{Out, o-step, Plan, room, settle, handing, entering, withCells, withBindings, withFrames, asNum, asFn, asCell, asLim, asGrant, found, bare, one, two, branch, actApp, actAsg, actTest, limitKeys, keysOf, touchAll, actLim, actGrant, act, enterAt, enterCmd, resume, receive, handTo, planOn, plan, step}
+use Rattle.semantics.specs.Step.{Out, o-step, Plan, room, settle, handing, entering, withCells, withBindings, withFrames, asNum, asFn, asCell, asLim, asGrant, found, one, two, branch, actApp, actAsg, actTest, limitKeys, keysOf, touchAll, actLim, actGrant, act, enterAt, enterCmd, resume, receive, handTo, planOn, plan, step}
 use Rattle.semantics.specs.Start.{named, keyNamed, startOf}
 use Rattle.semantics.specs.Enabled.{mem-upto}
 use Rattle.semantics.specs.Begin.{start-ok}
@@ -221,35 +221,35 @@ module _ {T : Type 0} (code : ℕ → Cmd T) where
   unfolding step plan planOn enterCmd enterAt evaluated act actLim limitKeys keysOf settle touchAll Step.touch room
   limit-none m h c = rw (h, c, narrow-none (m .store .keys) (m .thread .on))
 
-  -- 3C: the body is entered with exactly what the limit leaves of the frame's own enabled keys
+  -- 0x3C: the body is entered with exactly what the limit leaves of the frame's own enabled keys
   pub limit-body : {m : Machine} {b : ℕ} {ks js : List ℕ} {vs : List Value} {f : Frame} {fs : List Frame} → Acting m (c-lim ks b) vs f fs → Stand vs js
       → ((v : Value) → List·Memᴰ v vs → enabled (m .store .keys) (f .on) (v .key) ≡ true)
       → step code m ≡ o-step (entering b (f .env) (narrow (m .store .keys) (f .on) js) (withFrames m fs))
   unfolding act actLim settle room
   limit-body {m} {vs = vs} {f = f} {fs = fs} a s h = acting a ∙ ap settle (stand-keys s _) ∙ touch-all (resume f fs m) vs _ h
 
-  -- 3D: with exactly what the frame had and the granted key
+  -- 0x3D: with exactly what the frame had and the granted key
   pub grant-body : {m : Machine} {a b j : ℕ} {v : Value} {f : Frame} {fs : List Frame} → Acting m (c-grant a b) (v ∷ []) f fs → v .kind ≡ k-grant j
       → enabled (m .store .keys) (f .on) (v .key) ≡ true
       → step code m ≡ o-step (entering b (f .env) (add (m .store .keys) j (f .on)) (withFrames m fs))
   unfolding act one actGrant asGrant found settle touchAll Step.touch room
   grant-body a e h = acting a ∙ rw (e, h)
 
-  -- 36: "a call uses the caller's enabled keys", the frame's own, and not those where the function was made
+  -- 0x36: "a call uses the caller's enabled keys", the frame's own, and not those where the function was made
   pub call-body : {m : Machine} {a b i : ℕ} {v w : Value} {c : Closure} {f : Frame} {fs : List Frame} → Acting m (c-app a b) (v ∷ w ∷ []) f fs → v .kind ≡ k-fn i
       → enabled (m .store .keys) (f .on) (v .key) ≡ true → getElem? (m .store .functions) i ≡ some c → length (m .store .bindings) < most-bindings
       → step code m ≡ o-step (entering (c .body) (suc (length (m .store .bindings))) (f .on) (withBindings (withFrames m fs) (m .store .bindings ++ (record { bind = b-var (c .var) w; next = c .env } ∷ []))))
   unfolding act two actApp asFn found settle touchAll Step.touch room
   call-body {m} a e h g r = acting a ∙ rw (e, g, h, lt-ltb (length (m .store .bindings)) most-bindings r)
 
-  -- 38 "hands on the assigned value"
+  -- 0x38 "hands on the assigned value"
   pub assign-hands : {m : Machine} {a b c : ℕ} {v w old : Value} {f : Frame} {fs : List Frame} → Acting m (c-asg a b) (v ∷ w ∷ []) f fs → v .kind ≡ k-cell c
       → enabled (m .store .keys) (f .on) (v .key) ≡ true → getElem? (m .store .cells) c ≡ some old
       → step code m ≡ o-step (handing w (withCells (resume f fs m) (set (m .store .cells) c w)))
   unfolding act two actAsg asCell found settle touchAll Step.touch room
   assign-hands a e h g = acting a ∙ rw (e, g, h)
 
-  -- 3B: the second operand for a number above 0, the third for 0, each with the frame's own enabled keys
+  -- 0x3B: the second operand for a number above 0, the third for 0, each with the frame's own enabled keys
   pub test-above : {m : Machine} {a b c n : ℕ} {t : T} {v : Value} {f : Frame} {fs : List Frame} → Acting m (c-test a b c t) (v ∷ []) f fs → v .kind ≡ k-num (suc n)
       → enabled (m .store .keys) (f .on) (v .key) ≡ true → step code m ≡ o-step (entering b (f .env) (f .on) (withFrames m fs))
   unfolding act one actTest asNum found branch settle touchAll Step.touch room

@@ -45,7 +45,7 @@ unfolding ofVar
 no-variable none h = refl
 no-variable (some T) h = no-number h
 
--- 12 and 13 are not 11
+-- refusals 12 and 13 are not 11
 no-other : {A : Type 0} (n : ℕ) → n ≢ 11 → (b : Bool) {t : Typed} → (t ≡ untyped 11 → A) → require n b t ≡ untyped 11 → A
 unfolding require
 no-other n d true f h = f h
@@ -54,7 +54,7 @@ no-other n d false f h = absurd (d cc)
 no-12 : {A : Type 0} (b : Bool) {t : Typed} → (t ≡ untyped 11 → A) → require 12 b t ≡ untyped 11 → A
 no-12 b f h = no-other 12 (λ z. omega arith) b f h
 
--- 11 by a condition, or past it
+-- refusal 11 by a condition, or past it
 by-condition : {A : Type 0} (b : Bool) {t : Typed} → (t ≡ untyped 11 → A) → (b ≡ false → A) → require 11 b t ≡ untyped 11 → A
 unfolding require
 by-condition true f g h = f h

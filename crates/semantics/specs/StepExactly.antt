@@ -1,6 +1,6 @@
 -- What a step answers, exactly, of every machine: stuck exactly when a kind is wrong or a needed entry is not there, else denied exactly when a touched key is not enabled,
 -- else no room exactly when a place lacks, else it is taken; done exactly when the machine is finished. The conditions are defined apart from the step (`Wants`, `Room`).
-use mathlib.Core.Path.{_≡_, refl, sym, ap, _∙_}
+use mathlib.Core.Path.{_≡_, refl, sym, _∙_}
 use Prim.Native.Nat.{ℕ, suc, _+_}
 use native.Mathlib.Omega.{arith}
 use mathlib.Core.Bool.{Bool, true, false, cond, not, false≢true}
@@ -19,11 +19,12 @@ use Rattle.syntax.specs.Operands
 use Rattle.semantics.specs.Machine.{Kind, k-num, k-pair, k-fn, k-cell, k-lim, k-grant, Value, Frame, Control, enter, hand, Thread, Store, Machine, most-cells, most-keys, most-pairs, most-functions, most-frames, most-bindings}
 use Rattle.semantics.specs.Keys.{enabled}
 use Rattle.semantics.specs.Step
-use Rattle.semantics.specs.Step.{Out, o-step, o-done, o-room, o-stuck, o-denied, Plan, p-done, p-wrong, p-try, room, touchAll, settle, asNum, asPair, asFn, asCell, asLim, asGrant, found, bare, one, two}
+use Rattle.semantics.specs.Step.{Out, o-step, o-done, o-room, o-stuck, o-denied, Plan, p-done, p-wrong, p-try, room, touchAll, settle, onKind, other, asNum, asPair, asFn, asCell, asLim, asGrant, found, bare, one, two}
 use Rattle.semantics.specs.Step.{seek, variable, actPair, actPart, actFn, actApp, actNew, actAsg, actRead, actSum, actTest, limitKeys, keysOf, actLim, actGrant, makeKey, actNewkey, actAssoc}
 use Rattle.semantics.specs.Step.{push, act, enterAt, enterCmd, receive, handTo, planOn, plan, step}
 use Rattle.semantics.specs.Room.{doneAt, isDone, lacking, anyLacking}
 use Rattle.semantics.specs.Wants.{Use, read, write, read-and-write, takes, touches, anything, a-number, a-pair, a-function, a-cell, a-limit, a-grant, alike, wantsOf, holds, isThere, byKind, yes, no, suits, suit, isTouched, touchedIn, acting, toEnter, toReceive, toHand, needsOn, needs, wrong, shut, lacks, Stuck, Denied, NoRoom, Ready}
+use Rattle.semantics.specs.Calls.{Steps, stepsOf}
 
 -- done, wrong, shut and lacking, in this order, against an outcome
 pub data Exact : Bool → Bool → Bool → Bool → Out → Type 0 where
@@ -32,6 +33,10 @@ pub data Exact : Bool → Bool → Bool → Bool → Out → Type 0 where
   ex-denied : {l : Bool} → Exact false false true l o-denied
   ex-room : Exact false false false true o-room
   ex-step : {n : Machine} → Exact false false false false (o-step n)
+
+-- of every machine
+pub record Exactly (K : Steps) : Type 0 where
+  pub at : (m : Machine) → Exact (isDone m) (wrong (K .needs) m) (shut (K .needs) m) (lacks (K .needs) m) (K .step m)
 
 -- the same of a plan over the store s, with the keys that it touches and the set of enabled keys that it touches them with
 pub data ExactPlan (s : Store) (on : ℕ) : Bool → Bool → List ℕ → Bool → Plan → Type 0 where
@@ -97,60 +102,41 @@ unfolding _and_
 whole true h = h
 whole false h = h
 
+-- the list's reader of kinds and the step's, where they choose alike
+alike-read : (k : Kind) (a b c d e f : ℕ → Option ℕ) (g : ℕ → Bool)
+    → byKind k (λ n. holds (a n) g) (λ n. holds (b n) g) (λ n. holds (c n) g) (λ n. holds (d n) g) (λ n. holds (e n) g) (λ n. holds (f n) g) ≡ holds (onKind k a b c d e f) g
+unfolding byKind
+alike-read (k-num n) a b c d e f g = refl
+alike-read (k-pair n) a b c d e f g = refl
+alike-read (k-fn n) a b c d e f g = refl
+alike-read (k-cell n) a b c d e f g = refl
+alike-read (k-lim n) a b c d e f g = refl
+alike-read (k-grant n) a b c d e f g = refl
+
 -- a kind that is wanted, as the step reads it
 is-number : (k : Kind) (s : Store) → suits a-number k s ≡ holds (asNum k) (λ n. true)
-unfolding suits byKind yes no holds asNum
-is-number (k-num n) s = refl
-is-number (k-pair n) s = refl
-is-number (k-fn n) s = refl
-is-number (k-cell n) s = refl
-is-number (k-lim n) s = refl
-is-number (k-grant n) s = refl
+unfolding suits yes no holds asNum
+is-number k s = alike-read k some other other other other other _
 
 is-pair : (k : Kind) (s : Store) → suits a-pair k s ≡ holds (asPair k) (λ i. holds (getElem? (s .pairs) i) (λ t. true))
-unfolding suits byKind no isThere holds asPair
-is-pair (k-num n) s = refl
-is-pair (k-pair n) s = refl
-is-pair (k-fn n) s = refl
-is-pair (k-cell n) s = refl
-is-pair (k-lim n) s = refl
-is-pair (k-grant n) s = refl
+unfolding suits no isThere holds asPair
+is-pair k s = alike-read k other some other other other other _
 
 is-function : (k : Kind) (s : Store) → suits a-function k s ≡ holds (asFn k) (λ i. holds (getElem? (s .functions) i) (λ t. true))
-unfolding suits byKind no isThere holds asFn
-is-function (k-num n) s = refl
-is-function (k-pair n) s = refl
-is-function (k-fn n) s = refl
-is-function (k-cell n) s = refl
-is-function (k-lim n) s = refl
-is-function (k-grant n) s = refl
+unfolding suits no isThere holds asFn
+is-function k s = alike-read k other other some other other other _
 
 is-cell : (k : Kind) (s : Store) → suits a-cell k s ≡ holds (asCell k) (λ i. holds (getElem? (s .cells) i) (λ t. true))
-unfolding suits byKind no isThere holds asCell
-is-cell (k-num n) s = refl
-is-cell (k-pair n) s = refl
-is-cell (k-fn n) s = refl
-is-cell (k-cell n) s = refl
-is-cell (k-lim n) s = refl
-is-cell (k-grant n) s = refl
+unfolding suits no isThere holds asCell
+is-cell k s = alike-read k other other other some other other _
 
 is-limit : (k : Kind) (s : Store) → suits a-limit k s ≡ holds (asLim k) (λ n. true)
-unfolding suits byKind yes no holds asLim
-is-limit (k-num n) s = refl
-is-limit (k-pair n) s = refl
-is-limit (k-fn n) s = refl
-is-limit (k-cell n) s = refl
-is-limit (k-lim n) s = refl
-is-limit (k-grant n) s = refl
+unfolding suits yes no holds asLim
+is-limit k s = alike-read k other other other other some other _
 
 is-grant : (k : Kind) (s : Store) → suits a-grant k s ≡ holds (asGrant k) (λ n. true)
-unfolding suits byKind yes no holds asGrant
-is-grant (k-num n) s = refl
-is-grant (k-pair n) s = refl
-is-grant (k-fn n) s = refl
-is-grant (k-cell n) s = refl
-is-grant (k-lim n) s = refl
-is-grant (k-grant n) s = refl
+unfolding suits yes no holds asGrant
+is-grant k s = alike-read k other other other other other some _
 
 module _ {s : Store} {on : ℕ} {ks : List ℕ} {l : Bool} where
   -- what is wanted is there, and the rest (r) suits
@@ -248,76 +234,76 @@ module _ {T : Type 0} (code : ℕ → Cmd T) where
       at [] = xp-done
       at (f ∷ fs) = receive-exact (getElem? (evaluated (code (f .at))) (suc (length (f .hand)))) f (f .hand ++ (v ∷ [])) fs m
 
-  pub exact : (m : Machine) → Exact (isDone m) (wrong code m) (shut code m) (lacks code m) (step code m)
+  pub exact : Exactly (stepsOf code)
   unfolding isDone wrong shut lacks needs plan step
-  exact m = settle-exact (on-exact (m .thread .control) m)
+  exact = record { at = λ m. settle-exact (on-exact (m .thread .control) m) }
 
 -- Each answer exactly when
 
-stuck-to : {d w x l : Bool} {o : Out} → Exact d w x l o → o ≡ o-stuck → w ≡ true
+pub stuck-to : {d w x l : Bool} {o : Out} → Exact d w x l o → o ≡ o-stuck → w ≡ true
 stuck-to ex-done e = let z : _≡_ {A = ℕ} 0 1 = cc in absurd (omega arith)
 stuck-to ex-stuck e = refl
 stuck-to ex-denied e = let z : _≡_ {A = ℕ} 0 1 = cc in absurd (omega arith)
 stuck-to ex-room e = let z : _≡_ {A = ℕ} 0 1 = cc in absurd (omega arith)
 stuck-to ex-step e = let z : _≡_ {A = ℕ} 0 1 = cc in absurd (omega arith)
 
-stuck-from : {d w x l : Bool} {o : Out} → Exact d w x l o → w ≡ true → o ≡ o-stuck
+pub stuck-from : {d w x l : Bool} {o : Out} → Exact d w x l o → w ≡ true → o ≡ o-stuck
 stuck-from ex-done e = absurd (false≢true e)
 stuck-from ex-stuck e = refl
 stuck-from ex-denied e = absurd (false≢true e)
 stuck-from ex-room e = absurd (false≢true e)
 stuck-from ex-step e = absurd (false≢true e)
 
-denied-to : {d w x l : Bool} {o : Out} → Exact d w x l o → o ≡ o-denied → (w ≡ false) × (x ≡ true)
+pub denied-to : {d w x l : Bool} {o : Out} → Exact d w x l o → o ≡ o-denied → (w ≡ false) × (x ≡ true)
 denied-to ex-done e = let z : _≡_ {A = ℕ} 0 1 = cc in absurd (omega arith)
 denied-to ex-stuck e = let z : _≡_ {A = ℕ} 0 1 = cc in absurd (omega arith)
 denied-to ex-denied e = (refl, refl)
 denied-to ex-room e = let z : _≡_ {A = ℕ} 0 1 = cc in absurd (omega arith)
 denied-to ex-step e = let z : _≡_ {A = ℕ} 0 1 = cc in absurd (omega arith)
 
-denied-from : {d w x l : Bool} {o : Out} → Exact d w x l o → w ≡ false → x ≡ true → o ≡ o-denied
+pub denied-from : {d w x l : Bool} {o : Out} → Exact d w x l o → w ≡ false → x ≡ true → o ≡ o-denied
 denied-from ex-done e f = absurd (false≢true f)
 denied-from ex-stuck e f = absurd (false≢true (sym e))
 denied-from ex-denied e f = refl
 denied-from ex-room e f = absurd (false≢true f)
 denied-from ex-step e f = absurd (false≢true f)
 
-room-to : {d w x l : Bool} {o : Out} → Exact d w x l o → o ≡ o-room → (w ≡ false) × (x ≡ false) × (l ≡ true)
+pub room-to : {d w x l : Bool} {o : Out} → Exact d w x l o → o ≡ o-room → (w ≡ false) × (x ≡ false) × (l ≡ true)
 room-to ex-done e = let z : _≡_ {A = ℕ} 0 1 = cc in absurd (omega arith)
 room-to ex-stuck e = let z : _≡_ {A = ℕ} 0 1 = cc in absurd (omega arith)
 room-to ex-denied e = let z : _≡_ {A = ℕ} 0 1 = cc in absurd (omega arith)
 room-to ex-room e = (refl, refl, refl)
 room-to ex-step e = let z : _≡_ {A = ℕ} 0 1 = cc in absurd (omega arith)
 
-room-from : {d w x l : Bool} {o : Out} → Exact d w x l o → w ≡ false → x ≡ false → l ≡ true → o ≡ o-room
+pub room-from : {d w x l : Bool} {o : Out} → Exact d w x l o → w ≡ false → x ≡ false → l ≡ true → o ≡ o-room
 room-from ex-done e f g = absurd (false≢true g)
 room-from ex-stuck e f g = absurd (false≢true (sym e))
 room-from ex-denied e f g = absurd (false≢true (sym f))
 room-from ex-room e f g = refl
 room-from ex-step e f g = absurd (false≢true g)
 
-taken-to : {d w x l : Bool} {o : Out} {n : Machine} → Exact d w x l o → o ≡ o-step n → (d ≡ false) × (w ≡ false) × (x ≡ false) × (l ≡ false)
+pub taken-to : {d w x l : Bool} {o : Out} {n : Machine} → Exact d w x l o → o ≡ o-step n → (d ≡ false) × (w ≡ false) × (x ≡ false) × (l ≡ false)
 taken-to ex-done e = let z : _≡_ {A = ℕ} 0 1 = cc in absurd (omega arith)
 taken-to ex-stuck e = let z : _≡_ {A = ℕ} 0 1 = cc in absurd (omega arith)
 taken-to ex-denied e = let z : _≡_ {A = ℕ} 0 1 = cc in absurd (omega arith)
 taken-to ex-room e = let z : _≡_ {A = ℕ} 0 1 = cc in absurd (omega arith)
 taken-to ex-step e = (refl, refl, refl, refl)
 
-taken-from : {d w x l : Bool} {o : Out} → Exact d w x l o → d ≡ false → w ≡ false → x ≡ false → l ≡ false → (n : Machine) × (o ≡ o-step n)
+pub taken-from : {d w x l : Bool} {o : Out} → Exact d w x l o → d ≡ false → w ≡ false → x ≡ false → l ≡ false → (n : Machine) × (o ≡ o-step n)
 taken-from ex-done e f g h = absurd (false≢true (sym e))
 taken-from ex-stuck e f g h = absurd (false≢true (sym f))
 taken-from ex-denied e f g h = absurd (false≢true (sym g))
 taken-from ex-room e f g h = absurd (false≢true (sym h))
 taken-from (ex-step {n = n}) e f g h = (n, refl)
 
-done-to : {d w x l : Bool} {o : Out} → Exact d w x l o → o ≡ o-done → d ≡ true
+pub done-to : {d w x l : Bool} {o : Out} → Exact d w x l o → o ≡ o-done → d ≡ true
 done-to ex-done e = refl
 done-to ex-stuck e = let z : _≡_ {A = ℕ} 0 1 = cc in absurd (omega arith)
 done-to ex-denied e = let z : _≡_ {A = ℕ} 0 1 = cc in absurd (omega arith)
 done-to ex-room e = let z : _≡_ {A = ℕ} 0 1 = cc in absurd (omega arith)
 done-to ex-step e = let z : _≡_ {A = ℕ} 0 1 = cc in absurd (omega arith)
 
-done-from : {d w x l : Bool} {o : Out} → Exact d w x l o → d ≡ true → o ≡ o-done
+pub done-from : {d w x l : Bool} {o : Out} → Exact d w x l o → d ≡ true → o ≡ o-done
 done-from ex-done e = refl
 done-from ex-stuck e = absurd (false≢true e)
 done-from ex-denied e = absurd (false≢true e)
@@ -326,16 +312,16 @@ done-from ex-step e = absurd (false≢true e)
 
 module _ {T : Type 0} (code : ℕ → Cmd T) (m : Machine) where
   pub done-exactly : (step code m ≡ o-done) ↔ (isDone m ≡ true)
-  done-exactly = (done-to (exact code m), done-from (exact code m))
+  done-exactly = (done-to (exact code .at m), done-from (exact code .at m))
 
-  pub stuck-exactly : (step code m ≡ o-stuck) ↔ Stuck code m
-  stuck-exactly = (stuck-to (exact code m), stuck-from (exact code m))
+  pub stuck-exactly : (step code m ≡ o-stuck) ↔ Stuck (needs code) m
+  stuck-exactly = (stuck-to (exact code .at m), stuck-from (exact code .at m))
 
-  pub denied-exactly : (step code m ≡ o-denied) ↔ Denied code m
-  denied-exactly = (denied-to (exact code m), λ z. denied-from (exact code m) (z .0) (z .1))
+  pub denied-exactly : (step code m ≡ o-denied) ↔ Denied (needs code) m
+  denied-exactly = (denied-to (exact code .at m), λ z. denied-from (exact code .at m) (z .0) (z .1))
 
-  pub noroom-exactly : (step code m ≡ o-room) ↔ NoRoom code m
-  noroom-exactly = (room-to (exact code m), λ z. room-from (exact code m) (z .0) (z .1) (z .2))
+  pub noroom-exactly : (step code m ≡ o-room) ↔ NoRoom (needs code) m
+  noroom-exactly = (room-to (exact code .at m), λ z. room-from (exact code .at m) (z .0) (z .1) (z .2))
 
-  pub taken-exactly : ((n : Machine) × (step code m ≡ o-step n)) ↔ Ready code m
-  taken-exactly = (λ z. taken-to (exact code m) (z .1), λ z. taken-from (exact code m) (z .0) (z .1) (z .2) (z .3))
+  pub taken-exactly : ((n : Machine) × (step code m ≡ o-step n)) ↔ Ready (needs code) m
+  taken-exactly = (λ z. taken-to (exact code .at m) (z .1), λ z. taken-from (exact code .at m) (z .0) (z .1) (z .2) (z .3))

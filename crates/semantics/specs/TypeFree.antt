@@ -1,16 +1,15 @@
--- The machine never looks at types: with other type operands each step, each run and each list of calls gives the same, and may give the same.
-use mathlib.Core.Path.{_≡_, refl, sym, ap, _∙_}
-use Prim.Native.Nat.{ℕ, zero, suc}
+-- The machine never looks at types: with other type operands each step gives the same and needs the same, and so does all that is made of steps.
+use mathlib.Core.Path.{_≡_, refl, ap, ap₂, fun-ext}
+use Prim.Native.Nat.{ℕ, suc}
 use mathlib.Core.List.{List, [], _∷_, _++_}
 use mathlib.Core.Option.{Option, none, some}
 use lib.ListN.{length, getElem?}
 use Rattle.syntax.specs.Commands.{Cmd, c-num, c-top, c-var, c-pair, c-part, c-fn, c-app, c-new, c-asg, c-read, c-sum, c-test, c-lim, c-grant, c-newkey, c-assoc, mapCmd}
 use Rattle.syntax.specs.Operands.{evaluated, usesVar}
 use Rattle.semantics.specs.Machine.{Value, Frame, Control, enter, hand, Store, Machine}
-use Rattle.semantics.specs.Step.{Out, o-step, o-done, o-room, o-stuck, o-denied, act, enterAt, enterCmd, receive, handTo, planOn, plan, settle, step}
-use Rattle.semantics.specs.Room.{anyLacking}
-use Rattle.semantics.specs.Wants.{wantsOf, acting, toEnter, toReceive, toHand, needsOn, needs, lacks}
-use Rattle.semantics.specs.Calls.{Call, one-step, run-of, Ran, run, call, calls, turn, Takes, no-step, first, Gives, step-taken, step-finished, step-noroom, run-finished, run-spent, run-noroom, AllGive, all-nil, all-cons}
+use Rattle.semantics.specs.Step.{act, enterAt, enterCmd, receive, handTo, planOn, plan, settle, step}
+use Rattle.semantics.specs.Wants.{wantsOf, acting, toEnter, toReceive, toHand, needsOn, needs}
+use Rattle.semantics.specs.Calls.{stepsOf}
 
 module _ {T U : Type 0} (f : T → U) where
   -- what the machine reads of a command is the same with another type operand
@@ -85,44 +84,6 @@ module _ {T U : Type 0} (f : T → U) (code : ℕ → Cmd T) (other : ℕ → Cm
       on (enter e) = rw (same e, untyped f (code e) .operands) (in-at (evaluated (code e)) (code e))
       on (hand v) = give v (m .thread .frames)
 
-  pub lacks-same : (m : Machine) → lacks other m ≡ lacks code m
-  unfolding lacks
-  lacks-same m = ap (λ n. anyLacking (n .places) m) (needs-same m)
-
-  pub run-same : (n c : ℕ) (m : Machine) → run other n c m ≡ run code n c m
-  unfolding run turn
-  run-same zero c m = refl
-  run-same (suc n) c m = rw (step-same m) (at (step code m) (λ t. run-same n (suc c) t))
-    where
-      at : (o : Out) → ((t : Machine) → run other n (suc c) t ≡ run code n (suc c) t) → turn o c m (λ t. run other n (suc c) t) ≡ turn o c m (λ t. run code n (suc c) t)
-      at (o-step t) h = h t
-      at o-done h = refl
-      at o-room h = refl
-      at o-stuck h = refl
-      at o-denied h = refl
-
-  pub call-same : (c : Call) (m : Machine) → call other c m ≡ call code c m
-  unfolding call
-  call-same one-step m = rw (step-same m)
-  call-same (run-of n) m = run-same n 0 m
-
-  pub calls-same : (cs : List Call) (m : Machine) → calls other cs m ≡ calls code cs m
-  unfolding calls
-  calls-same [] m = refl
-  calls-same (c ∷ cs) m = rw (call-same c m) (ap (λ l. call code c m ∷ l) (calls-same cs _))
-
-  takes-same : {n : ℕ} {m t : Machine} → Takes other n m t → Takes code n m t
-  takes-same no-step = no-step
-  takes-same (first e h) = first (sym (step-same _) ∙ e) (takes-same h)
-
-  gives-same : {m : Machine} {c : Call} {r : Ran} → Gives other m c r → Gives code m c r
-  gives-same {m} (step-taken d l e) = step-taken d (sym (lacks-same m) ∙ l) (sym (step-same m) ∙ e)
-  gives-same (step-finished d) = step-finished d
-  gives-same {m} (step-noroom d l) = step-noroom d (sym (lacks-same m) ∙ l)
-  gives-same (run-finished k h d) = run-finished k (takes-same h) d
-  gives-same (run-spent h d) = run-spent (takes-same h) d
-  gives-same (run-noroom {t = t} k h d l) = run-noroom k (takes-same h) d (sym (lacks-same t) ∙ l)
-
-  pub all-same : {cs : List Call} {m : Machine} {l : List Ran} → AllGive other cs m l → AllGive code cs m l
-  all-same all-nil = all-nil
-  all-same (all-cons g h) = all-cons (gives-same g) (all-same h)
+  -- so all that stands above one step is the same
+  pub steps-same : stepsOf other ≡ stepsOf code
+  steps-same = ap₂ (λ s n. record { step = s; needs = n }) (fun-ext step-same) (fun-ext needs-same)

@@ -161,6 +161,7 @@ module _ {T : Type 0} (code : ℕ → Cmd T) where
   unfoldable pub needs : Machine → Needs
   needs m = needsOn (m .thread .control) m
 
+module _ (needs : Machine → Needs) where
   -- a kind is wrong, or an entry that is needed is not there
   unfoldable pub wrong : Machine → Bool
   wrong m = not (needs m .suited)

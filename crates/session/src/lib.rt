@@ -3,6 +3,7 @@ use checker::Verdict;
 use job::Shape;
 use machine::Machine;
 ghost use Rattle.syntax.specs.Words.{codeIn};
+ghost use Rattle.semantics.specs.Calls.{stepsOf};
 ghost use Rattle.machine.specs.View.{seen};
 ghost use Rattle.calls.specs.Made.{Made};
 ghost use Rattle.checker.specs.Lent.{before, after};
@@ -27,7 +28,7 @@ fn answer(
     answers: &mut [u64],
 ) -> Machine
     ensures { λ r. ⌜
-        Made (codeIn (now (heads .entry)) (now (slots .entry))) (now (calls .entry))
+        Made (stepsOf (codeIn (now (heads .entry)) (now (slots .entry)))) (now (calls .entry))
         (builtFrom g (now (names .entry)) (now (types .entry)) (now (values .entry)))
         (now (answers .entry)) (now (answers .exit)) (seen r)
         ⌝ }

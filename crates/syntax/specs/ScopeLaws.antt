@@ -99,7 +99,7 @@ module _ {Γ : List Entry} where
   pub reduce-scoped : (up : List ℕ) {s : Effect} → ScopedEffect Γ s → ScopedEffect Γ (reduce up s)
   reduce-scoped up {s} p = record { each = λ n m. p .each n (reduce-in up s m) }
 
-  -- what is in scope in the body of 3E alone is raised
+  -- what is in scope in the body of 0x3E alone is raised
   pub raise-scoped : (r : ℕ) {u x : ℕ} {T : Ty} {s : Effect} → ScopedName Γ u → ScopedEffect (e-var x T ∷ e-name r ∷ Γ) s → ScopedEffect Γ (raise r u s)
   unfolding namesOf
   raise-scoped r {u} {x} {T} {s} k p = record { each = λ n m. at n (raise-cases r u s m) }

@@ -3,7 +3,7 @@
 use mathlib.Core.Path.{_≡_, refl, ap, _∙_, subst, subst⁻¹}
 use Prim.Native.Nat.{ℕ, zero, suc, _<_}
 use native.Mathlib.Omega.{arith}
-use mathlib.Core.Bool.{Bool, true, false}
+use mathlib.Core.Bool.{Bool, true, false, cond}
 use mathlib.Core.List.{List, [], _∷_, _++_, List·Memᴰ, List·Memᴰ·head, List·Memᴰ·tail, Memᴰ·append-left, Memᴰ·append-right}
 use mathlib.Core.Option.{some}
 use lib.ListN.{length, getElem?}
@@ -22,7 +22,7 @@ use Rattle.syntax.specs.Context.{plain-lt, inner-lt, ctx-le, root-lt}
 use Rattle.typing.specs.Subtype.{Sub, s-num, s-pair, s-cell, s-fn, s-lim, s-grant}
 use Rattle.typing.specs.Rules.{Has, h-num, h-top, h-var, h-pair, h-part1, h-part2, h-fn, h-app, h-new, h-asg, h-read, h-sum, h-test, h-lim, h-grant, h-newkey, h-assoc, h-sub, HasKeys, k-nil, k-cons}
 use Rattle.typing.specs.SubtypeLaws.{sub-refl, sub-trans, sub-key, sub-rekey, →subTy}
-use Rattle.typing.specs.Least.{Typed, typed, with, wantNum, wantPair, wantCell, wantFn, wantLim, wantGrant, require, isUpper, pick, varType, ofVar, keysAt, typeAt, get, typesTo, typeOf}
+use Rattle.typing.specs.Least.{Typed, typed, with, wantNum, wantPair, wantCell, wantFn, wantLim, wantGrant, require, isUpper, varType, ofVar, keysAt, typeAt, get, typesTo, typeOf}
 use Rattle.typing.specs.Scoped.{ctx-type}
 use Rattle.typing.specs.Scoping.{worked-out}
 use Rattle.typing.specs.Filled.{seen, typeOf-is}
@@ -124,8 +124,8 @@ module _ (S : Src) (ok : Formed S) (tree : TreeOk S) where
     unfolding typeAt with
     pair-least c (known h x u ra) (known k y v rb) = record { ty = _; eff = _; got = rw (c, h, k) at fix; sub = s-pair here x y; under = red (jn u v) }
 
-    part-least : {a q : ℕ} {A B : Ty} {s : Effect} (i : Bool) → nth (S .cmds) e ≡ c-part a i → Known e a (pair q A B) s → Least S e (pick i A B) (touch q s)
-    unfolding typeAt with wantPair pick onPair byType
+    part-least : {a q : ℕ} {A B : Ty} {s : Effect} (i : Bool) → nth (S .cmds) e ≡ c-part a i → Known e a (pair q A B) s → Least S e (cond i A B) (touch q s)
+    unfolding typeAt with wantPair onPair byType
     part-least true c (known h (s-pair r x y) u ra) = record { ty = _; eff = _; got = rw (c, h) at fix; sub = x; under = red (tch r u) }
     part-least false c (known h (s-pair r x y) u ra) = record { ty = _; eff = _; got = rw (c, h) at fix; sub = y; under = red (tch r u) }
 
@@ -203,7 +203,7 @@ module _ (S : Src) (ok : Formed S) (tree : TreeOk S) where
     keys c (k-cons x ks) i = key-least (as-lim (of-plain c (i _ hd) x)) (keys c ks (λ a m. i a (List·Memᴰ·tail m)))
 
     at : {T : Ty} {t : Effect} → Has S Γ e T t → Least S e T t
-    unfolding plain inner binds pick
+    unfolding plain inner binds
     at (h-num c) = num-least l c
     at (h-top c) = top-least l c
     at (h-var c v) = var-least l c (ctx-type S ok tree g v)

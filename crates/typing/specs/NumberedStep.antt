@@ -15,7 +15,7 @@ use Rattle.syntax.specs.Commands.{Cmd, c-num, c-top, c-var, c-pair, c-part, c-f
 use Rattle.syntax.specs.Operands.{plain, inner, children, typesOf, usesVar, bindsName}
 use Rattle.syntax.specs.Job.{Src, upOf}
 use Rattle.typing.specs.Subtype.{subTy}
-use Rattle.typing.specs.Least.{Typed, typed, untyped, with, wantNum, wantPair, wantCell, wantFn, wantLim, wantGrant, require, pick, varType, ofVar, keysAt, typeAt}
+use Rattle.typing.specs.Least.{Typed, typed, untyped, with, wantNum, wantPair, wantCell, wantFn, wantLim, wantGrant, require, varType, ofVar, keysAt, typeAt}
 use Rattle.typing.specs.Layout.{rekeyed}
 use Rattle.typing.specs.Numbered.{Ops, Result, makes, points, wrong, needNum, needPair, needCell, needFn, needLim, needGrant, need, keyIn, fits, keysFrom, resultAt}
 use Rattle.typing.specs.NumberedOps.{Agree}
@@ -254,7 +254,7 @@ module _ (S : Src) {O : Ops} (ag : Agree (upOf S) O) (ts : List TypeEntry) {E : 
     pub variable : (x : ℕ) → List·Memᴰ x (usesVar k) → (A : Ty) × (varType S x ≡ some A) × TreeAt E A (var x)
 
   pub matches : (k : Cmd ℕ) → Given k → M (typeAt S tab (mapCmd (tree ts) k)) (resultAt O var (getElem? E) of eff k)
-  unfolding children plain inner typesOf bindsName usesVar mapCmd typeAt resultAt entryTree ofVar pick join
+  unfolding children plain inner typesOf bindsName usesVar mapCmd typeAt resultAt entryTree ofVar join
   matches (c-num n) h = m-new (ok-num zero-low) refl (same-self pure-low)
   matches c-top h = m-new (ok-lim zero-low two) refl (same-self pure-low)
   matches (c-var x) h = at (h .variable x (List·Memᴰ·head refl))
@@ -271,7 +271,7 @@ module _ (S : Src) {O : Ops} (ag : Agree (upOf S) O) (ts : List TypeEntry) {E : 
       by-operand p _ (by-pair (p .low) _ _ (λ q x y hq hx hy.
       m-old (picked i x y hx hy) (same-reduce ag (same-touch ag hq (eff-of p)))))
     where
-      picked : (i : Bool) (x y : ℕ) → x < length E → y < length E → TreeAt E (pick i (tree E x) (tree E y)) (cond i x y)
+      picked : (i : Bool) (x y : ℕ) → x < length E → y < length E → TreeAt E (cond i (tree E x) (tree E y)) (cond i x y)
       picked true x y hx hy = here hx
       picked false x y hx hy = here hy
   matches (c-fn v t b) h =

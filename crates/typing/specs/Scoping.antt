@@ -3,7 +3,7 @@
 use mathlib.Core.Path.{_≡_, refl, sym, _∙_, subst}
 use Prim.Native.Nat.{ℕ, zero, suc, _<_}
 use native.Mathlib.Omega.{arith}
-use mathlib.Core.Bool.{Bool, true, false}
+use mathlib.Core.Bool.{Bool, true, false, cond}
 use mathlib.Core.List.{List, [], _∷_, _++_, List·Memᴰ, List·Memᴰ·head, List·Memᴰ·tail, List·Memᴰ·not-nil, Memᴰ·append-right}
 use mathlib.Core.Logic.{_⊎_, inl, inr}
 use lib.ListN.{length}
@@ -22,7 +22,7 @@ use Rattle.syntax.specs.TreeFacts.{Ctx, x-root, x-plain, x-inner, TreeOk}
 use Rattle.syntax.specs.Scope.{VarIn, v-here, v-var, varin-cases, varin-mem, name-right, host-mem, host-var, open-cases}
 use Rattle.syntax.specs.ScopeLaws.{zero-scoped, names-type, wider-type}
 use Rattle.syntax.specs.Context.{plain-lt, inner-lt, ctx-le, root-lt, ctx-uses, ctx-names, bound-apart, bound-above}
-use Rattle.typing.specs.Least.{Typed, typed, pick, varType, keysAt, typeAt, get, typesTo, typeOf}
+use Rattle.typing.specs.Least.{Typed, typed, varType, keysAt, typeAt, get, typesTo, typeOf}
 use Rattle.typing.specs.Scoped.{lookup-var, absent-of, ctx-type, ctx-var}
 use Rattle.typing.specs.Rules.{Fresh}
 use Rattle.typing.specs.RulesScoped.{ScopedContext}
@@ -112,8 +112,7 @@ module _ {up : List ℕ} where
   rekey-reduced k r-lim = r-lim
   rekey-reduced k r-grant = r-grant
 
-  part-of : {q : ℕ} {A B : Ty} (i : Bool) → ReducedTy up (pair q A B) → ReducedTy up (pick i A B)
-  unfolding pick
+  part-of : {q : ℕ} {A B : Ty} (i : Bool) → ReducedTy up (pair q A B) → ReducedTy up (cond i A B)
   part-of true (r-pair a b) = a
   part-of false (r-pair a b) = b
 
