@@ -1,4 +1,4 @@
--- Numbers written one by one, a verdict in numbers, the room of a machine by the counts of its thread, and the two ways that a run ends.
+-- Numbers written one by one, a verdict in numbers, the room of a machine by its counts, and the two ways that a run ends.
 use mathlib.Core.Path.{_≡_, refl, sym, ap, _∙_, subst}
 use Prim.Native.Nat.{ℕ, _*_, _/_, _<_, _≤_}
 use native.Mathlib.Omega.{arith}
@@ -11,6 +11,7 @@ use Rattle.syntax.specs.Words.{codeIn}
 use Rattle.semantics.specs.Machine.{Machine as Clean}
 use Rattle.semantics.specs.Calls.{calls}
 use Rattle.semantics.specs.Starting.{started, unstarted, JobTables}
+use Rattle.store.specs.declared.Used.{Used}
 use Rattle.store.specs.Tables.{capped}
 use Rattle.store.specs.Words.{cellIn, pairIn, functionIn, linkIn, upIn}
 use Rattle.store.specs.Frames.{frameIn}
@@ -31,24 +32,24 @@ use Rattle.session.specs.Session.{roomFor}
 use Rattle.capi.specs.Checks.{numberFor, outWords}
 use Rattle.capi.specs.Runs.{roomWords, countWords, numberOf, openedWith, openedTables, Goes, Ran, Runs}
 
-pub counted : (t : Thread) (l : List ℕ) {l1 l2 l3 l4 l5 l6 : List ℕ} {a b c d e f : ℕ}
-    → a ≡ capped (t .cells) 256 → b ≡ capped (t .keys) 128 → c ≡ capped (t .pairs) 512 → d ≡ capped (t .functions) 512 → e ≡ capped (t .frames) 256 → f ≡ capped (t .bindings) 1024
-    → l1 ≡ set l 0 a → l2 ≡ set l1 1 b → l3 ≡ set l2 2 c → l4 ≡ set l3 3 d → l5 ≡ set l4 4 e → l6 ≡ set l5 5 f → l6 ≡ over l (countWords t)
+pub counted : (t : Thread) (u : Used) (l : List ℕ) {l1 l2 l3 l4 l5 l6 : List ℕ} {a b c d e f : ℕ}
+    → a ≡ capped (u .cells) 256 → b ≡ capped (u .keys) 128 → c ≡ capped (u .pairs) 512 → d ≡ capped (u .functions) 512 → e ≡ capped (t .frames) 256 → f ≡ capped (u .bindings) 1024
+    → l1 ≡ set l 0 a → l2 ≡ set l1 1 b → l3 ≡ set l2 2 c → l4 ≡ set l3 3 d → l5 ≡ set l4 4 e → l6 ≡ set l5 5 f → l6 ≡ over l (countWords t u)
 unfolding countWords
-counted t l {a = a} {b} {c} {d} {e} {f} ha hb hc hd he hf h1 h2 h3 h4 h5 h6 =
+counted t u l {a = a} {b} {c} {d} {e} {f} ha hb hc hd he hf h1 h2 h3 h4 h5 h6 =
     h6 ∙ ap (λ z. set z 5 f) (h5 ∙ ap (λ z. set z 4 e) (h4 ∙ ap (λ z. set z 3 d) (h3 ∙ ap (λ z. set z 2 c) (h2 ∙ ap (λ z. set z 1 b) h1))))
     ∙ sets-over l (a ∷ b ∷ c ∷ d ∷ e ∷ f ∷ [])
     ∙ (λ i. over l (ha i ∷ hb i ∷ hc i ∷ hd i ∷ he i ∷ hf i ∷ []))
 
-counts-are : (m : Machine) → countWords (m .thread) ≡ roomWords (seen m)
+counts-are : (m : Machine) → countWords (m .thread) (m .used) ≡ roomWords (seen m)
 unfolding countWords roomWords view
 counts-are m =
     sym
     (λ i.
-    list-length cellIn (m .cells) (capped (m .thread .cells) 256) i ∷ list-length upIn (m .keys) (capped (m .thread .keys) 128) i ∷ list-length pairIn (m .pairs) (capped (m .thread .pairs) 512) i
-    ∷ list-length functionIn (m .functions) (capped (m .thread .functions) 512) i ∷ stack-length frameIn (m .frames) (capped (m .thread .frames) 256) i ∷ list-length linkIn (m .bindings) (capped (m .thread .bindings) 1024) i ∷ [])
+    list-length cellIn (m .cells) (capped (m .used .cells) 256) i ∷ list-length upIn (m .keys) (capped (m .used .keys) 128) i ∷ list-length pairIn (m .pairs) (capped (m .used .pairs) 512) i
+    ∷ list-length functionIn (m .functions) (capped (m .used .functions) 512) i ∷ stack-length frameIn (m .frames) (capped (m .thread .frames) 256) i ∷ list-length linkIn (m .bindings) (capped (m .used .bindings) 1024) i ∷ [])
 
-pub goes : {code : ℕ → Cmd ℕ} {words a a' k k' : List ℕ} {m : Clean} (last : Machine) → Made code words m a a' (seen last) → k' ≡ over k (countWords (last .thread)) → Goes code words m a a' k k'
+pub goes : {code : ℕ → Cmd ℕ} {words a a' k k' : List ℕ} {m : Clean} (last : Machine) → Made code words m a a' (seen last) → k' ≡ over k (countWords (last .thread) (last .used)) → Goes code words m a a' k k'
 goes {k = k} last h e = record { last = seen last; made = h; rooms = e ∙ ap (λ (l : List ℕ). over k l) (counts-are last) }
 
 -- answers with room for two words a call, or not

@@ -10,6 +10,7 @@ use Rattle.syntax.specs.Reading.{Refusal}
 use Rattle.semantics.specs.Machine.{Machine as Clean}
 use Rattle.semantics.specs.Calls.{calls}
 use Rattle.semantics.specs.Starting.{Started, started, unstarted, JobTables, startWith, tablesAfterStart}
+use Rattle.store.specs.declared.Used.{Used}
 use Rattle.store.specs.Tables.{capped}
 use Rattle.machine.specs.declared.Thread.{Thread}
 use Rattle.calls.specs.Words.{callsIn, resultWords, lastOf, over}
@@ -20,9 +21,9 @@ use Rattle.session.specs.Session.{roomFor}
 unfoldable pub roomWords : Clean → List ℕ
 roomWords m = length (m .store .cells) ∷ length (m .store .keys) ∷ length (m .store .pairs) ∷ length (m .store .functions) ∷ length (m .thread .frames) ∷ length (m .store .bindings) ∷ []
 
--- the same by the counts of a thread
-unfoldable pub countWords : Thread → List ℕ
-countWords t = capped (t .cells) 256 ∷ capped (t .keys) 128 ∷ capped (t .pairs) 512 ∷ capped (t .functions) 512 ∷ capped (t .frames) 256 ∷ capped (t .bindings) 1024 ∷ []
+-- the same by the counts of a thread and of the store
+unfoldable pub countWords : Thread → Used → List ℕ
+countWords t u = capped (u .cells) 256 ∷ capped (u .keys) 128 ∷ capped (u .pairs) 512 ∷ capped (u .functions) 512 ∷ capped (t .frames) 256 ∷ capped (u .bindings) 1024 ∷ []
 
 -- 0 if there is no refusal
 unfoldable pub numberOf : Started → ℕ

@@ -6,6 +6,7 @@ use machine::Machine;
 use machine::Thread;
 use session::Held;
 use start::Told;
+use store::Used;
 ghost use mathlib.Core.Path.{_≡_};
 ghost use lib.ListN.{set};
 ghost use Rattle.syntax.specs.Words.{codeIn};
@@ -56,15 +57,15 @@ fn in_use(n: u64, most: u64) -> u64
 }
 
 // How much of each kind is in use, as far as there are places to write it.
-fn count(t: Thread, rooms: &mut [u64])
-    ensures { λ _. ⌜ now (rooms .exit) ≡ over (now (rooms .entry)) (countWords t) ⌝ }
+fn count(t: Thread, u: Used, rooms: &mut [u64])
+    ensures { λ _. ⌜ now (rooms .exit) ≡ over (now (rooms .entry)) (countWords t u) ⌝ }
 {
-    let cells = in_use(t.cells, 256);
-    let keys = in_use(t.keys, 128);
-    let pairs = in_use(t.pairs, 512);
-    let functions = in_use(t.functions, 512);
+    let cells = in_use(u.cells, 256);
+    let keys = in_use(u.keys, 128);
+    let pairs = in_use(u.pairs, 512);
+    let functions = in_use(u.functions, 512);
     let frames = in_use(t.frames, 256);
-    let bindings = in_use(t.bindings, 1024);
+    let bindings = in_use(u.bindings, 1024);
     put(rooms, 0, cells);
     put(rooms, 1, keys);
     put(rooms, 2, pairs);
@@ -86,7 +87,8 @@ fn go(
 {
     let last = calls::make_calls(m, heads, slots, calls, answers);
     let t = last.thread;
-    count(t, rooms);
+    let u = last.used;
+    count(t, u, rooms);
 }
 
 // Starts the job and makes the calls, without a check: 0 says that the job is started, and is no verdict on it. Only of a job that

@@ -8,10 +8,11 @@ use store::Kind;
 use store::Value;
 ghost use mathlib.Core.Path.{_≡_};
 ghost use Prim.Native.Nat.{ℕ, _<_};
+ghost use Rattle.store.specs.declared.Used.{Used};
 ghost use Rattle.store.specs.Meaning.{kindIn};
 ghost use Rattle.store.specs.Words.{cellIn};
 ghost use Rattle.store.specs.Tables.{listOf};
-ghost use Rattle.machine.specs.View.{Tables, view, seen};
+ghost use Rattle.machine.specs.View.{Tables, stateOf, view, seen};
 ghost use Rattle.calls.specs.Words.{over};
 ghost use Rattle.capi.specs.Results.{kindNo, payloadOf, cellsFrom, valueWords, cellWords, TwoPut, CellPut};
 
@@ -53,7 +54,7 @@ fn put_two(s: &mut [u64], at: usize, x: u64, y: u64)
 
 // The value of a finished job.
 fn put_value(t: Thread, value: &mut [u64])
-    ensures { λ _. ⌜ ((w : Tables) → now (value .exit) ≡ over (now (value .entry)) (valueWords (view t w))) ⌝ }
+    ensures { λ _. ⌜ ((u : Used) (w : Tables) → now (value .exit) ≡ over (now (value .entry)) (valueWords (view (stateOf t u) w))) ⌝ }
 {
     let n = t.now;
     let c = n.control;
@@ -102,7 +103,8 @@ pub fn hand_over(m: Machine, value: &mut [u64], cells: &mut [u64])
 {
     let t = m.thread;
     put_value(t, value);
-    let used = in_use(t.cells, 256);
+    let u = m.used;
+    let used = in_use(u.cells, 256);
     let table = m.cells;
     put_cells(&table, used, cells);
 }
