@@ -6,10 +6,9 @@ use mathlib.Core.Bool.{Bool, true, false}
 use mathlib.Core.List.{List, [], _∷_, _++_}
 use lib.ListN.{length, set, drop}
 use borrow.Author.Tests.{le-leb, lt-leb}
-use Rattle.syntax.specs.Commands.{Cmd}
 use Rattle.syntax.specs.Words.{codeIn}
 use Rattle.semantics.specs.Machine.{Machine as Clean}
-use Rattle.semantics.specs.Calls.{calls}
+use Rattle.semantics.specs.Calls.{Steps, stepsOf, calls}
 use Rattle.semantics.specs.Starting.{started, unstarted, JobTables}
 use Rattle.store.specs.declared.Used.{Used}
 use Rattle.store.specs.Tables.{capped}
@@ -49,7 +48,7 @@ counts-are m =
     list-length cellIn (m .cells) (capped (m .used .cells) 256) i ∷ list-length upIn (m .keys) (capped (m .used .keys) 128) i ∷ list-length pairIn (m .pairs) (capped (m .used .pairs) 512) i
     ∷ list-length functionIn (m .functions) (capped (m .used .functions) 512) i ∷ stack-length frameIn (m .frames) (capped (m .thread .frames) 256) i ∷ list-length linkIn (m .bindings) (capped (m .used .bindings) 1024) i ∷ [])
 
-pub goes : {code : ℕ → Cmd ℕ} {words a a' k k' : List ℕ} {m : Clean} (last : Machine) → Made code words m a a' (seen last) → k' ≡ over k (countWords (last .thread) (last .used)) → Goes code words m a a' k k'
+pub goes : {K : Steps} {words a a' k k' : List ℕ} {m : Clean} (last : Machine) → Made K words m a a' (seen last) → k' ≡ over k (countWords (last .thread) (last .used)) → Goes K words m a a' k k'
 goes {k = k} last h e = record { last = seen last; made = h; rooms = e ∙ ap (λ (l : List ℕ). over k l) (counts-are last) }
 
 -- answers with room for two words a call, or not
@@ -61,11 +60,11 @@ room-yes : (ws a : List ℕ) → length ws ≤ length a / 2 → roomFor ws a ≡
 unfolding roomFor
 room-yes ws a h = le-leb (2 * length ws) (length a) (omega arith)
 
-all-ran : {code : ℕ → Cmd ℕ} {ws a a' k k' : List ℕ} {m : Clean} → length ws ≤ length a / 2 → Goes code ws m a a' k k' → Ran code ws m a a' k k'
-all-ran {code} {ws} {a} {k = k} {m = m} h g =
-    let l : length (resultWords (calls code (callsIn ws) m)) ≡ 2 * length ws = result-length code ws m in
+all-ran : {K : Steps} {ws a a' k k' : List ℕ} {m : Clean} → length ws ≤ length a / 2 → Goes K ws m a a' k k' → Ran K ws m a a' k k'
+all-ran {K} {ws} {a} {k = k} {m = m} h g =
+    let l : length (resultWords (calls K (callsIn ws) m)) ≡ 2 * length ws = result-length K ws m in
     record {
-      answers = g .made .answers ∙ over-fits a _ (omega (arith, l)) ∙ ap (λ (n : ℕ). resultWords (calls code (callsIn ws) m) ++ drop n a) l;
+      answers = g .made .answers ∙ over-fits a _ (omega (arith, l)) ∙ ap (λ (n : ℕ). resultWords (calls K (callsIn ws) m) ++ drop n a) l;
       rooms = g .rooms ∙ ap (λ (z : Clean). over k (roomWords z)) (g .made .machine);
     }
 
@@ -94,13 +93,13 @@ module _ (bytes ws a : List ℕ) {w x : JobTables} (o : Opened) (to : Starts byt
   tables-are = to .tables ∙ sym (ap (λ (b : Bool). openedTables b w bytes) (room-yes ws a room))
 
   module _ {k k' : List ℕ} where
-    pub runs-started : {a' : List ℕ} → o .told ≡ told.Started → Goes (codeIn (x .heads) (x .slots)) ws (seen (o .machine)) a a' k k' → Runs bytes 0 ws w x a a' k k'
+    pub runs-started : {a' : List ℕ} → o .told ≡ told.Started → Goes (stepsOf (codeIn (x .heads) (x .slots))) ws (seen (o .machine)) a a' k k' → Runs bytes 0 ws w x a a' k k'
     unfolding numberOf
     runs-started {a'} e g =
         record {
           tables = tables-are;
           number = sym (ap numberOf (outcome e));
-          goes = λ m z. let y : seen (o .machine) ≡ m = cc (sym (outcome e) ∙ z) in subst (λ (c : Clean). Ran (codeIn (x .heads) (x .slots)) ws c a a' k k') y (all-ran room g);
+          goes = λ m z. let y : seen (o .machine) ≡ m = cc (sym (outcome e) ∙ z) in subst (λ (c : Clean). Ran (stepsOf (codeIn (x .heads) (x .slots))) ws c a a' k k') y (all-ran room g);
           stops = λ q z. absurd (let y : _≡_ {A = ℕ} 0 1 = cc (sym (outcome e) ∙ z) in omega arith);
         }
 

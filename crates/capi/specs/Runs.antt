@@ -4,11 +4,10 @@ use Prim.Native.Nat.{ℕ, _*_}
 use mathlib.Core.Bool.{Bool, true, false}
 use mathlib.Core.List.{List, [], _∷_, _++_}
 use lib.ListN.{length, set, drop}
-use Rattle.syntax.specs.Commands.{Cmd}
 use Rattle.syntax.specs.Words.{codeIn}
 use Rattle.syntax.specs.Reading.{Refusal}
 use Rattle.semantics.specs.Machine.{Machine as Clean}
-use Rattle.semantics.specs.Calls.{calls}
+use Rattle.semantics.specs.Calls.{Steps, stepsOf, calls}
 use Rattle.semantics.specs.Starting.{Started, started, unstarted, JobTables, startWith, tablesAfterStart}
 use Rattle.store.specs.declared.Used.{Used}
 use Rattle.store.specs.Tables.{capped}
@@ -40,15 +39,15 @@ openedTables true w s = tablesAfterStart w s
 openedTables false w s = w
 
 -- the calls `words` on machine m: a and a' are the answers before and after, k and k' the rooms
-pub record Goes (code : ℕ → Cmd ℕ) (words : List ℕ) (m : Clean) (a a' k k' : List ℕ) : Type 0 where
+pub record Goes (K : Steps) (words : List ℕ) (m : Clean) (a a' k k' : List ℕ) : Type 0 where
   pub last : Clean
-  pub made : Made code words m a a' last
+  pub made : Made K words m a a' last
   pub rooms : k' ≡ over k (roomWords last)
 
 -- the same with all answers written
-pub record Ran (code : ℕ → Cmd ℕ) (words : List ℕ) (m : Clean) (a a' k k' : List ℕ) : Type 0 where
-  pub answers : a' ≡ resultWords (calls code (callsIn words) m) ++ drop (2 * length words) a
-  pub rooms : k' ≡ over k (roomWords (lastOf code (callsIn words) m))
+pub record Ran (K : Steps) (words : List ℕ) (m : Clean) (a a' k k' : List ℕ) : Type 0 where
+  pub answers : a' ≡ resultWords (calls K (callsIn words) m) ++ drop (2 * length words) a
+  pub rooms : k' ≡ over k (roomWords (lastOf K (callsIn words) m))
 
 -- a refusal writes its place and makes no call
 pub record Stops (q : Refusal) (a a' k k' : List ℕ) : Type 0 where
@@ -59,5 +58,5 @@ pub record Stops (q : Refusal) (a a' k k' : List ℕ) : Type 0 where
 pub record Runs (bytes : List ℕ) (r : ℕ) (words : List ℕ) (w x : JobTables) (a a' k k' : List ℕ) : Type 0 where
   pub tables : x ≡ openedTables (roomFor words a) w bytes
   pub number : r ≡ numberOf (openedWith (roomFor words a) w bytes)
-  pub goes : (m : Clean) → openedWith (roomFor words a) w bytes ≡ started m → Ran (codeIn (x .heads) (x .slots)) words m a a' k k'
+  pub goes : (m : Clean) → openedWith (roomFor words a) w bytes ≡ started m → Ran (stepsOf (codeIn (x .heads) (x .slots))) words m a a' k k'
   pub stops : (q : Refusal) → openedWith (roomFor words a) w bytes ≡ unstarted q → Stops q a a' k k'

@@ -10,6 +10,7 @@ use store::Used;
 ghost use mathlib.Core.Path.{_≡_};
 ghost use lib.ListN.{set};
 ghost use Rattle.syntax.specs.Words.{codeIn};
+ghost use Rattle.semantics.specs.Calls.{stepsOf};
 ghost use Rattle.store.specs.Tables.{capped};
 ghost use Rattle.machine.specs.View.{seen};
 ghost use Rattle.calls.specs.Words.{over};
@@ -83,7 +84,7 @@ fn go(
     answers: &mut [u64],
     rooms: &mut [u64],
 )
-    ensures { λ _. ⌜ Goes (codeIn (now (heads .entry)) (now (slots .entry))) (now (calls .entry)) (seen m) (now (answers .entry)) (now (answers .exit)) (now (rooms .entry)) (now (rooms .exit)) ⌝ }
+    ensures { λ _. ⌜ Goes (stepsOf (codeIn (now (heads .entry)) (now (slots .entry)))) (now (calls .entry)) (seen m) (now (answers .entry)) (now (answers .exit)) (now (rooms .entry)) (now (rooms .exit)) ⌝ }
 {
     let last = calls::make_calls(m, heads, slots, calls, answers);
     let t = last.thread;

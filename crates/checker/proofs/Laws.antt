@@ -6,7 +6,7 @@ use mathlib.Core.List.{[], _∷_}
 use types.Run.{OneOf, miss}
 use denote.Enum.Declared.{tagOf}
 use Rattle.order.specs.Bools.{_or_}
-use Rattle.syntax.specs.Tree.{past}
+use Rattle.syntax.specs.Tree.{predecessor}
 use Rattle.elaborate.specs.declared.Passed.{Passed}
 use Rattle.elaborate.specs.declared.Passed.the-variants as passed
 use Rattle.elaborate.proofs.Passed.{the-type as passed-type}
@@ -14,9 +14,9 @@ use Rattle.tree.specs.declared.Answer.{Answer}
 use Rattle.tree.specs.declared.Answer.the-variants as answers
 use Rattle.tree.proofs.Answer.{the-type as answer-type}
 
-pub past-none : (n : ℕ) → n ≡ 0 → 0 ≡ past n
-unfolding past
-past-none n h = ap past (sym h)
+pub predecessor-none : (n : ℕ) → n ≡ 0 → 0 ≡ predecessor n
+unfolding predecessor
+predecessor-none n h = ap predecessor (sym h)
 
 pub is-whole : (a : Passed) → OneOf (0 ∷ []) (tagOf passed-type a) → a ≡ passed.Whole
 is-whole passed.Whole h = refl

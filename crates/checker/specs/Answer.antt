@@ -4,10 +4,11 @@ use Prim.Native.Nat.{ℕ, suc}
 use mathlib.Core.Bool.{false}
 use mathlib.Core.List.{List}
 use lib.ListN.{length, replicate, getD}
+use Rattle.order.specs.Effects.{ofWord}
 use Rattle.syntax.specs.Types.{Ty, treeIn, tree}
 use Rattle.syntax.specs.Job.{Job}
 use Rattle.syntax.specs.Reading.{Read, refused, read, reading}
-use Rattle.syntax.specs.Tree.{past}
+use Rattle.syntax.specs.Tree.{predecessor}
 use Rattle.syntax.specs.Words.{filled, nameWords, typeWords, setWords, valueWords, headWords, slotWords, entryIn}
 use Rattle.syntax.specs.WordLaws.{Bytes}
 use Rattle.typing.specs.Verdict as rules
@@ -31,7 +32,7 @@ treeOf types sets i = treeIn (suc i) (entryIn types sets) i
 
 -- the verdict that an answer stands for, by the type table afterwards and its sets
 unfoldable pub verdictIn : List ℕ → List ℕ → Verdict → rules.Verdict
-verdictIn types sets (Accepted i s) = rules.accept (treeOf types sets i) s
+verdictIn types sets (Accepted i s) = rules.accept (treeOf types sets i) (ofWord s)
 verdictIn types sets (Refused n p) = rules.refuse (record { number = n; place = p })
 
 abbrev pub noShape : Shape
@@ -51,7 +52,7 @@ shapeFor (rules.refuse n) r = noShape
 
 -- the entry of the last of n expressions
 unfoldable pub lastIn : List ℕ → ℕ → ℕ
-lastIn entries n = getD entries (past n) 0
+lastIn entries n = getD entries (predecessor n) 0
 
 -- `check`: the verdict, the tables afterwards, and the counts of an accepted job; the entry that an acceptance names is that of the last expression
 pub record CheckTo (bytes : List ℕ) (r : Checked) (w x : Tables) : Type 0 where
@@ -77,6 +78,6 @@ pub record Given (bytes : List ℕ) (J : Job) (g : Shape) (w : Tables) : Type 0 
 
 -- the answer on such tables, and where it is an acceptance the tables afterwards
 pub data Judged (bytes : List ℕ) (J : Job) : Verdict → Tables → Type 0 where
-  accepted : (k : ℕ) (σ : Sofar) (x : Tables) (i s : ℕ) → numbering (jobOps k J) J ≡ whole σ → Inv J (length (J .cmds)) σ → x ≡ filledFrom J σ x → i ≡ lastEntry J σ → s ≡ lastEffect J σ
-      → rules.verdictOf bytes ≡ rules.accept (tree (σ .entries) i) s → Judged bytes J (Accepted i s) x
+  accepted : (k : ℕ) (σ : Sofar) (x : Tables) (i s : ℕ) → numbering (jobOps k J) J ≡ whole σ → Inv J (length (J .cmds)) σ → x ≡ filledFrom J σ x → i ≡ lastEntry J σ → ofWord s ≡ lastEffect J σ
+      → rules.verdictOf bytes ≡ rules.accept (tree (σ .entries) i) (ofWord s) → Judged bytes J (Accepted i s) x
   refused-by : (n p : ℕ) (x : Tables) → rules.verdictOf bytes ≡ rules.refuse (record { number = n; place = p }) → Judged bytes J (Refused n p) x

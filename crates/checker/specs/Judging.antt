@@ -13,9 +13,10 @@ use Rattle.syntax.specs.Types.{Ty, treeIn, tree}
 use Rattle.syntax.specs.Job.{Job, sourceOf}
 use Rattle.syntax.specs.Reading.{Refusal, Read, refused, read, reading}
 use Rattle.syntax.specs.ReadLaws.{JobOk, read-ok, or-none}
-use Rattle.syntax.specs.Tree.{past, treeRefusal}
-use Rattle.syntax.specs.Words.{filled, nameWords, typeWord, setWord, typeWords, setWords, valueWords, headWords, slotWords}
-use Rattle.syntax.specs.WordLaws.{Bytes, JobFits, job-fits, filled-at, filled-none, filled-length}
+use Rattle.syntax.specs.Tree.{predecessor, treeRefusal}
+use Rattle.order.specs.Effects.{Effect, ofWord}
+use Rattle.syntax.specs.Words.{filled, nameWords, typeWord, setWord, typeWords, setWords, valueWords, headWords, slotWords, effectWords}
+use Rattle.syntax.specs.WordLaws.{Bytes, JobFits, job-fits, filled-at, effect-back, filled-none, filled-length}
 use Rattle.typing.specs.Verdict as rules
 use Rattle.typing.specs.Least.{types}
 use Rattle.typing.specs.Tables.{Tables, most-entries, short, zeros, cleared, effectOf, layoutFor, filledBy, filledRead, keptOn, tablesAfter, verdictWith}
@@ -23,7 +24,7 @@ use Rattle.typing.specs.Numbered.{Sofar, Whole, whole, halted, numbering}
 use Rattle.typing.specs.NumberedLaws.{Inv, Fits, inv-fits}
 use Rattle.typing.specs.NumberedWords.{words-back}
 use Rattle.typing.specs.NumberedVerdict.{lastOf, lastEntry, lastEffect, filledFrom, verdict-refused, verdict-tree, verdict-halted, verdict-beyond, verdict-within, tables-accepted, tables-refused, tables-short}
-use Rattle.names.specs.Ancestors.{namesIn, ancestorsBy, effBelowBy}
+use Rattle.names.specs.Ancestors.{namesIn, ancestorsBy, effBelowBy, effectsBy}
 use Rattle.elaborate.specs.declared.Passed.{Passed}
 use Rattle.elaborate.specs.declared.Passed.the-variants as passed
 use Rattle.elaborate.specs.Pass.{Out, Ended, numberedBy}
@@ -170,13 +171,13 @@ module _ {bytes : List ℕ} {J : Job} {g : Shape} {w : Tables} (given : Given by
         pub types : ts ≡ filled (length (w .types)) 0 (typeWords (σ .entries))
         pub sets : ss ≡ filled (length (w .sets)) 0 (setWords (σ .entries))
         pub entries : os ≡ filled (length (w .entries)) 0 (σ .of)
-        pub effects : es ≡ filled (length (w .effects)) 0 (σ .effects)
+        pub effects : es ≡ filled (length (w .effects)) 0 (effectWords (σ .effects))
 
       whole-is : {o : Out} {x : Whole} → Reached J (length (w .types)) (length (w .sets)) (length (w .entries)) (length (w .effects)) o x → Ended o a ts ss os es → a ≡ passed.Whole → (σ : Sofar) × Came σ x
       whole-is (r-whole σ v) z q = (σ, record { is-whole = refl; state = v; types = z .types; sets = z .sets; entries = z .entries; effects = z .effects })
       whole-is (r-halted m f u) z q = absurd (let y : _≡_ {A = ℕ} 0 1 = cc (z .answer) in omega arith)
 
-      module _ (q : a ≡ passed.Whole) {e s : ℕ} (e-is : e ≡ past (g .cmds)) (s-is : s ≡ getD es e 0) {b : Bool} (b-is : b ≡ effBelowBy anc s (g .rights)) where
+      module _ (q : a ≡ passed.Whole) {e s : ℕ} (e-is : e ≡ predecessor (g .cmds)) (s-is : s ≡ getD es e 0) {b : Bool} (b-is : b ≡ effBelowBy anc s (g .rights)) where
         abbrev σ : Sofar
         σ = whole-is reached after q .0
 
@@ -185,14 +186,14 @@ module _ {bytes : List ℕ} {J : Job} {g : Shape} {w : Tables} (given : Given by
 
         last-is : e ≡ lastOf J
         unfolding shapeOf lastOf
-        last-is = e-is ∙ (λ i. past (given .shape i .cmds))
+        last-is = e-is ∙ (λ i. predecessor (given .shape i .cmds))
 
-        effect-is : s ≡ lastEffect J σ
-        effect-is = s-is ∙ (λ i. getD (came .effects i) (last-is i) 0) ∙ filled-at (length (w .effects)) (σ .effects) (lastOf J)
+        effect-is : ofWord s ≡ lastEffect J σ
+        effect-is = ap ofWord (s-is ∙ (λ i. getD (came .effects i) (last-is i) 0)) ∙ effect-back (length (w .effects)) (σ .effects) (lastOf J)
 
         below-is : jobOps (length (w .names)) J .effBelow (lastEffect J σ) (J .rights) ≡ b
         unfolding jobOps shapeOf
-        below-is = sym (b-is ∙ (λ i. effBelowBy (sym anc-by i) (effect-is i) (given .shape i .rights)))
+        below-is = sym (b-is ∙ (λ i. effectsBy (sym anc-by i) (effect-is i) (ofWord (given .shape i .rights))))
 
         -- 14
         pub typed-beyond : b ≡ false → Judged bytes J (Refused 14 e) left
@@ -209,11 +210,11 @@ module _ {bytes : List ℕ} {J : Job} {g : Shape} {w : Tables} (given : Given by
             let lt : length ts ≡ length (w .types) = ap length (came .types) ∙ filled-length (length (w .types)) (typeWords (σ .entries)) (omega (arith, c .few, long .types, length-map (σ .entries) typeWord)) in
             let ls : length ss ≡ length (w .sets) = ap length (came .sets) ∙ filled-length (length (w .sets)) (setWords (σ .entries)) (omega (arith, c .few, long .sets, length-map (σ .entries) setWord)) in
             let lo : length os ≡ length (w .entries) = ap length (came .entries) ∙ filled-length (length (w .entries)) (σ .of) (omega (arith, came .state .count-of, long .entries, job-ok .few-cmds)) in
-            let le : length es ≡ length (w .effects) = ap length (came .effects) ∙ filled-length (length (w .effects)) (σ .effects) (omega (arith, came .state .count-effects, long .effects, job-ok .few-cmds)) in
+            let le : length es ≡ length (w .effects) = ap length (came .effects) ∙ filled-length (length (w .effects)) (effectWords (σ .effects)) (omega (arith, length-map (σ .effects) (λ (s : Effect). s .set), came .state .count-effects, long .effects, job-ok .few-cmds)) in
             let kt : ts ≡ filled (length ts) 0 (typeWords (σ .entries)) = came .types ∙ (λ i. filled (sym lt i) 0 (typeWords (σ .entries))) in
             let ks : ss ≡ filled (length ss) 0 (setWords (σ .entries)) = came .sets ∙ (λ i. filled (sym ls i) 0 (setWords (σ .entries))) in
             let ko : os ≡ filled (length os) 0 (σ .of) = came .entries ∙ (λ i. filled (sym lo i) 0 (σ .of)) in
-            let ke : es ≡ filled (length es) 0 (σ .effects) = came .effects ∙ (λ i. filled (sym le i) 0 (σ .effects)) in
+            let ke : es ≡ filled (length es) 0 (effectWords (σ .effects)) = came .effects ∙ (λ i. filled (sym le i) 0 (effectWords (σ .effects))) in
             accepted (length (w .names)) σ left t s (came .is-whole) (came .state)
             (λ i. tables (given .names i) (kt i) (ks i) (given .values i) (given .heads i) (given .slots i) (ko i) (ke i)) r effect-is
             (verdict-within (jobOps (length (w .names))) (λ K k. agree (length (w .names)) k) bytes J (given .is-read) σ scoped (came .is-whole) (below-is ∙ f)
@@ -260,7 +261,7 @@ unfolding filledFrom
 from-same J σ w x l =
     λ i.
     tables (filled (l .names i) 0 (nameWords J)) (filled (l .types i) 0 (typeWords (σ .entries))) (filled (l .sets i) 0 (setWords (σ .entries))) (filled (l .values i) 0 (valueWords J)) (filled (l .heads i) 0 (headWords J))
-    (filled (l .slots i) 0 (slotWords J)) (filled (l .entries i) 0 (σ .of)) (filled (l .effects i) 0 (σ .effects))
+    (filled (l .slots i) 0 (slotWords J)) (filled (l .entries i) 0 (σ .of)) (filled (l .effects i) 0 (effectWords (σ .effects)))
 
 short-same : (w x : Tables) → Lengths w x → short w ≡ short x
 unfolding short
@@ -274,7 +275,7 @@ kept-same (rules.accept T e) (refused u) w x l = cleared-same w x l
 kept-same (rules.accept T e) (read J) w x l =
     λ i.
     tables (filled (l .names i) 0 (nameWords J)) (filled (l .types i) 0 (typeWords (layoutFor J .entries))) (filled (l .sets i) 0 (setWords (layoutFor J .entries))) (filled (l .values i) 0 (valueWords J)) (filled (l .heads i) 0 (headWords J))
-    (filled (l .slots i) 0 (slotWords J)) (filled (l .entries i) 0 (layoutFor J .of)) (filled (l .effects i) 0 (map effectOf (types (sourceOf J))))
+    (filled (l .slots i) 0 (slotWords J)) (filled (l .entries i) 0 (layoutFor J .of)) (filled (l .effects i) 0 (effectWords (map effectOf (types (sourceOf J)))))
 kept-same (rules.refuse n) r w x l = cleared-same w x l
 
 -- The answers of the check
@@ -340,7 +341,7 @@ judged-refused (refused-by m o x f) q = f ∙ (λ i. rules.refuse (record { numb
 -- the entry of the last expression stands in the table
 last-entry : (J : Job) (σ : Sofar) (g : Shape) (l : List ℕ) (k : ℕ) → g ≡ shapeOf J → l ≡ filled k 0 (σ .of) → lastEntry J σ ≡ lastIn l (g .cmds)
 unfolding lastIn lastOf shapeOf
-last-entry J σ g l k m n = rw (m, n) (sym (filled-at k (σ .of) (past (length (J .cmds)))))
+last-entry J σ g l k m n = rw (m, n) (sym (filled-at k (σ .of) (predecessor (length (J .cmds)))))
 
 -- an acceptance
 pub accepted-to : {bytes : List ℕ} {J : Job} {v : Verdict} {g : Shape} {w x : Tables} {t u : ℕ} → reading bytes ≡ read J → g ≡ shapeOf J → Lengths w x → short w ≡ false → Judged bytes J v x → v ≡ Accepted t u
@@ -359,14 +360,14 @@ accepted-to {bytes} {J} {g = g} {w} q m l h (accepted k σ x i s a b c d e f) z 
     number (Accepted j o) = j
     number (Refused j o) = 0
 
-    whole-verdict : verdictWith w bytes ≡ rules.accept (tree (σ .entries) i) s
+    whole-verdict : verdictWith w bytes ≡ rules.accept (tree (σ .entries) i) (ofWord s)
     whole-verdict = with-long w bytes h ∙ f
 
-    trees : rules.accept (treeOf (x .types) (x .sets) i) s ≡ rules.accept (tree (σ .entries) i) s
+    trees : rules.accept (treeOf (x .types) (x .sets) i) (ofWord s) ≡ rules.accept (tree (σ .entries) i) (ofWord s)
     trees =
         let n : x .types ≡ filled (length (x .types)) 0 (typeWords (σ .entries)) = unfold filledFrom in ap (λ (y : Tables). y .types) c in
         let o : x .sets ≡ filled (length (x .sets)) 0 (setWords (σ .entries)) = unfold filledFrom in ap (λ (y : Tables). y .sets) c in
-        (λ j. rules.accept (treeOf (n j) (o j) i) s) ∙ ap (λ (T : Ty). rules.accept T s) (tree-is σ (inv-fits (read-ok bytes J q) (omega arith) b) (length (x .types)) (length (x .sets)) i)
+        (λ j. rules.accept (treeOf (n j) (o j) i) (ofWord s)) ∙ ap (λ (T : Ty). rules.accept T (ofWord s)) (tree-is σ (inv-fits (read-ok bytes J q) (omega arith) b) (length (x .types)) (length (x .sets)) i)
 
 -- Reading, then the rest
 

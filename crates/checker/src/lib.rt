@@ -10,7 +10,7 @@ ghost use mathlib.Core.List.{List};
 ghost use mathlib.Core.Option.{none};
 ghost use Prim.Native.Nat.{ℕ, _%_};
 ghost use Rattle.syntax.specs.Job.{Job, sourceOf};
-ghost use Rattle.syntax.specs.Tree.{past, treeRefusal};
+ghost use Rattle.syntax.specs.Tree.{predecessor, treeRefusal};
 ghost use Rattle.typing.specs.Tables.{short, cleared};
 ghost use Rattle.checker.specs.Answer.{tables, refusedBy, noShape, Given, Judged, CheckTo};
 
@@ -87,7 +87,7 @@ fn is_short<'a>(
 
 // The last of n.
 fn last(n: usize) -> usize
-    ensures { λ r. ⌜ r ≡ past n ⌝ }
+    ensures { λ r. ⌜ r ≡ predecessor n ⌝ }
 {
     if n == 0 {
         return 0;

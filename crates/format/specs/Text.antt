@@ -64,7 +64,7 @@ kindNumber (k-grant n) = n
 
 -- the lines, by kind
 unfoldable pub acceptedAs : Effect → Sort → List ℕ
-acceptedAs s k = line (space w-accepted (space (hex 16 s) (sortWord k)))
+acceptedAs s k = line (space w-accepted (space (hex 16 (s .set)) (sortWord k)))
 
 unfoldable pub doneAs : ℕ → Sort → ℕ → List ℕ
 doneAs n k v = line (space w-done (space (decimal n) (sortWords k v)))

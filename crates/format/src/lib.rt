@@ -2,6 +2,7 @@
 ghost use mathlib.Core.Path.{_≡_};
 ghost use mathlib.Core.List.{[], _∷_};
 ghost use Prim.Native.Nat.{_<_};
+ghost use Rattle.order.specs.Effects.{ofWord};
 ghost use Rattle.output.specs.Lines.{decimalIn, hexDigit, hex, refusedLine};
 ghost use Rattle.format.specs.Text.{textOf, joined, sortWord, sortWords, acceptedAs, doneAs, spentAs, noRoomAs};
 
@@ -133,7 +134,7 @@ pub fn refused(number: u8, place: u32) -> Text
 
 // The first line of an accepted job: its effect, and the kind of its type.
 pub fn accepted(effect: u64, sort: Sort) -> Text
-    ensures { λ r. ⌜ textOf r ≡ acceptedAs effect sort ⌝ }
+    ensures { λ r. ⌜ textOf r ≡ acceptedAs (ofWord effect) sort ⌝ }
 {
     let a = empty().put(b"accepted ").hex(16, effect);
     a.push(b' ').word(sort).push(b'\n')

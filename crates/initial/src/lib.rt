@@ -4,7 +4,7 @@ ghost use mathlib.Core.List.{map};
 ghost use Prim.Native.Nat.{_<_, _≤_, _+_};
 ghost use Rattle.order.specs.Sets.{setOf};
 ghost use Rattle.order.specs.Effects as effects;
-ghost use Rattle.syntax.specs.Tree.{past};
+ghost use Rattle.syntax.specs.Tree.{predecessor};
 ghost use Rattle.semantics.specs.Machine.{unkeyed, k-num};
 ghost use Rattle.semantics.specs.Start.{hostValue};
 ghost use Rattle.names.specs.Ancestors.{namesIn};
@@ -197,7 +197,7 @@ fn enter_values(
 // The keys of the names that the rights have.
 fn enabled_keys(of: &[u8; 64], n: usize, nkeys: u16, rights: u64) -> Keys
     requires { ⌜ Within (keyIn (now of) n) nkeys ⌝ }
-    ensures { λ r. ⌜ keysIn r ≡ setOf (map (keyIn (now (of .entry)) n) (effects.names rights)) ⌝ }
+    ensures { λ r. ⌜ keysIn r ≡ setOf (map (keyIn (now (of .entry)) n) (effects.names (effects.ofWord rights))) ⌝ }
 {
     let mut on = Keys(0, 0);
     let mut rest = rights - rights % 2;
@@ -213,7 +213,7 @@ fn enabled_keys(of: &[u8; 64], n: usize, nkeys: u16, rights: u64) -> Keys
 // The last of so many expressions.
 fn last(cmds: usize) -> u16
     requires { ⌜ cmds ≤ 512 ⌝ }
-    ensures { λ r. ⌜ r ≡ past cmds ⌝ }
+    ensures { λ r. ⌜ r ≡ predecessor cmds ⌝ }
 {
     if cmds == 0 {
         return 0;

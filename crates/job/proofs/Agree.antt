@@ -11,14 +11,15 @@ use borrow.Author.Tests.{ne-eqb, ltb-false}
 use Rattle.order.specs.Bools.{_and_, _or_}
 use Rattle.order.specs.OrderLaws.{Proper}
 use Rattle.order.specs.Sets.{all-of}
-use Rattle.order.specs.Effects.{Effect}
+use Rattle.order.specs.Effects.{Effect, ofWord}
 use Rattle.syntax.specs.Types.{TypeEntry, tree, depth}
 use Rattle.syntax.specs.Commands.{Cmd, c-lim, Op, o-host, o-local, o-number, o-pair, o-cell, o-function, o-limit, o-grant, o-value, o-rights, o-end, opOf, operands, width, sectionOf, fields}
 use Rattle.syntax.specs.Commands.{x-number, x-top, x-variable, x-pair, x-part, x-function, x-apply, x-cell, x-assign, x-read, x-sum, x-test, x-limit, x-grant, x-newkey, x-associate}
 use Rattle.syntax.specs.Job.{Name, HostValue, Job, uppers}
 use Rattle.syntax.specs.Words.{nameWord, typeWord, filled, slots}
-use Rattle.syntax.specs.Reading.{State, declared, hostName, nameOk, typeOk, hostValueOk, setOk, rightsOk, cmdOk, Written, w-name, w-type, w-value, w-rights, w-cmd, w-end, unwritten, partOf, sumOf, limitOf, written, given, enter, misplaced, full}
+use Rattle.syntax.specs.Reading.{State, declared, hostName, nameOk, typeOk, hostValueOk, setOk, rightsOk, cmdOk, Written, w-name, w-type, w-value, w-rights, w-cmd, w-end, unwritten, written, given, enter, misplaced, full}
 use Rattle.syntax.specs.Reading.{Step, refuse, proceed, finish, settle, command}
+use Rattle.syntax.specs.WrittenLaws.{partOf, sumOf, limitOf, written-part, written-sum, written-limit}
 use Rattle.syntax.specs.ReadLaws.{TypesOk, Wrote, wrote-name, wrote-type, wrote-value, wrote-rights, wrote-cmd, wrote-end, wrote-none, wrote}
 use Rattle.names.specs.Ancestors.{namesIn, declaredOf, ancestorsBy, setOkBy}
 use Rattle.names.specs.Laws.{set-ok-by, rights-ok-by}
@@ -59,7 +60,7 @@ pub record Kept (J : Job) (names types depths : List ℕ) : Type 0 where
   pub deep : (i : ℕ) → i < length (J .types) → getD depths i 0 ≡ depth (tree (J .types) i)
 
 module _ (J : Job) (names types depths : List ℕ) (k : Kept J names types depths) (s : List ℕ) where
-  sets : (x : ℕ) → setOkBy (ancestorsBy (namesIn names (length (J .names)))) (length (J .names)) x ≡ setOk (J .names) x
+  sets : (x : ℕ) → setOkBy (ancestorsBy (namesIn names (length (J .names)))) (length (J .names)) x ≡ setOk (J .names) (ofWord x)
   sets x = ap (λ (l : List Name). setOkBy (ancestorsBy l) (length (J .names)) x) (k .back) ∙ set-ok-by (J .names) (k .proper) (k .few) (ancestors-by (J .names) (k .proper) (k .few)) x
 
   law-o-host : nameEntry (byteOf o-host) s names (length (J .names)) ≡ judgedW (written o-host (fieldsFrom (operands o-host) s 1)) J
@@ -146,15 +147,15 @@ five-places x-number l = refl
 five-places x-top l = refl
 five-places x-variable l = refl
 five-places x-pair l = refl
-five-places x-part l = if-places (eqb (getD l 1 0) 1) _ _ refl (if-places (eqb (getD l 1 0) 2) _ _ refl refl)
+five-places x-part l = ap places (written-part l) ∙ if-places (eqb (getD l 1 0) 1) _ _ refl (if-places (eqb (getD l 1 0) 2) _ _ refl refl)
 five-places x-function l = refl
 five-places x-apply l = refl
 five-places x-cell l = refl
 five-places x-assign l = refl
 five-places x-read l = refl
-five-places x-sum l = if-places (eqb (getD l 0 0) 0) _ _ refl (if-places (eqb (getD l 0 0) 1) _ _ refl refl)
+five-places x-sum l = ap places (written-sum l) ∙ if-places (eqb (getD l 0 0) 0) _ _ refl (if-places (eqb (getD l 0 0) 1) _ _ refl refl)
 five-places x-test l = refl
-five-places x-limit l = if-places (leb (getD l 0 0) 4 and all-of (λ e. eqb e 0xFFFF) (drop (getD l 0 0) (take 4 (drop 1 l)))) (c-lim (take (getD l 0 0) (take 4 (drop 1 l))) (getD l 5 0)) unwritten (limit-places (getD l 0 0) (drop 1 l) (getD l 5 0)) refl
+five-places x-limit l = ap places (written-limit l) ∙ if-places (leb (getD l 0 0) 4 and all-of (λ e. eqb e 0xFFFF) (drop (getD l 0 0) (take 4 (drop 1 l)))) (c-lim (take (getD l 0 0) (take 4 (drop 1 l))) (getD l 5 0)) unwritten (limit-places (getD l 0 0) (drop 1 l) (getD l 5 0)) refl
 five-places x-grant l = refl
 five-places x-newkey l = refl
 five-places x-associate l = refl

@@ -27,12 +27,12 @@ ghost use Prim.Native.Nat.{ℕ, suc, _<_};
 ghost use Rattle.order.specs.Sets.{all-of};
 ghost use Rattle.semantics.specs.Machine.{most-keys, most-pairs, most-bindings};
 ghost use Rattle.semantics.specs.Keys.{enabled};
-ghost use Rattle.semantics.specs.Step.{Plan, settle, d-key, actPair, actPart, actApp, actNew, actAsg, actRead, actSum, actTest, limitKeys, actLim, actGrant, actNewkey, actAssoc, sumN};
+ghost use Rattle.semantics.specs.Step.{Plan, settle, actPair, actPart, actApp, actNew, actAsg, actRead, actSum, actTest, limitKeys, actLim, actGrant, makeKey, actNewkey, actAssoc, sumN};
 ghost use Rattle.store.specs.Meaning.{keysIn, valueIn};
 ghost use Rattle.store.specs.Words.{upIn};
 ghost use Rattle.store.specs.Tables.{capped, listOf};
 ghost use Rattle.machine.specs.View.{Tables, view};
-ghost use Rattle.machine.specs.Inner.{acted, tried, deed, putCells, putKeys, putPairs, putFunctions, putBindings, limitsIn, Went};
+ghost use Rattle.machine.specs.Inner.{acted, tried, putCells, putKeys, putPairs, putFunctions, putBindings, limitsIn, Went};
 ghost use Rattle.machine.specs.Lent.{beforeKey, afterKey};
 
 // 3E binds twice.
@@ -419,7 +419,7 @@ impl State {
         requires { ⌜ (self .used .keys < most-keys) × (self .used .pairs < most-pairs) × (suc (self .used .bindings) < most-bindings) ⌝ }
         ensures { λ t. ⌜
             ((w : Tables) →
-            Went t (afterKey w keys pairs bindings) (settle (deed (d-key x r (body .0) (j .0)) (view self (beforeKey w keys pairs bindings)))))
+            Went t (afterKey w keys pairs bindings) (settle (makeKey [] x r (body .0) (j .0) (view self (beforeKey w keys pairs bindings)))))
             ⌝ }
     {
         let nk = self.used.keys;

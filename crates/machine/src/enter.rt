@@ -18,19 +18,19 @@ use table::Expr;
 ghost use mathlib.Core.Path.{_≡_};
 ghost use mathlib.Core.Option.{Option};
 ghost use Rattle.semantics.specs.Machine.{most-bindings, Value as SValue};
-ghost use Rattle.semantics.specs.Step.{d-push, d-fn, seekIn, seek, variable, enterCmd};
+ghost use Rattle.semantics.specs.Step.{seekIn, seek, variable, actFn, push, enterCmd};
 ghost use Rattle.store.specs.Meaning.{boundIn};
 ghost use Rattle.store.specs.Words.{linkIn};
 ghost use Rattle.store.specs.Tables.{listOf};
 ghost use Rattle.machine.specs.Meaning.{foundIn};
 ghost use Rattle.machine.specs.View.{Tables};
-ghost use Rattle.machine.specs.Inner.{acted, tried, deed, putFrames, putFunctions, putBindings, orElse, Works};
+ghost use Rattle.machine.specs.Inner.{acted, tried, putFrames, putFunctions, putBindings, orElse, Works};
 ghost use Rattle.machine.specs.Lent.{lentCode, beforeEnter, afterEnter};
 
 // No chain of bindings is longer.
 const MOST_LINKS: u16 = MOST_BINDINGS as u16;
 
-// How many operands are worked out before the act.
+// How many operands are evaluated before the act.
 pub(crate) fn need(op: u64, x: u64) -> u8
     ensures { λ r. ⌜ Works op x r ⌝ }
 {
@@ -88,7 +88,7 @@ fn lookup(bindings: &[u64; BINDING_WORDS], n: u16, x: u8, from: u16) -> Found
 
 impl State {
     fn push(self, e: Expr, first: Expr, frames: &mut [u64; FRAME_WORDS]) -> Acted
-        ensures { λ r. ⌜ ((w : Tables) → acted r (putFrames w (now (frames .exit))) ≡ tried self self (putFrames w (now (frames .entry))) (deed (d-push (e .0) (first .0)))) ⌝ }
+        ensures { λ r. ⌜ ((w : Tables) → acted r (putFrames w (now (frames .exit))) ≡ tried self self (putFrames w (now (frames .entry))) (push (e .0) (first .0))) ⌝ }
     {
         let n = self.thread.frames;
         if n < MOST_FRAMES {
@@ -105,7 +105,7 @@ impl State {
     }
 
     fn function(self, x: u8, body: Expr, functions: &mut [u64; FUNCTION_WORDS]) -> Acted
-        ensures { λ r. ⌜ ((w : Tables) → acted r (putFunctions w (now (functions .exit))) ≡ tried self self (putFunctions w (now (functions .entry))) (deed (d-fn x (body .0)))) ⌝ }
+        ensures { λ r. ⌜ ((w : Tables) → acted r (putFunctions w (now (functions .exit))) ≡ tried self self (putFunctions w (now (functions .entry))) (actFn x (body .0))) ⌝ }
     {
         let n = self.used.functions;
         if n < MOST_FUNCTIONS {

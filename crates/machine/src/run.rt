@@ -14,7 +14,7 @@ use store::PAIR_WORDS;
 ghost use mathlib.Core.Path.{_≡_};
 ghost use Rattle.syntax.specs.Words.{codeIn};
 ghost use Rattle.semantics.specs.Room.{isDone};
-ghost use Rattle.semantics.specs.Calls.{one-step, call, run};
+ghost use Rattle.semantics.specs.Calls.{stepsOf, one-step, call, run};
 ghost use Rattle.machine.specs.Meaning.{answerIn};
 ghost use Rattle.machine.specs.View.{Tables, view, seen, ranIn};
 ghost use Rattle.machine.specs.Inner.{isTaken, loopOf, ended, closing};
@@ -121,7 +121,7 @@ impl State {
 impl Machine {
     // One step, by the loop of `run`: a second caller of the state's step would keep it from being inlined there.
     pub fn step(self, heads: &[u64], slots: &[u16]) -> Outcome
-        ensures { λ r. ⌜ ranIn r ≡ call (codeIn (now (heads .entry)) (now (slots .entry))) one-step (seen self) ⌝ }
+        ensures { λ r. ⌜ ranIn r ≡ call (stepsOf (codeIn (now (heads .entry)) (now (slots .entry)))) one-step (seen self) ⌝ }
     {
         let thread = self.thread;
         let used = self.used;
@@ -169,7 +169,7 @@ impl Machine {
 
     // Up to n steps.
     pub fn run(self, n: u64, heads: &[u64], slots: &[u16]) -> Outcome
-        ensures { λ r. ⌜ ranIn r ≡ run (codeIn (now (heads .entry)) (now (slots .entry))) n 0 (seen self) ⌝ }
+        ensures { λ r. ⌜ ranIn r ≡ run (stepsOf (codeIn (now (heads .entry)) (now (slots .entry)))) n 0 (seen self) ⌝ }
     {
         let thread = self.thread;
         let used = self.used;

@@ -12,7 +12,7 @@ ghost use mathlib.Core.Bool.{true};
 ghost use mathlib.Core.List.{List, _++_};
 ghost use Prim.Native.Nat.{ℕ, _<_, _≤_};
 ghost use lib.ListN.{length};
-ghost use Rattle.order.specs.Effects.{Effect};
+ghost use Rattle.order.specs.Effects.{Effect, ofWord};
 ghost use Rattle.syntax.specs.Types.{Ty, entryTree};
 ghost use Rattle.syntax.specs.Job.{Job, sourceOf};
 ghost use Rattle.syntax.specs.Words.{codeIn, entryBits};
@@ -114,7 +114,7 @@ fn accepted(
     heads: &[u64],
     slots: &[u16],
 ) -> Text
-    ensures { λ r. ⌜ ((J : Job) (sets : List ℕ) → Ready J g (now (names .entry)) (now (types .entry)) (now (values .entry)) → ((e : ℕ) → codeIn (now (heads .entry)) (now (slots .entry)) e ≡ exprOf J e) → textOf r ≡ acceptedLine (treeOf (now (types .entry)) sets i) s ++ runLine (sourceOf J)) ⌝ }
+    ensures { λ r. ⌜ ((J : Job) (sets : List ℕ) → Ready J g (now (names .entry)) (now (types .entry)) (now (values .entry)) → ((e : ℕ) → codeIn (now (heads .entry)) (now (slots .entry)) e ≡ exprOf J e) → textOf r ≡ acceptedLine (treeOf (now (types .entry)) sets i) (ofWord s) ++ runLine (sourceOf J)) ⌝ }
 {
     let w = names::at64(types, i as usize);
     let sort = type_sort(w % 256);

@@ -6,7 +6,7 @@ use mathlib.Core.Bool.{Bool, true, false, cond}
 use mathlib.Core.List.{List, [], _∷_, _++_}
 use mathlib.Core.Option.{Option, none, some}
 use lib.ListN.{length, getElem?}
-use Rattle.order.specs.Effects.{Effect}
+use Rattle.order.specs.Effects.{Effect, ofWord}
 use Rattle.syntax.specs.Types.{Ty, TypeEntry}
 use Rattle.syntax.specs.Commands.{Cmd}
 use Rattle.syntax.specs.Job.{Job, sourceOf}
@@ -49,7 +49,7 @@ unfolding layoutFor layoutOf
 layoutFor-keeps J i x e = layoutFrom-keeps _ _ (J .cmds) _ i x (some-left (J .types) _ i x e)
 
 layoutFor-holds : (J : Job) → JobFits J → (n t v : ℕ)
-    → Holds J (filled n 0 (nameWords J)) (length (J .names)) (filled t 0 (typeWords (layoutFor J .entries))) (filled v 0 (valueWords J)) (length (J .values)) (J .rights)
+    → Holds J (filled n 0 (nameWords J)) (length (J .names)) (filled t 0 (typeWords (layoutFor J .entries))) (filled v 0 (valueWords J)) (length (J .values)) (J .rights .set)
 layoutFor-holds J f n t v =
     let h = held.filled-holds J f n t v in
     record {
@@ -92,10 +92,10 @@ unfolding filledBy
 code-of J x w o f b i = rw b (code-back J o f _ _ i)
 
 pub accepting : (bytes : List ℕ) → Bytes bytes → (r : Checked) (w x : Tables) (i s : ℕ) → CheckTo bytes r w x → r .verdict ≡ verdicts.Accepted i s
-    → Accepting bytes (r .shape) (treeOf (x .types) (x .sets) i) s x
+    → Accepting bytes (r .shape) (treeOf (x .types) (x .sets) i) (ofWord s) x
 unfolding verdictIn verdictWith
 accepting bytes by r w x i s c v =
-    let a : accept (treeOf (x .types) (x .sets) i) s ≡ verdictWith w bytes = sym (ap (verdictIn (x .types) (x .sets)) v) ∙ c .verdict in
+    let a : accept (treeOf (x .types) (x .sets) i) (ofWord s) ≡ verdictWith w bytes = sym (ap (verdictIn (x .types) (x .sets)) v) ∙ c .verdict in
     let b = if-accepted (short w) _ (verdictOf bytes) _ _ a in
     let d = demand3 bytes (b .1) in
     let J = d .0 in

@@ -11,24 +11,24 @@ use borrow.Author.Tests.{ltb-false, le-ltb}
 use lib.ListN.{length, replicate, length-append, length-replicate}
 use lib.Dec.{ltb}
 use Rattle.order.specs.Bools.{_or_}
-use Rattle.order.specs.Effects.{Effect}
+use Rattle.order.specs.Effects.{Effect, ofWord}
 use Rattle.syntax.specs.Types.{Ty}
 use Rattle.syntax.specs.Commands.{Cmd}
 use Rattle.syntax.specs.Job.{Job, sourceOf}
-use Rattle.syntax.specs.Reading.{Refusal, Read, read, reading}
+use Rattle.syntax.specs.Reading.{Refusal, read, reading}
 use Rattle.syntax.specs.ReadLaws.{read-ok}
 use Rattle.syntax.specs.Tree.{treeRefusal}
 use Rattle.syntax.specs.Words.{filled, codeIn}
 use Rattle.syntax.specs.WordLaws.{Bytes, job-fits, code-back}
-use Rattle.typing.specs.Verdict.{Verdict, accept, refuse, unless, judge, judgeRead, verdictOf}
+use Rattle.typing.specs.Verdict.{accept, refuse, unless, judge, judgeRead, verdictOf}
 use Rattle.typing.specs.Tables as tables
 use Rattle.typing.specs.Tables.{Tables, verdictWith}
 use Rattle.semantics.specs.Machine.{Machine as Clean}
 use Rattle.semantics.specs.Start.{startOf}
 use Rattle.semantics.specs.Starting as starting
-use Rattle.semantics.specs.Starting.{Started, started, unstarted, JobTables, startRead, startWith, filledBy, filledRead, keptOn, tablesAfterStart}
-use Rattle.semantics.specs.Calls.{Call, one-step, run-of, Ran, run, call, calls}
-use Rattle.semantics.specs.Demand3.{exprOf, callsOf, Allowed}
+use Rattle.semantics.specs.Starting.{started, unstarted, JobTables, startRead, startWith, filledBy, filledRead, keptOn, tablesAfterStart}
+use Rattle.semantics.specs.Calls.{stepsOf, Call, one-step, run-of, Ran, run, call, calls}
+use Rattle.semantics.specs.Demand3.{exprOf, stepsIn, callsOf, Allowed}
 use Rattle.machine.specs.declared.Machine.{Machine}
 use Rattle.machine.specs.declared.Outcome.{Outcome}
 use Rattle.machine.specs.View.{seen, ranIn}
@@ -43,8 +43,8 @@ use Rattle.safety.specs.Accepting.{Accepting, accepting, if-accepted, af
 
 -- what the two functions ensure of one call on the machine m, by the words of the job's expressions
 pub data Called (heads slots : List ℕ) (m : Machine) : Call → Outcome → Type 0 where
-  by-step : {o : Outcome} → ranIn o ≡ call (codeIn heads slots) one-step (seen m) → Called heads slots m one-step o
-  by-run : {n : ℕ} {o : Outcome} → ranIn o ≡ run (codeIn heads slots) n 0 (seen m) → Called heads slots m (run-of n) o
+  by-step : {o : Outcome} → ranIn o ≡ call (stepsOf (codeIn heads slots)) one-step (seen m) → Called heads slots m one-step o
+  by-run : {n : ℕ} {o : Outcome} → ranIn o ≡ run (stepsOf (codeIn heads slots)) n 0 (seen m) → Called heads slots m (run-of n) o
 
 -- a list of calls, each on the machine that the last one gave; the words are the same at each
 pub data AllCalled (heads slots : List ℕ) : Machine → List Call → List Outcome → Type 0 where
@@ -65,16 +65,16 @@ pub record Demand3Of (bytes : List ℕ) (cs : List Call) (os : List Outcome) : T
   pub allowed : Allowed job cs (map ranIn os)
 
 -- a list of calls gives what `calls` says
-called : {heads slots : List ℕ} {m : Machine} {c : Call} {o : Outcome} → Called heads slots m c o → ranIn o ≡ call (codeIn heads slots) c (seen m)
+called : {heads slots : List ℕ} {m : Machine} {c : Call} {o : Outcome} → Called heads slots m c o → ranIn o ≡ call (stepsOf (codeIn heads slots)) c (seen m)
 unfolding call
 called (by-step e) = e
 called (by-run e) = e
 
-all-called : {heads slots : List ℕ} {m : Machine} {cs : List Call} {os : List Outcome} → AllCalled heads slots m cs os → map ranIn os ≡ calls (codeIn heads slots) cs (seen m)
+all-called : {heads slots : List ℕ} {m : Machine} {cs : List Call} {os : List Outcome} → AllCalled heads slots m cs os → map ranIn os ≡ calls (stepsOf (codeIn heads slots)) cs (seen m)
 unfolding calls
 all-called no-call = refl
 all-called {heads} {slots} (next-call {cs = cs} {o = o} h t) =
-    ap (λ l. ranIn o ∷ l) (all-called t) ∙ ap (λ (r : Ran). r ∷ calls (codeIn heads slots) cs (r .machine)) (called h)
+    ap (λ l. ranIn o ∷ l) (all-called t) ∙ ap (λ (r : Ran). r ∷ calls (stepsOf (codeIn heads slots)) cs (r .machine)) (called h)
 
 -- an accepted job is free of 8 to 10
 pub accepted-tree : (bytes : List ℕ) (J : Job) {T : Ty} {e : Effect} → verdictOf bytes ≡ accept T e → reading bytes ≡ read J → treeRefusal (sourceOf J) ≡ none
@@ -158,7 +158,7 @@ pub record StartsJob (bytes : List ℕ) (o : Opened) : Type 0 where
   pub machine : seen (o .machine) ≡ startOf (sourceOf job)
 
 module _ (bytes : List ℕ) (by : Bytes bytes) {r : Checked} {w x : Tables} {i s : ℕ} (c : CheckTo bytes r w x) (v : r .verdict ≡ verdicts.Accepted i s) where
-  its : Accepting bytes (r .shape) (treeOf (x .types) (x .sets) i) s x
+  its : Accepting bytes (r .shape) (treeOf (x .types) (x .sets) i) (ofWord s) x
   its = accepting bytes by r w x i s c v
 
   tree-free : treeRefusal (sourceOf (its .job)) ≡ none
@@ -174,7 +174,7 @@ module _ (bytes : List ℕ) (by : Bytes bytes) {r : Checked} {w x : Tables} {i s
   pub checked-starts : {o : Opened} {y : JobTables} → Starts bytes o (jobPart x) y → StartsJob bytes o
   unfolding verdictIn verdictWith
   checked-starts h =
-      let a : accept (treeOf (x .types) (x .sets) i) s ≡ verdictWith w bytes = sym (ap (verdictIn (x .types) (x .sets)) v) ∙ c .verdict in
+      let a : accept (treeOf (x .types) (x .sets) i) (ofWord s) ≡ verdictWith w bytes = sym (ap (verdictIn (x .types) (x .sets)) v) ∙ c .verdict in
       let b = if-accepted (tables.short w) _ (verdictOf bytes) _ _ a in
       let t : x ≡ tables.filledBy (its .job) w = c .tables ∙ after-accept w bytes (its .job) (b .0) (its .verdict) (its .is) in
       accepted-starts h (ap (λ (y : Tables). starting.short (jobPart y)) t ∙ still-long (its .job) w (b .0))
@@ -196,5 +196,5 @@ module _ (bytes : List ℕ) (by : Bytes bytes) {r : Checked} {w x : Tables} {i s
   demand3-from-contracts {m} {heads} {slots} o {cs} {os} h =
       let z = opened o in
       let e : map ranIn os ≡ callsOf (its .job) cs =
-      all-called h ∙ ap (λ (k : ℕ → Cmd ℕ). calls k cs (seen m)) (fun-ext (z .1)) ∙ ap (calls (exprOf (its .job)) cs) (z .0) in
+      all-called h ∙ ap (λ (k : ℕ → Cmd ℕ). calls (stepsOf k) cs (seen m)) (fun-ext (z .1)) ∙ ap (calls (stepsIn (its .job)) cs) (z .0) in
       record { job = its .job; is = its .is; actual = e; allowed = subst (λ l. Allowed (its .job) cs l) (sym e) (its .allowed cs) }

@@ -14,7 +14,7 @@ use Rattle.typing.specs.Tables.{Tables, verdictWith, tablesAfter}
 use Rattle.semantics.specs.Machine.{Machine as Clean}
 use Rattle.semantics.specs.Start.{startOf}
 use Rattle.semantics.specs.Calls.{Ran}
-use Rattle.semantics.specs.Demand3.{exprOf, callsOf, Allowed}
+use Rattle.semantics.specs.Demand3.{stepsIn, callsOf, Allowed}
 use Rattle.machine.specs.View.{seen}
 use Rattle.calls.specs.Words.{callsIn, resultWords, lastOf}
 use Rattle.initial.specs.Empty.{emptyMachine}
@@ -44,7 +44,7 @@ pub record Answered (bytes words before after : List ℕ) (last : Clean) : Type 
   pub actual : results ≡ callsOf job (callsIn words)
   pub allowed : Allowed job (callsIn words) results
   pub written : after ≡ resultWords results ++ drop (2 * length words) before
-  pub machine : last ≡ lastOf (exprOf job) (callsIn words) (startOf (sourceOf job))
+  pub machine : last ≡ lastOf (stepsIn job) (callsIn words) (startOf (sourceOf job))
 
 -- no call is made, and there is no machine but the empty one
 pub record Unanswered (before after : List ℕ) (last : Clean) : Type 0 where

@@ -19,8 +19,9 @@ use Rattle.syntax.specs.Commands.{Cmd, c-part, c-sum, c-lim, Op, o-host,
 use Rattle.syntax.specs.Commands.{x-number, x-top, x-variable, x-pair, x-part, x-function, x-apply, x-cell, x-assign, x-read, x-sum, x-test, x-limit, x-grant, x-newkey, x-associate}
 use Rattle.syntax.specs.Job.{Name, HostValue, Job}
 use Rattle.syntax.specs.Reading.{Refusal, State, most-names, most-types, most-variables, most-expressions, nameOk, typeOk, hostValueOk, rightsOk, cmdOk}
-use Rattle.syntax.specs.Reading.{Written, w-name, w-type, w-value, w-rights, w-cmd, w-end, unwritten, partOf, sumOf, limitOf, written, given, enter, misplaced, full}
+use Rattle.syntax.specs.Reading.{Written, w-name, w-type, w-value, w-rights, w-cmd, w-end, unwritten, written, given, enter, misplaced, full}
 use Rattle.syntax.specs.Reading.{Step, refuse, proceed, finish, settle, command, Read, refused, read, ended, onward, onOp, readFrom, noJob, reading}
+use Rattle.syntax.specs.WrittenLaws.{partOf, sumOf, limitOf, written-part, written-sum, written-limit}
 
 -- a list built one entry after another at its end, each with a test that knows the entries before it
 pub data Built {A : Type 0} (ok : List A → A → Bool) : List A → Type 0 where
@@ -171,15 +172,15 @@ wrote x-number o = wrote-cmd _
 wrote x-top o = wrote-cmd _
 wrote x-variable o = wrote-cmd _
 wrote x-pair o = wrote-cmd _
-wrote x-part o = wrote-part _ _
+wrote x-part o = subst⁻¹ (λ w. Wrote 4 w) (written-part o) (wrote-part _ _)
 wrote x-function o = wrote-cmd _
 wrote x-apply o = wrote-cmd _
 wrote x-cell o = wrote-cmd _
 wrote x-assign o = wrote-cmd _
 wrote x-read o = wrote-cmd _
-wrote x-sum o = wrote-sum _ _ _
+wrote x-sum o = subst⁻¹ (λ w. Wrote 4 w) (written-sum o) (wrote-sum _ _ _)
 wrote x-test o = wrote-cmd _
-wrote x-limit o = wrote-limit _ _ _
+wrote x-limit o = subst⁻¹ (λ w. Wrote 4 w) (written-limit o) (wrote-limit _ _ _)
 wrote x-grant o = wrote-cmd _
 wrote x-newkey o = wrote-cmd _
 wrote x-associate o = wrote-cmd _

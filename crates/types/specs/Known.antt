@@ -8,7 +8,7 @@ use lib.ListN.{getD, set}
 use lib.Dec.{eqb}
 use Rattle.syntax.specs.Words.{entryIn}
 use Rattle.typing.specs.Entries.{sameIn, subIn, superIn}
-use Rattle.names.specs.Ancestors.{belowBy, effBelowBy}
+use Rattle.names.specs.Ancestors.{belowBy, effectsBy}
 use Rattle.types.specs.declared.Rest.{Rest}
 use Rattle.types.specs.declared.Rest.the-variants.{Never, Holds, Cells, Pairs, Functions}
 
@@ -27,7 +27,7 @@ keysBy bl rel p q = pick rel (eqb p q) (bl p q) (bl q p)
 -- the comparison of entries a and b of the tables, at most d levels down
 unfoldable pub comparedIn : List ℕ → List ℕ → List ℕ → ℕ → ℕ → ℕ → ℕ → Bool
 comparedIn anc types sets rel d a b =
-    pick rel (sameIn d (entryIn types sets) a b) (subIn (belowBy anc) (effBelowBy anc) d (entryIn types sets) a b) (superIn (belowBy anc) (effBelowBy anc) d (entryIn types sets) a b)
+    pick rel (sameIn d (entryIn types sets) a b) (subIn (belowBy anc) (effectsBy anc) d (entryIn types sets) a b) (superIn (belowBy anc) (effectsBy anc) d (entryIn types sets) a b)
 
 -- what is left of a comparison of d levels after its first level
 unfoldable pub leftOf : List ℕ → List ℕ → List ℕ → ℕ → ℕ → Rest → Bool

@@ -2,7 +2,7 @@
 use mathlib.Core.Path.{_≡_, refl, sym, ap, _∙_, subst}
 use Prim.Native.Nat.{ℕ, zero, suc, _<_}
 use native.Mathlib.Omega.{arith}
-use mathlib.Core.Bool.{Bool, true, false, false≢true}
+use mathlib.Core.Bool.{Bool, true, false, false≢true, cond}
 use mathlib.Core.List.{List, [], _∷_, _++_, List·Memᴰ, List·Memᴰ·head, List·Memᴰ·tail, Memᴰ·append-left, Memᴰ·append-right}
 use mathlib.Core.Option.{Option, none, some}
 use lib.ListN.{length, getElem?}
@@ -20,7 +20,7 @@ use Rattle.syntax.specs.TreeFacts.{Ctx, x-plain, x-inner, TreeOk}
 use Rattle.syntax.specs.Context.{plain-lt, inner-lt, ctx-le, root-lt, ctx-uses}
 use Rattle.typing.specs.Rules.{Has, h-num, h-top, h-var, h-pair, h-part1, h-part2, h-fn, h-app, h-new, h-asg, h-read, h-sum, h-test, h-lim, h-grant, h-newkey, h-assoc, h-sub, HasKeys, k-nil, k-cons}
 use Rattle.typing.specs.SubtypeLaws.{sub-refl, subTy→}
-use Rattle.typing.specs.Least.{Typed, typed, isUpper, pick, varType, keysAt, typeAt, get, typesTo, typeOf}
+use Rattle.typing.specs.Least.{Typed, typed, isUpper, varType, keysAt, typeAt, get, typesTo, typeOf}
 use Rattle.typing.specs.Scoped.{ctx-type, ctx-var}
 use Rattle.typing.specs.Scoping as scope
 use Rattle.typing.specs.Filled.{seen, typeOf-is, typed-ty, typed-eff, of-var, by-with, by-require, by-num, by-pair, by-cell, by-fn, by-lim, by-grant}
@@ -41,8 +41,7 @@ module _ (S : Src) (ok : Formed S) (tree : TreeOk S) where
   less : {Γ : List Entry} {e : ℕ} {A T : Ty} {s t : Effect} → scope.Good S Γ T t → typed A (reduce (upOf S) s) ≡ typed T t → Has S Γ e A s → Has S Γ e T t
   less {T = T} {s = s} w h d = h-sub (cast (typed-ty h) d) (sub-refl T) (w .ty .scoped) (subst (λ (u : Effect). EffBelow (upOf S) s u) (typed-eff h) (below-reduce (ok .proper) s)) (w .eff)
 
-  part : {Γ : List Entry} {e a q : ℕ} {A B : Ty} {s : Effect} (i : Bool) → nth (S .cmds) e ≡ c-part a i → Has S Γ a (pair q A B) s → Has S Γ e (pick i A B) (touch q s)
-  unfolding pick
+  part : {Γ : List Entry} {e a q : ℕ} {A B : Ty} {s : Effect} (i : Bool) → nth (S .cmds) e ≡ c-part a i → Has S Γ a (pair q A B) s → Has S Γ e (cond i A B) (touch q s)
   part true c d = h-part1 c d
   part false c d = h-part2 c d
 

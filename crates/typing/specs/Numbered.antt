@@ -123,7 +123,7 @@ module _ (O : Ops) (var : ℕ → ℕ) (at : ℕ → Option TypeEntry) (of : ℕ
   fits a t = subIn (O .below) (O .effBelow) most-depth at a t
 
   -- the limit keys of 3C, in order: the set of their names and the effect so far
-  unfoldable pub keysFrom : List ℕ → ℕ → Effect → (ℕ → Effect → Result) → Result
+  unfoldable pub keysFrom : List ℕ → Effect → Effect → (Effect → Effect → Result) → Result
   keysFrom [] rs s f = f rs s
   keysFrom (a ∷ ks) rs s f = needLim (at (of a)) (λ q r. keysFrom ks (O .touch r rs) (O .touch q (join (eff a) s)) f)
 
@@ -142,7 +142,7 @@ module _ (O : Ops) (var : ℕ → ℕ) (at : ℕ → Option TypeEntry) (of : ℕ
       needNum (at (of a)) (λ p. needNum (at (of b)) (λ q. makes (e-num 0) (O .reduce (O .touch p (O .touch q (join (eff a) (eff b)))))))
   resultAt (c-test a b c t) =
       needNum (at (of a)) (λ q. need 12 (fits (of b) t) (need 12 (fits (of c) t) (points t (O .reduce (O .touch q (join (eff a) (join (eff b) (eff c))))))))
-  resultAt (c-lim ks b) = keysFrom ks 0 pure (λ rs s. need 13 (O .effBelow (eff b) rs) (points (of b) (O .reduce (join s (eff b)))))
+  resultAt (c-lim ks b) = keysFrom ks pure pure (λ rs s. need 13 (O .effBelow (eff b) rs) (points (of b) (O .reduce (join s (eff b)))))
   resultAt (c-grant a b) = needGrant (at (of a)) (λ q r. points (of b) (O .reduce (O .touch q (join (eff a) (O .drop r (eff b))))))
   resultAt (c-newkey v r a b t) =
       needLim (at (of a)) (λ q u. need 11 (O .over r u) (need 12 (fits (of b) t) (points t (O .reduce (O .touch q (join (eff a) (O .raise r u (eff b))))))))
@@ -166,7 +166,7 @@ settle σ (points i s) = next (record { entries = σ .entries; of = σ .of ++ (i
 settle σ (wrong n) = stop n
 
 unfoldable pub numberAt : Ops → (ℕ → ℕ) → Sofar → Cmd ℕ → Numbered
-numberAt O var σ k = settle σ (resultAt O var (getElem? (σ .entries)) (λ e. getD (σ .of) e 0) (λ e. getD (σ .effects) e 0) k)
+numberAt O var σ k = settle σ (resultAt O var (getElem? (σ .entries)) (λ e. getD (σ .of) e 0) (λ e. getD (σ .effects) e pure) k)
 
 -- the state when all expressions are done, or the first refusal
 pub data Whole : Type 0 where

@@ -14,6 +14,7 @@ use Rattle.order.specs.Bools.{and-l, and-r}
 use Rattle.order.specs.OrderLaws.{getElem?-snoc, getElem?-lt, length-snoc}
 use Rattle.order.specs.SetLaws.{lt-bit, bit-mem, all-of→}
 use Rattle.order.specs.Effects.{Effect}
+use Rattle.order.specs.EffectLaws.{Within, within-names}
 use Rattle.syntax.specs.Types.{Ty, pair, lim, grant, TypeEntry, e-num, e-pair, e-cell, e-fn, e-lim, e-grant, entryTree, tree}
 use Rattle.syntax.specs.TypeLaws.{Part, of-pair-1, of-pair-2, of-cell, of-fn-1, of-fn-2, Earlier, tree-entry, tree-kept}
 use Rattle.syntax.specs.Commands.{Cmd, mapCmd}
@@ -34,7 +35,7 @@ pub data EntryOk (D N n : ℕ) : TypeEntry → Type 0 where
   ok-num : {q : ℕ} → q < N → EntryOk D N n (e-num q)
   ok-pair : {q a b : ℕ} → q < N → a < n → b < n → EntryOk D N n (e-pair q a b)
   ok-cell : {q a : ℕ} → q < N → a < n → a < D → EntryOk D N n (e-cell q a)
-  ok-fn : {q a b : ℕ} {s : Effect} → q < N → a < n → a < D → b < n → s < 2 ^ N → EntryOk D N n (e-fn q a b s)
+  ok-fn : {q a b : ℕ} {s : Effect} → q < N → a < n → a < D → b < n → Within N s → EntryOk D N n (e-fn q a b s)
   ok-lim : {q r : ℕ} → q < N → r < N → EntryOk D N n (e-lim q r)
   ok-grant : {q r : ℕ} → q < N → r < N → EntryOk D N n (e-grant q r)
 
@@ -75,9 +76,9 @@ key-low (e-grant q y) (ok-grant a b) = a
 
 -- Declared types
 
-pub set-lt : (ds : List Name) (s : Effect) → setOk ds s ≡ true → s < 2 ^ (2 + length ds)
+pub set-lt : (ds : List Name) (s : Effect) → setOk ds s ≡ true → Within (2 + length ds) s
 unfolding setOk declared
-set-lt ds s h = lt-bit (2 + length ds) s (λ i e. ltb-true _ _ (all-of→ (declared ds) (and-l _ _ h) (bit-mem s e)))
+set-lt ds s h = within-names (2 + length ds) s (omega arith) (λ i m. ltb-true _ _ (all-of→ (declared ds) (and-l _ _ h) m))
 
 parts-ok : (ds : List Name) (D n : ℕ) → n ≤ D → (x : TypeEntry) → partsOk ds n x ≡ true → EntryOk D (2 + length ds) n x
 unfolding partsOk

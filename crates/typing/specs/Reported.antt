@@ -11,8 +11,8 @@ use lib.Dec.{eqb}
 use Rattle.order.specs.Bools.{_or_, or-cases}
 use Rattle.order.specs.Sets.{bit}
 use Rattle.order.specs.SetLaws.{bit-mem, all-of→}
-use Rattle.order.specs.Effects.{Effect, maximal, reduced, EffBelow}
-use Rattle.order.specs.EffectLaws.{bit-name, maximal→, reduced-unique}
+use Rattle.order.specs.Effects.{Effect, names, reduced, EffBelow}
+use Rattle.order.specs.EffectLaws.{name-not-zero, reduced-unique}
 use Rattle.syntax.specs.Types.{Ty, namesIn}
 use Rattle.syntax.specs.Job.{Name, Job, Src, upOf, uppers, sourceOf}
 use Rattle.syntax.specs.Reading.{hostName, openName, read, reading}
@@ -63,19 +63,19 @@ pub record Report (J : Job) (T : Ty) (e : Effect) : Type 0 where
   -- "Sets are kept reduced"
   pub effect-reduced : reduced (upOf (sourceOf J)) e ≡ true
   pub type-reduced : ReducedTy (upOf (sourceOf J)) T
-  -- bit n of the effect stands for name n, which is 1 or a host name
-  pub effect-names : (n : ℕ) → bit e n ≡ true → hostName (J .names) n ≡ true
+  -- each name of the effect is 1 or a host name
+  pub effect-names : (n : ℕ) → List·Memᴰ n (names e) → hostName (J .names) n ≡ true
   -- each name in the type is 0, 1 or a host name
   pub type-names : (n : ℕ) → List·Memᴰ n (namesIn T) → openName (J .names) n ≡ true
   -- no other reduced type and effect that the rules give are below all that they give
   pub least-unique : (U : Ty) (t : Effect) → JobHas J U t → LeastOf J U t → ReducedTy (upOf (sourceOf J)) U → reduced (upOf (sourceOf J)) t ≡ true → (U ≡ T) × (t ≡ e)
 
 report-of : (J : Job) → Formed (sourceOf J) → {T : Ty} {e : Effect} → Accepted J T e → Good (sourceOf J) (hostCtx (sourceOf J)) T e → Report J T e
-unfolding reduced sourceOf
+unfolding sourceOf
 report-of J ok {T} {e} a g = record {
   effect-reduced = g .red;
   type-reduced = g .ty .reduced;
-  effect-names = λ n b. let z = maximal→ (uppers (J .names)) e n (all-of→ (maximal (uppers (J .names)) e) (g .red) (bit-mem e b)) .0 in open-above (J .names) n (host-known (sourceOf J) (g .eff .each n (bit-name e b z))) z;
+  effect-names = λ n m. open-above (J .names) n (host-known (sourceOf J) (g .eff .each n m)) (name-not-zero e m);
   type-names = λ n m. host-known (sourceOf J) (type-names (g .ty .scoped) n m);
   least-unique = λ U t d l ru rt. let x = l T e (a .has) in let y = a .least U t d in
       (sub-antisym (ok .proper) ru (g .ty .reduced) (x .0) (y .0), reduced-unique (ok .proper) rt (g .red) (x .1) (y .1));

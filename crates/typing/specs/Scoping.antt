@@ -2,14 +2,14 @@
 use mathlib.Core.Path.{_≡_, refl, sym, _∙_, subst}
 use Prim.Native.Nat.{ℕ, zero, suc, _<_}
 use native.Mathlib.Omega.{arith}
-use mathlib.Core.Bool.{Bool, true, false}
+use mathlib.Core.Bool.{Bool, true, false, cond}
 use mathlib.Core.List.{List, [], _∷_, _++_, List·Memᴰ, List·Memᴰ·head, List·Memᴰ·tail, List·Memᴰ·not-nil, Memᴰ·append-left, Memᴰ·append-right}
 use mathlib.Core.Logic.{_⊎_, inl, inr}
 use lib.ListN.{length}
 use Rattle.order.specs.OrderLaws.{getElem?-mem}
 use Rattle.order.specs.Sets.{membersFrom, members, all-of}
 use Rattle.order.specs.Effects.{Effect, pure, touch, join, reduced, reduce}
-use Rattle.order.specs.EffectLaws.{reduce-reduced}
+use Rattle.order.specs.EffectLaws.{pure-reduced, reduce-reduced}
 use Rattle.syntax.specs.Types.{Ty, num, pair, cell, fn, lim, keyOf, rekey}
 use Rattle.syntax.specs.Commands.{Cmd, c-num, c-top, c-var, c-pair, c-part, c-fn, c-app, c-new, c-asg, c-read, c-sum, c-test, c-lim, c-grant, c-newkey, c-assoc}
 use Rattle.syntax.specs.Operands.{nth, plain, inner, typesOf}
@@ -22,9 +22,10 @@ use Rattle.syntax.specs.TreeFacts.{Ctx, x-root, x-plain, x-inner, TreeOk}
 use Rattle.syntax.specs.Scope.{VarIn, v-here, v-var, varin-cases, varin-mem, name-right, host-mem, host-var, open-cases}
 use Rattle.syntax.specs.ScopeLaws.{zero-scoped, one-scoped, names-type, wider-type, wider-effect, key-scoped, rekey-scoped, pure-scoped, join-scoped, touch-scoped, drop-scoped, reduce-scoped, raise-scoped}
 use Rattle.syntax.specs.Context.{plain-lt, inner-lt, ctx-le, root-lt, ctx-uses, ctx-names, bound-apart, bound-above}
-use Rattle.typing.specs.Least.{Typed, typed, pick, varType, keysAt, typeAt, get, typesTo, typeOf}
+use Rattle.typing.specs.Least.{Typed, typed, varType, keysAt, typeAt, get, typesTo, typeOf}
 use Rattle.typing.specs.Scoped.{lookup-var, absent-of, ctx-type, ctx-var}
 use Rattle.typing.specs.Rules.{Fresh}
+use Rattle.typing.specs.RulesScoped.{ScopedContext}
 use Rattle.typing.specs.Filled.{seen, typeOf-is, typed-ty, typed-eff, of-var, by-with, by-require, by-num, by-pair, by-cell, by-fn, by-lim, by-grant}
 
 -- a type in scope whose sets are reduced
@@ -67,8 +68,7 @@ module _ {S : Src} {Γ : List Entry} where
   rekey-good : {k : ℕ} {T : Ty} → ScopedName Γ k → GoodTy S Γ T → GoodTy S Γ (rekey k T)
   rekey-good {k} n t = record { scoped = rekey-scoped n (t .scoped); reduced = rekey-reduced k (t .reduced) }
 
-  pick-good : (i : Bool) {A B : Ty} → GoodTy S Γ A → GoodTy S Γ B → GoodTy S Γ (pick i A B)
-  unfolding pick
+  pick-good : (i : Bool) {A B : Ty} → GoodTy S Γ A → GoodTy S Γ B → GoodTy S Γ (cond i A B)
   pick-good true a b = a
   pick-good false a b = b
 
@@ -97,8 +97,7 @@ module _ {S : Src} {Γ : List Entry} where
   good {s = s} t p = record { ty = t; eff = reduce-scoped (upOf S) p; red = reduce-reduced (upOf S) s }
 
   good-pure : {T : Ty} → GoodTy S Γ T → Good S Γ T pure
-  unfolding reduced all-of members membersFrom
-  good-pure t = record { ty = t; eff = pure-scoped; red = refl }
+  good-pure t = record { ty = t; eff = pure-scoped; red = pure-reduced (upOf S) }
 
   same : {A T : Ty} {s t : Effect} → typed A s ≡ typed T t → Good S Γ A s → Good S Γ T t
   same {T = T} {s = s} h d = subst (λ u. Good S Γ T u) (typed-eff h) (subst (λ U. Good S Γ U s) (typed-ty h) d)
@@ -153,11 +152,14 @@ module _ (S : Src) (ok : Formed S) (tree : TreeOk S) where
       at (inl w) f = bind-good Γ (nth (S .cmds) p) (operand-good d) w
       at (inr w) f = let z = f w in record { scoped = wider-type (λ n m. name-right (binds (nth (S .cmds) p)) Γ m) (z .scoped); reduced = z .reduced }
 
+  ctx-scoped : {e : ℕ} {Γ : List Entry} → Ctx S e Γ → ScopedContext Γ
+  ctx-scoped d = record { each = λ x T l. var-good d (lookup-var l) .scoped }
+
   -- what the rule for a new key needs: the new name is fresh
   pub newkey-fresh : {e x r a b : ℕ} {T : Ty} {Γ : List Entry} → Ctx S e Γ → nth (S .cmds) e ≡ c-newkey x r a b T → Fresh (upOf S) Γ r
   unfolding binds namesOf
   newkey-fresh {e} {r = r} {Γ = Γ} d c = record {
-    types = λ y U l. var-good d (lookup-var l) .scoped;
+    types = ctx-scoped d .each;
     local = above;
     proper = λ z. itself (ok .proper .down r r z);
     absent = absent-of r Γ (λ n m. bound-apart S ok tree own (ctx-names S ok d m));

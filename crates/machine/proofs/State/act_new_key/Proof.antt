@@ -2,9 +2,10 @@ use Prim.Native.Nat.{ℕ}
 use Rattle.store.specs.Meaning.{valueIn}
 use mathlib.Core.Path.{ap, sym, _∙_}
 use denote.Ref.{now}
-use Rattle.machine.specs.Inner.{deed, putKeys, putPairs, putBindings}
+use mathlib.Core.List.{[]}
+use Rattle.machine.specs.Inner.{putKeys, putPairs, putBindings}
 use Rattle.machine.specs.View.{view}
-use Rattle.semantics.specs.Step.{d-key, actNewkey, settle}
+use Rattle.semantics.specs.Step.{makeKey, actNewkey, settle}
 use Rattle.machine.proofs.Acts.{key-denied, is-denied, is-full, no-keys, no-pairs, no-bindings, key-goes, went-to}
 use Rattle.machine.proofs.Sorts.{of-kind, not-limit}
 use borrow.Author.Needs.{needs}
@@ -55,7 +56,7 @@ new-key-requires : tie.Need-new-key-requires
 new-key-requires c κs = search needs
 
 returns-6 : tie.Need-returns-6
-returns-6 c = λ w. went-to _ _ (key-goes (c .before .before .before .before .before .before .before .before .before .before .before .before .before .args .back) (putBindings (putPairs (putKeys w (now (c .before .before .before .before .before .before .before .before .before .before .before .before .before .args .keys))) (now (c .before .before .before .before .before .before .before .before .before .before .before .before .before .args .pairs))) (now (c .before .before .before .before .before .before .before .before .before .before .before .before .before .args .bindings))) (c .before .before .before .before .before .before .before .before .before .before .before .before .before .args .x) (c .before .before .before .before .before .before .before .before .before .before .before .before .before .args .r) (c .before .before .before .before .before .before .before .before .before .before .before .before .before .args .body .0) (valueIn (c .before .before .before .before .before .before .before .before .before .before .before .before .before .args .v)) (of-kind _ (c .before .before .before .before .before .before .before .before .before .before .before .enum-told .given .1)) (c .before .before .before .before .before .before .before .before .before .touch .ensures) (c .before .before .before .before .before .before .before .before .if1 .taken) ∙ sym (ap (λ (z : ℕ). settle (deed (d-key (c .before .before .before .before .before .before .before .before .before .before .before .before .before .args .x) (c .before .before .before .before .before .before .before .before .before .before .before .before .before .args .r) (c .before .before .before .before .before .before .before .before .before .before .before .before .before .args .body .0) z) (view (c .before .before .before .before .before .before .before .before .before .before .before .before .before .args .back) (putBindings (putPairs (putKeys w (now (c .before .before .before .before .before .before .before .before .before .before .before .before .before .args .keys))) (now (c .before .before .before .before .before .before .before .before .before .before .before .before .before .args .pairs))) (now (c .before .before .before .before .before .before .before .before .before .before .before .before .before .args .bindings)))))) (c .before .before .before .before .key-in .ensures))) (c .new-key .ensures w)
+returns-6 c = λ w. went-to _ _ (key-goes (c .before .before .before .before .before .before .before .before .before .before .before .before .before .args .back) (putBindings (putPairs (putKeys w (now (c .before .before .before .before .before .before .before .before .before .before .before .before .before .args .keys))) (now (c .before .before .before .before .before .before .before .before .before .before .before .before .before .args .pairs))) (now (c .before .before .before .before .before .before .before .before .before .before .before .before .before .args .bindings))) (c .before .before .before .before .before .before .before .before .before .before .before .before .before .args .x) (c .before .before .before .before .before .before .before .before .before .before .before .before .before .args .r) (c .before .before .before .before .before .before .before .before .before .before .before .before .before .args .body .0) (valueIn (c .before .before .before .before .before .before .before .before .before .before .before .before .before .args .v)) (of-kind _ (c .before .before .before .before .before .before .before .before .before .before .before .enum-told .given .1)) (c .before .before .before .before .before .before .before .before .before .touch .ensures) (c .before .before .before .before .before .before .before .before .if1 .taken) ∙ sym (ap (λ (z : ℕ). settle (makeKey [] (c .before .before .before .before .before .before .before .before .before .before .before .before .before .args .x) (c .before .before .before .before .before .before .before .before .before .before .before .before .before .args .r) (c .before .before .before .before .before .before .before .before .before .before .before .before .before .args .body .0) z (view (c .before .before .before .before .before .before .before .before .before .before .before .before .before .args .back) (putBindings (putPairs (putKeys w (now (c .before .before .before .before .before .before .before .before .before .before .before .before .before .args .keys))) (now (c .before .before .before .before .before .before .before .before .before .before .before .before .before .args .pairs))) (now (c .before .before .before .before .before .before .before .before .before .before .before .before .before .args .bindings)))))) (c .before .before .before .before .key-in .ensures))) (c .new-key .ensures w)
 
 pub act-new-key-spec : {M : Type 1} → statement M
 act-new-key-spec =

@@ -1,6 +1,6 @@
 use Rattle.machine.proofs.Sorts.{not-found}
 use Rattle.machine.specs.View.{view}
-use Rattle.semantics.specs.Step.{variable, found, settle, touchAll, free, does, room}
+use Rattle.semantics.specs.Step.{variable, found, settle, touchAll, room}
 use borrow.Author.Needs.{needs}
 use Rattle.machine.proofs.State.variable.Statement.{statement}
 use Rattle.machine.proofs.State.variable.Tie as tie
@@ -27,11 +27,11 @@ stop-requires : tie.Need-stop-requires
 stop-requires c κs = search needs
 
 returns : tie.Need-returns
-unfolding variable found settle touchAll free does room view
+unfolding variable found settle touchAll room view
 returns c = λ w. simp (c .give .ensures, ← c .before .before .before .before .before .cap .ensures .0, ← c .before .before .before .before .lookup .ensures, c .before .before .found .given .1)
 
 returns-2 : tie.Need-returns-2
-unfolding variable found settle touchAll free does room view
+unfolding variable found settle touchAll room view
 returns-2 c = λ w. simp (c .stop .ensures, ← c .before .before .before .before .cap .ensures .0, ← c .before .before .before .lookup .ensures, not-found (c .before .before .before .lookup .result) (c .before .before .match .keys2))
 
 pub variable-spec : {M : Type 1} → statement M
