@@ -24,7 +24,7 @@ use Rattle.results.specs.Told.{Refuses, roomWords, countWords}
 use Rattle.results.proofs.Told.{counts-are}
 use Rattle.capi.specs.Runs.{numberOf, openedWith, openedTables, Goes, Ran, Runs}
 
-pub goes : {K : Steps} {words a a' k k' : List ℕ} {m : Clean} (last : Machine) → Made K words m a a' (seen last) → k' ≡ over k (countWords (last .thread)) → Goes K words m a a' k k'
+pub goes : {K : Steps} {words a a' k k' : List ℕ} {m : Clean} (last : Machine) → Made K words m a a' (seen last) → k' ≡ over k (countWords (last .thread) (last .used)) → Goes K words m a a' k k'
 goes {k = k} last h e = record { last = seen last; made = h; rooms = e ∙ ap (λ (l : List ℕ). over k l) (counts-are last) }
 
 -- answers with room for two words a call, or not

@@ -27,7 +27,8 @@ fn go(
 {
     let last = calls::make_calls(m, heads, slots, calls, answers);
     let t = last.thread;
-    results::count(t, rooms);
+    let u = last.used;
+    results::count(t, u, rooms);
 }
 
 // Starts the job and makes the calls, without a check: 0 says that the job is started, and is no verdict on it. Only of a job that

@@ -5,6 +5,7 @@ use machine::Control;
 use machine::Machine;
 use machine::Now;
 use machine::Thread;
+use store::Used;
 use table::Expr;
 ghost use mathlib.Core.Path.{_≡_};
 ghost use Prim.Native.Nat.{ℕ};
@@ -39,20 +40,23 @@ fn machine_of(b: Started) -> Machine
         env: b.nbindings,
         on: on,
     };
-    let t = Thread {
-        now: n,
-        frames: 0,
-        cells: b.ncells as u64,
-        keys: b.nkeys as u64,
+    let t = Thread { now: n, frames: 0 };
+    let ncells = b.ncells as u64;
+    let nkeys = b.nkeys as u64;
+    let nbindings = b.nbindings as u64;
+    let used = Used {
+        cells: ncells,
+        keys: nkeys,
         pairs: 0,
         functions: 0,
-        bindings: b.nbindings as u64,
+        bindings: nbindings,
     };
     let cells = b.cells;
     let keys = b.keys;
     let bindings = b.bindings;
     Machine {
         thread: t,
+        used: used,
         frames: [0u64; 1536],
         cells: cells,
         keys: keys,
