@@ -10,7 +10,8 @@ use Rattle.syntax.specs.Commands.{Cmd}
 use Rattle.syntax.specs.Words.{codeIn}
 use Rattle.semantics.specs.Machine.{Machine as Clean}
 use Rattle.semantics.specs.Calls.{calls}
-use Rattle.semantics.specs.Starting.{started, unstarted, JobTables}
+use Rattle.syntax.specs.Loading.{JobTables}
+use Rattle.semantics.specs.Starting.{started, unstarted}
 use Rattle.store.specs.Tables.{capped}
 use Rattle.store.specs.Words.{cellIn, pairIn, functionIn, linkIn, upIn}
 use Rattle.store.specs.Frames.{frameIn}

@@ -12,7 +12,7 @@ ghost use Rattle.syntax.specs.Words.{codeIn};
 ghost use Rattle.store.specs.Tables.{capped};
 ghost use Rattle.machine.specs.View.{seen};
 ghost use Rattle.calls.specs.Words.{over};
-ghost use Rattle.start.specs.Starts.{jobTables};
+ghost use Rattle.load.specs.Loads.{jobTables};
 ghost use Rattle.checker.specs.Answer.{tables};
 ghost use Rattle.capi.specs.Checks.{numberFor, outWords, Checks};
 ghost use Rattle.capi.specs.Runs.{countWords, Goes, Runs};
