@@ -11,7 +11,7 @@ use lib.Seq.{sets}
 use Rattle.semantics.specs.Machine.{Value, hand}
 use Rattle.semantics.specs.Room.{isDone, doneAt}
 use Rattle.store.specs.declared.Value.{Value as Held}
-use Rattle.store.specs.declared.Expr.{Expr}
+use Rattle.table.specs.declared.Expr.{Expr}
 use Rattle.store.specs.Meaning.{kindIn, valueIn}
 use Rattle.store.specs.Words.{cellIn}
 use Rattle.store.specs.Frames.{frameIn}

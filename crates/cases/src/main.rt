@@ -15,8 +15,8 @@ struct Tally {
 fn job_length(file: &[u8]) -> u16
     ensures { λ r. ⌜ r ≡ jobLength (now (file .entry)) ⌝ }
 {
-    let low = store::at8(file, 0);
-    let high = store::at8(file, 1);
+    let low = table::at8(file, 0);
+    let high = table::at8(file, 1);
     (low as u16) + (high as u16) * 256
 }
 
@@ -25,7 +25,7 @@ fn answer_length(file: &[u8]) -> u8
     ensures { λ r. ⌜ r ≡ answerLength (now (file .entry)) ⌝ }
 {
     let n = job_length(file) as usize;
-    store::at8(file, n + 2)
+    table::at8(file, n + 2)
 }
 
 // How many bytes the first case takes.

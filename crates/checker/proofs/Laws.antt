@@ -7,16 +7,16 @@ use lib.ListN.{length, replicate}
 use lib.Dec.{eqb}
 use types.Run.{OneOf, miss}
 use denote.Enum.Declared.{tagOf}
-use Rattle.syntax.specs.Tree.{past}
+use Rattle.syntax.specs.Tree.{predecessor}
 use Rattle.syntax.specs.Loading.{zeros}
 use Rattle.elaborate.specs.declared.Passed.{Passed}
 use Rattle.elaborate.specs.declared.Passed.the-variants as passed
 use Rattle.elaborate.proofs.Passed.{the-type as passed-type}
 use Rattle.checker.specs.Answer.{unlessOne}
 
-pub past-none : (n : ℕ) → n ≡ 0 → 0 ≡ past n
-unfolding past
-past-none n h = ap past (sym h)
+pub predecessor-none : (n : ℕ) → n ≡ 0 → 0 ≡ predecessor n
+unfolding predecessor
+predecessor-none n h = ap predecessor (sym h)
 
 pub is-whole : (a : Passed) → OneOf (0 ∷ []) (tagOf passed-type a) → a ≡ passed.Whole
 is-whole passed.Whole h = refl

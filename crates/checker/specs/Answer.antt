@@ -8,7 +8,7 @@ use lib.Dec.{eqb}
 use Rattle.syntax.specs.Types.{Ty, treeIn, tree}
 use Rattle.syntax.specs.Job.{Job}
 use Rattle.syntax.specs.Reading.{Read, refused, read, reading}
-use Rattle.syntax.specs.Tree.{past}
+use Rattle.syntax.specs.Tree.{predecessor}
 use Rattle.syntax.specs.Words.{entryIn}
 use Rattle.syntax.specs.Loading.{zeros, filledWith, loading}
 use Rattle.syntax.specs.WordLaws.{Bytes}
@@ -54,7 +54,7 @@ shapeFor (rules.refuse n) r = noShape
 
 -- the entry of the last of n expressions
 unfoldable pub lastIn : List ℕ → ℕ → ℕ
-lastIn entries n = getD entries (past n) 0
+lastIn entries n = getD entries (predecessor n) 0
 
 -- `check`: the verdict, the tables afterwards, and the counts of an accepted job; the entry that an acceptance names is that of the last expression
 pub record CheckTo (bytes : List ℕ) (r : Checked) (w x : Tables) : Type 0 where

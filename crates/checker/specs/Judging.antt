@@ -13,7 +13,7 @@ use Rattle.syntax.specs.Types.{Ty, treeIn, tree}
 use Rattle.syntax.specs.Job.{Job, sourceOf}
 use Rattle.syntax.specs.Reading.{Read, refused, read, refusedAt, reading, most-expressions}
 use Rattle.syntax.specs.ReadLaws.{JobOk, read-ok, or-none}
-use Rattle.syntax.specs.Tree.{past, treeRefusal}
+use Rattle.syntax.specs.Tree.{predecessor, treeRefusal}
 use Rattle.syntax.specs.Words.{filled, nameWords, typeWord, setWord, typeWords, setWords, valueWords, headWords, slotWords}
 use Rattle.syntax.specs.WordLaws.{Bytes, JobFits, job-fits, filled-at, filled-none, filled-length}
 use Rattle.syntax.specs.Loading.{JobTables, zeros, filledWith, loading, holding}
@@ -177,7 +177,7 @@ module _ {bytes : List ℕ} {J : Job} {g : Shape} {w : Tables} (given : Given by
       whole-is (r-whole σ v) z q = (σ, record { is-whole = refl; state = v; types = z .types; sets = z .sets; entries = z .entries; effects = z .effects })
       whole-is (r-halted m f u) z q = absurd (let y : _≡_ {A = ℕ} 0 1 = cc (z .answer) in omega arith)
 
-      module _ (q : a ≡ passed.Whole) {e s : ℕ} (e-is : e ≡ past (g .cmds)) (s-is : s ≡ getD es e 0) {b : Bool} (b-is : b ≡ effBelowBy anc s (g .rights)) where
+      module _ (q : a ≡ passed.Whole) {e s : ℕ} (e-is : e ≡ predecessor (g .cmds)) (s-is : s ≡ getD es e 0) {b : Bool} (b-is : b ≡ effBelowBy anc s (g .rights)) where
         abbrev σ : Sofar
         σ = whole-is reached after q .0
 
@@ -186,7 +186,7 @@ module _ {bytes : List ℕ} {J : Job} {g : Shape} {w : Tables} (given : Given by
 
         last-is : e ≡ lastOf J
         unfolding shapeOf lastOf
-        last-is = e-is ∙ (λ i. past (given .shape i .cmds))
+        last-is = e-is ∙ (λ i. predecessor (given .shape i .cmds))
 
         effect-is : s ≡ lastEffect J σ
         effect-is = s-is ∙ (λ i. getD (came .effects i) (last-is i) 0) ∙ filled-at (length (w .effects)) (σ .effects) (lastOf J)
@@ -320,7 +320,7 @@ judged-refused (judged.refused-by m o x f) q = f ∙ (λ i. rules.refuse (record
 -- the entry of the last expression stands in the table
 last-entry : (J : Job) (σ : Sofar) (g : Shape) (l : List ℕ) (k : ℕ) → g ≡ shapeOf J → l ≡ filled k 0 (σ .of) → lastEntry J σ ≡ lastIn l (g .cmds)
 unfolding lastIn lastOf shapeOf
-last-entry J σ g l k m n = rw (m, n) (sym (filled-at k (σ .of) (past (length (J .cmds)))))
+last-entry J σ g l k m n = rw (m, n) (sym (filled-at k (σ .of) (predecessor (length (J .cmds)))))
 
 -- an acceptance
 accepted-to : {bytes : List ℕ} {J : Job} {v : Verdict} {g : Shape} {w x : Tables} {t u : ℕ} → reading bytes ≡ read J → g ≡ shapeOf J → Lengths w x → short w ≡ false → Judged bytes J v x → v ≡ Accepted t u

@@ -12,7 +12,7 @@ ghost use mathlib.Core.Path.{_≡_};
 ghost use mathlib.Core.List.{List};
 ghost use Prim.Native.Nat.{ℕ, _%_};
 ghost use Rattle.syntax.specs.Job.{Job};
-ghost use Rattle.syntax.specs.Tree.{past};
+ghost use Rattle.syntax.specs.Tree.{predecessor};
 ghost use Rattle.typing.specs.Tables.{cleared};
 ghost use Rattle.checker.specs.Answer.{refusedBy, noShape, Given, Untyped, unlessOne, Judged, CheckTo};
 ghost use Rattle.checker.specs.Lent.{before, after, typedAfter};
@@ -53,7 +53,7 @@ fn refused(n: u8, p: usize) -> Checked
 
 // The last of n.
 fn last(n: usize) -> usize
-    ensures { λ r. ⌜ r ≡ past n ⌝ }
+    ensures { λ r. ⌜ r ≡ predecessor n ⌝ }
 {
     if n == 0 {
         return 0;

@@ -8,7 +8,7 @@ use Rattle.order.specs.Bools.{_or_}
 use Rattle.order.specs.Sets.{members, membersFrom, keep, setOf, some-of}
 use Rattle.order.specs.Effects.{names}
 use Rattle.syntax.specs.Job.{Src}
-use Rattle.syntax.specs.Tree.{root, past}
+use Rattle.syntax.specs.Tree.{root, predecessor}
 use Rattle.semantics.specs.Machine.{enter, Machine}
 use Rattle.semantics.specs.Keys.{enabled}
 use Rattle.semantics.specs.Start.{startOf, named, keyNamed, valued, addNames, addValues}
@@ -33,7 +33,7 @@ machineOf (unstarted q) = emptyMachine
 
 -- it is the start of no job
 pub empty-is : startOf noJob ≡ emptyMachine
-unfolding noJob emptyMachine startOf named keyNamed valued addNames addValues root past setOf names keep members membersFrom
+unfolding noJob emptyMachine startOf named keyNamed valued addNames addValues root predecessor setOf names keep members membersFrom
 empty-is = refl
 
 -- key 0 alone is enabled, as always

@@ -13,10 +13,10 @@ use Rattle.order.specs.Bools.{_and_, and-l, and-r}
 use Rattle.order.specs.OrderLaws.{getElem?-lt}
 use Rattle.order.specs.Sets.{setOf}
 use Rattle.order.specs.Effects as effects
-use Rattle.syntax.specs.Types.{Ty, num, pair, cell, fn, lim, grant, TypeEntry, e-num, e-pair, e-cell, e-fn, e-lim, e-grant, entryTree, treeIn, tree}
+use Rattle.syntax.specs.Types.{Ty, num, pair, cell, fn, lim, grant, TypeEntry, e-num, e-pair, e-cell, e-fn, e-lim, e-grant, entryTree, treeIn, tree, byType, onNum, onCell, onGrant, onLim}
 use Rattle.syntax.specs.Commands.{Cmd, c-top, mapCmd}
 use Rattle.syntax.specs.Job.{Name, HostValue, Job, Src, valueOf, sourceOf}
-use Rattle.syntax.specs.Tree.{root, past}
+use Rattle.syntax.specs.Tree.{root, predecessor}
 use Rattle.syntax.specs.Words.{nameWord, typeWord, valueWord, nameWords, typeWords, valueWords, filled}
 use Rattle.syntax.specs.Reading.{declared, partsOk, typeOk, unkeyedNumber, hostTypeOk, hostValueOk}
 use Rattle.syntax.specs.ReadLaws.{JobOk, built-at}
@@ -64,7 +64,7 @@ module _ (q a : ℕ) (hq : q < 256) (ha : a < 256) where
   head-grant = simp (byte 0x15 (omega arith), first 0x15 (omega arith), second 0x15 (omega arith))
 
 unkeyed-num : (A : Ty) → unkeyedNumber A ≡ true → A ≡ num 0
-unfolding unkeyedNumber
+unfolding unkeyedNumber onNum byType
 unkeyed-num (num p) h = ap num (eqb-true p 0 h)
 unkeyed-num (pair p A B) h = absurd (false≢true h)
 unkeyed-num (cell p A) h = absurd (false≢true h)
@@ -76,7 +76,7 @@ unkeyed-num (grant p r) h = absurd (false≢true h)
 head-of :
     (ds : List Name) (i n : ℕ) (f : ℕ → Ty) (o : Option TypeEntry) (w : ℕ) → length ds ≤ 62 → i ≤ 256 → ((e : TypeEntry) → o ≡ some e → partsOk ds i e ≡ true) →
     ((e : TypeEntry) → o ≡ some e → w ≡ typeWord e) → hostTypeOk ds (entryTree o f) n ≡ true → headOf w ≡ entryTree o f
-unfolding entryTree hostTypeOk partsOk declared
+unfolding entryTree hostTypeOk partsOk declared onCell byType onLim onGrant
 head-of ds i n f none w few le p g h = absurd (false≢true h)
 head-of ds i n f (some (e-num q)) w few le p g h = absurd (false≢true h)
 head-of ds i n f (some (e-pair q a b)) w few le p g h = absurd (false≢true h)
@@ -142,7 +142,7 @@ same-start S R a b c d = λ i. starts (a i) (b i) (c i) (d i)
         let N = addNames ns (record { keys = 0 ∷ 1 ∷ []; of = 0 ∷ 1 ∷ []; bindings = [] }) in
         let W = addValues (λ n. getD (N .of) n 0) 0 vs (record { cells = []; bindings = N .bindings }) in
         record {
-          thread = record { control = enter (past k); env = length (W .bindings); on = setOf (map (λ n. getD (N .of) n 0) (effects.names rs)); frames = [] };
+          thread = record { control = enter (predecessor k); env = length (W .bindings); on = setOf (map (λ n. getD (N .of) n 0) (effects.names rs)); frames = [] };
           store = record { cells = W .cells; keys = N .keys; pairs = []; functions = []; bindings = W .bindings };
         }
 

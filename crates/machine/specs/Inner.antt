@@ -6,11 +6,12 @@ use mathlib.Core.List.{List, [], _∷_}
 use mathlib.Core.Option.{Option, none, some}
 use lib.ListN.{take}
 use Rattle.syntax.specs.Commands.{Cmd}
+use Rattle.syntax.specs.Operands.{evaluated}
 use Rattle.syntax.specs.Words.{decode}
 use Rattle.semantics.specs.Machine.{Value as SValue, Machine as Clean}
-use Rattle.semantics.specs.Step.{Out, o-step, o-done, o-room, o-stuck, o-denied, handing, entering, Deed, Plan, p-wrong, p-try, settle, step, worked}
+use Rattle.semantics.specs.Step.{Out, o-step, o-done, o-room, o-stuck, o-denied, handing, entering, Plan, p-wrong, settle, step}
 use Rattle.semantics.specs.Calls.{Answer as SAnswer, taken, finished, spent, noroom, stuck, denied, Ran, ran, turn}
-use Rattle.store.specs.declared.Expr.{Expr}
+use Rattle.table.specs.declared.Expr.{Expr}
 use Rattle.store.specs.declared.Keys.{Keys}
 use Rattle.store.specs.declared.Kind.{Kind}
 use Rattle.store.specs.declared.Value.{Value}
@@ -50,10 +51,6 @@ stepped self w f = settled (view self w) (f (view self w))
 -- `back` is the thread with its newest frame popped, which acts; where it does not come to a step the thread is `self`
 abbrev pub tried : Thread → Thread → Tables → (Clean → Plan) → Stepped
 tried self back w f = settled (view self w) (settle (f (view back w)))
-
--- a plan that touches nothing
-abbrev pub deed : Deed → Clean → Plan
-deed d m = p-try [] m d
 
 -- a step that hands on a value, or enters an expression
 abbrev pub give : SValue → Clean → Out
@@ -117,9 +114,9 @@ abbrev pub orElse : {A : Type 0} → Option A → Option A → Option A
 orElse none b = b
 orElse (some a) b = some a
 
--- n operands are worked out before the act of a command: those in the first n of its places
+-- n operands are evaluated before the act of a command: those in the first n of its places
 pub record Works (op x n : ℕ) : Type 0 where
-  pub all : (a b c d e : ℕ) → worked (decode op x a b c d e) ≡ take n (a ∷ b ∷ c ∷ d ∷ [])
+  pub all : (a b c d e : ℕ) → evaluated (decode op x a b c d e) ≡ take n (a ∷ b ∷ c ∷ d ∷ [])
   pub few : n ≤ 4
 
 abbrev pub isTaken : Answer → Bool

@@ -6,10 +6,8 @@ use crate::Thread;
 use crate::unkeyed;
 use store::BINDING_WORDS;
 use store::CELL_WORDS;
-use store::Expr;
 use store::FUNCTION_WORDS;
 use store::KEY_BYTES;
-use store::Key;
 use store::Kind;
 use store::MOST_BINDINGS;
 use store::MOST_CELLS;
@@ -20,18 +18,20 @@ use store::Own;
 use store::PAIR_WORDS;
 use store::Two;
 use store::Value;
+use table::Expr;
+use table::Key;
 ghost use mathlib.Core.Path.{_≡_};
 ghost use mathlib.Core.List.{List, [], _∷_};
 ghost use Prim.Native.Nat.{ℕ, suc, _<_};
 ghost use Rattle.order.specs.Sets.{all-of};
 ghost use Rattle.semantics.specs.Machine.{most-keys, most-pairs, most-bindings};
 ghost use Rattle.semantics.specs.Keys.{enabled};
-ghost use Rattle.semantics.specs.Step.{Plan, settle, d-key, actPair, actPart, actApp, actNew, actAsg, actRead, actSum, actTest, limitKeys, actLim, actGrant, actNewkey, actAssoc, sumN};
+ghost use Rattle.semantics.specs.Step.{Plan, settle, actPair, actPart, actApp, actNew, actAsg, actRead, actSum, actTest, limitKeys, actLim, actGrant, makeKey, actNewkey, actAssoc, sumN};
 ghost use Rattle.store.specs.Meaning.{keysIn, valueIn};
 ghost use Rattle.store.specs.Words.{upIn};
 ghost use Rattle.store.specs.Tables.{capped, listOf};
 ghost use Rattle.machine.specs.View.{Tables, view};
-ghost use Rattle.machine.specs.Inner.{acted, tried, deed, putCells, putKeys, putPairs, putFunctions, putBindings, limitsIn, Went};
+ghost use Rattle.machine.specs.Inner.{acted, tried, putCells, putKeys, putPairs, putFunctions, putBindings, limitsIn, Went};
 
 // 3E binds twice.
 const ROOM_FOR_TWO: u64 = MOST_BINDINGS - 1;
@@ -396,7 +396,7 @@ impl Thread {
         bindings: &mut [u64; BINDING_WORDS],
     ) -> Acted
         requires { ⌜ (self .keys < most-keys) × (self .pairs < most-pairs) × (suc (self .bindings) < most-bindings) ⌝ }
-        ensures { λ t. ⌜ ((w : Tables) → Went t (putBindings (putPairs (putKeys w (now (keys .exit))) (now (pairs .exit))) (now (bindings .exit))) (settle (deed (d-key x r (body .0) (j .0)) (view self (putBindings (putPairs (putKeys w (now (keys .entry))) (now (pairs .entry))) (now (bindings .entry))))))) ⌝ }
+        ensures { λ t. ⌜ ((w : Tables) → Went t (putBindings (putPairs (putKeys w (now (keys .exit))) (now (pairs .exit))) (now (bindings .exit))) (settle (makeKey [] x r (body .0) (j .0) (view self (putBindings (putPairs (putKeys w (now (keys .entry))) (now (pairs .entry))) (now (bindings .entry))))))) ⌝ }
     {
         let nk = self.keys;
         let np = self.pairs;

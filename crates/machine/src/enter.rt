@@ -7,7 +7,6 @@ use crate::unkeyed;
 use store::BINDING_WORDS;
 use store::Bound;
 use store::Closure;
-use store::Expr;
 use store::FRAME_WORDS;
 use store::FUNCTION_WORDS;
 use store::Keys;
@@ -15,22 +14,23 @@ use store::Kind;
 use store::MOST_BINDINGS;
 use store::MOST_FRAMES;
 use store::MOST_FUNCTIONS;
+use table::Expr;
 ghost use mathlib.Core.Path.{_≡_};
 ghost use mathlib.Core.Option.{Option};
 ghost use Rattle.syntax.specs.Words.{codeIn};
 ghost use Rattle.semantics.specs.Machine.{most-bindings, Value as SValue};
-ghost use Rattle.semantics.specs.Step.{d-push, d-fn, seekIn, seek, variable, enterCmd};
+ghost use Rattle.semantics.specs.Step.{seekIn, seek, variable, actFn, push, enterCmd};
 ghost use Rattle.store.specs.Meaning.{boundIn};
 ghost use Rattle.store.specs.Words.{linkIn};
 ghost use Rattle.store.specs.Tables.{listOf};
 ghost use Rattle.machine.specs.Meaning.{foundIn};
 ghost use Rattle.machine.specs.View.{Tables};
-ghost use Rattle.machine.specs.Inner.{acted, tried, deed, putFrames, putFunctions, putBindings, orElse, Works};
+ghost use Rattle.machine.specs.Inner.{acted, tried, putFrames, putFunctions, putBindings, orElse, Works};
 
 // No chain of bindings is longer.
 const MOST_LINKS: u16 = MOST_BINDINGS as u16;
 
-// How many operands are worked out before the act.
+// How many operands are evaluated before the act.
 pub(crate) fn need(op: u64, x: u64) -> u8
     ensures { λ r. ⌜ Works op x r ⌝ }
 {
@@ -88,7 +88,7 @@ fn lookup(bindings: &[u64; BINDING_WORDS], n: u16, x: u8, from: u16) -> Found
 
 impl Thread {
     fn push(self, e: Expr, first: Expr, frames: &mut [u64; FRAME_WORDS]) -> Acted
-        ensures { λ r. ⌜ ((w : Tables) → acted r (putFrames w (now (frames .exit))) ≡ tried self self (putFrames w (now (frames .entry))) (deed (d-push (e .0) (first .0)))) ⌝ }
+        ensures { λ r. ⌜ ((w : Tables) → acted r (putFrames w (now (frames .exit))) ≡ tried self self (putFrames w (now (frames .entry))) (push (e .0) (first .0))) ⌝ }
     {
         let n = self.frames;
         if n < MOST_FRAMES {
@@ -104,7 +104,7 @@ impl Thread {
     }
 
     fn function(self, x: u8, body: Expr, functions: &mut [u64; FUNCTION_WORDS]) -> Acted
-        ensures { λ r. ⌜ ((w : Tables) → acted r (putFunctions w (now (functions .exit))) ≡ tried self self (putFunctions w (now (functions .entry))) (deed (d-fn x (body .0)))) ⌝ }
+        ensures { λ r. ⌜ ((w : Tables) → acted r (putFunctions w (now (functions .exit))) ≡ tried self self (putFunctions w (now (functions .entry))) (actFn x (body .0))) ⌝ }
     {
         let n = self.functions;
         if n < MOST_FUNCTIONS {
@@ -151,11 +151,11 @@ impl Thread {
         ensures { λ r. ⌜ ((w : Tables) → acted r (putBindings (putFunctions (putFrames w (now (frames .exit))) (now (functions .exit))) (now (bindings .entry))) ≡ tried self self (putBindings (putFunctions (putFrames w (now (frames .entry))) (now (functions .entry))) (now (bindings .entry))) (enterCmd (e .0) (codeIn (now (heads .entry)) (now (slots .entry)) (e .0)))) ⌝ }
     {
         let i = e.0 as usize;
-        let head = store::at64(heads, i);
+        let head = table::at64(heads, i);
         let op = head % 256;
         let x = head / 256 % 4294967296;
         if 0 < need(op, x) {
-            let first = Expr(store::at16(slots, i * 5));
+            let first = Expr(table::at16(slots, i * 5));
             return self.push(e, first, frames);
         }
         match op {
@@ -165,12 +165,12 @@ impl Thread {
             }
             0x32 => self.variable((x % 256) as u8, bindings),
             0x35 => {
-                let body = Expr(store::at16(slots, i * 5));
+                let body = Expr(table::at16(slots, i * 5));
                 self.function((x % 256) as u8, body, functions)
             }
             0x3C => {
                 let now = self.now;
-                self.go(Expr(store::at16(slots, i * 5 + 4)), now.env, Keys(0, 0))
+                self.go(Expr(table::at16(slots, i * 5 + 4)), now.env, Keys(0, 0))
             }
             _ => {
                 let v = unkeyed(Kind::Number, x as u32);

@@ -6,16 +6,16 @@ mod step;
 
 use store::BINDING_WORDS;
 use store::CELL_WORDS;
-use store::Expr;
 use store::FRAME_WORDS;
 use store::FUNCTION_WORDS;
 use store::KEY_BYTES;
-use store::Key;
 use store::Keys;
 use store::Kind;
 use store::Own;
 use store::PAIR_WORDS;
 use store::Value;
+use table::Expr;
+use table::Key;
 ghost use mathlib.Core.Path.{_≡_};
 ghost use Rattle.semantics.specs.Machine.{most-keys};
 ghost use Rattle.semantics.specs.Keys.{enabled};

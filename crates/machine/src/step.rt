@@ -6,13 +6,13 @@ use crate::Thread;
 use crate::enter::need;
 use store::BINDING_WORDS;
 use store::CELL_WORDS;
-use store::Expr;
 use store::FRAME_WORDS;
 use store::FUNCTION_WORDS;
 use store::KEY_BYTES;
 use store::MOST_FRAMES;
 use store::PAIR_WORDS;
 use store::Value;
+use table::Expr;
 ghost use mathlib.Core.Path.{_≡_};
 ghost use mathlib.Core.Bool.{cond};
 ghost use mathlib.Core.List.{[], _∷_, _++_};
@@ -55,15 +55,15 @@ impl Thread {
         ensures { λ r. ⌜ ((w : Tables) → acted r (putBindings (putPairs (putKeys (putCells w (now (cells .exit))) (now (keys .exit))) (now (pairs .exit))) (now (bindings .exit))) ≡ tried self back (putBindings (putPairs (putKeys (putCells w (now (cells .entry))) (now (keys .entry))) (now (pairs .entry))) (now (bindings .entry))) (act (codeIn (now (heads .entry)) (now (slots .entry)) (at .0)) (valueIn v ∷ []))) ⌝ }
     {
         let i = at.0 as usize;
-        let head = store::at64(heads, i);
+        let head = table::at64(heads, i);
         let op = head % 256;
         let x = head / 256 % 4294967296;
-        let b = Expr(store::at16(slots, i * 5 + 1));
+        let b = Expr(table::at16(slots, i * 5 + 1));
         match op {
             0x34 => self.act_part(back, x == 1, v, keys, pairs),
             0x37 => self.act_cell(back, v, cells),
             0x39 => self.act_read(back, v, keys, cells),
-            0x3B => self.act_test(back, b, Expr(store::at16(slots, i * 5 + 2)), v, keys),
+            0x3B => self.act_test(back, b, Expr(table::at16(slots, i * 5 + 2)), v, keys),
             0x3D => self.act_grant(back, b, v, keys),
             0x3E => self.act_new_key(
                 back,
@@ -98,7 +98,7 @@ impl Thread {
         ensures { λ r. ⌜ ((w : Tables) → acted r (putBindings (putFunctions (putPairs (putKeys (putCells w (now (cells .exit))) (now (keys .entry))) (now (pairs .exit))) (now (functions .entry))) (now (bindings .exit))) ≡ tried self back (putBindings (putFunctions (putPairs (putKeys (putCells w (now (cells .entry))) (now (keys .entry))) (now (pairs .entry))) (now (functions .entry))) (now (bindings .entry))) (act (codeIn (now (heads .entry)) (now (slots .entry)) (at .0)) (valueIn u ∷ valueIn v ∷ []))) ⌝ }
     {
         let i = at.0 as usize;
-        let head = store::at64(heads, i);
+        let head = table::at64(heads, i);
         let op = head % 256;
         let x = head / 256 % 4294967296;
         match op {
@@ -131,12 +131,12 @@ impl Thread {
         ensures { λ r. ⌜ acted r (tables (now (frames .entry)) (now (cells .exit)) (now (keys .exit)) (now (pairs .exit)) (now (functions .entry)) (now (bindings .exit))) ≡ tried self back (tables (now (frames .entry)) (now (cells .entry)) (now (keys .entry)) (now (pairs .entry)) (now (functions .entry)) (now (bindings .entry))) (act (codeIn (now (heads .entry)) (now (slots .entry)) (at .0)) (handOf held (heldIn (now (frames .entry)) top 0) (heldIn (now (frames .entry)) top 1) (heldIn (now (frames .entry)) top 2) ++ (valueIn v ∷ []))) ⌝ }
     {
         let i = at.0 as usize;
-        let head = store::at64(heads, i);
+        let head = table::at64(heads, i);
         if head % 256 == 0x3C {
             let a = in_hand(frames, top, held, 0, v);
             let b = in_hand(frames, top, held, 1, v);
             let c = in_hand(frames, top, held, 2, v);
-            let body = Expr(store::at16(slots, i * 5 + 4));
+            let body = Expr(table::at16(slots, i * 5 + 4));
             return self.act_limit(back, body, a, b, c, v, keys);
         }
         if held == 0 {
@@ -186,10 +186,10 @@ impl Thread {
         let on = h.on;
         let held = h.held;
         let i = at.0 as usize;
-        let head = store::at64(heads, i);
+        let head = table::at64(heads, i);
         if held + 1 < need(head % 256, head / 256 % 4294967296) {
             store::put_held(frames, top, v);
-            let next = Expr(store::at16(slots, i * 5 + ((held + 1) as usize)));
+            let next = Expr(table::at16(slots, i * 5 + ((held + 1) as usize)));
             return self.go(next, h.env, on);
         }
         let back = self.resume(top, h.env, on);

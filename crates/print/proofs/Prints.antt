@@ -28,7 +28,7 @@ use Rattle.semantics.specs.RunLaws.{Says, one-taken, one-done, one-stuck, one-d
 use Rattle.semantics.specs.TypeFree.{run-same}
 use Rattle.semantics.specs.Demand3.{exprOf}
 use Rattle.store.specs.declared.Value.{Value as Held}
-use Rattle.store.specs.declared.Expr.{Expr}
+use Rattle.table.specs.declared.Expr.{Expr}
 use Rattle.store.specs.Meaning.{valueIn, kindIn}
 use Rattle.machine.specs.declared.Machine.{Machine}
 use Rattle.machine.specs.declared.Outcome.{Outcome}

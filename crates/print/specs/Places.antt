@@ -13,7 +13,7 @@ use Rattle.syntax.specs.Job.{Job, Src, upOf, sourceOf}
 use Rattle.syntax.specs.Reading.{Refusal, Read, refused, read, reading}
 use Rattle.syntax.specs.ReadLaws.{JobOk, read-ok}
 use Rattle.syntax.specs.ReadPlaces.{refused-place}
-use Rattle.syntax.specs.Tree.{root, past, firstBad, orElse, numbered, lowest, treeRefusal}
+use Rattle.syntax.specs.Tree.{root, predecessor, firstBad, orElse, numbered, lowest, treeRefusal}
 use Rattle.typing.specs.Least.{Typed, typed, untyped, types, typesTo, typeOf, firstUntyped}
 use Rattle.typing.specs.Filled.{typesTo-length}
 use Rattle.typing.specs.Verdict.{Verdict, accept, refuse, unless, within, judged, judge, judgeRead, verdictOf}
@@ -57,10 +57,10 @@ unless-placed no-refusal p = p
 unless-placed (at-most q h) p = placed q h
 
 root-small : (S : Src) → root S ≤ length (S .cmds)
-unfolding root past
+unfolding root predecessor
 root-small S = back (length (S .cmds))
   where
-    back : (n : ℕ) → past n ≤ n
+    back : (n : ℕ) → predecessor n ≤ n
     back zero = omega arith
     back (suc n) = omega arith
 

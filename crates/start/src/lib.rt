@@ -6,7 +6,7 @@ use machine::Control;
 use machine::Machine;
 use machine::Now;
 use machine::Thread;
-use store::Expr;
+use table::Expr;
 ghost use mathlib.Core.Path.{_≡_};
 ghost use Rattle.syntax.specs.Job.{Src};
 ghost use Rattle.semantics.specs.Start.{startOf};

@@ -8,7 +8,7 @@ use lib.Dec.{eqb, ltb, leb}
 use Rattle.order.specs.Bools.{_and_, _or_}
 use Rattle.order.specs.Sets.{members, all-of}
 use Rattle.order.specs.Effects.{Effect, reduced}
-use Rattle.syntax.specs.Types.{Ty, num, pair, cell, fn, lim, grant, TypeEntry, e-num, e-pair, e-cell, e-fn, e-lim, e-grant, tree, depth}
+use Rattle.syntax.specs.Types.{Ty, onNum, onCell, onLim, onGrant, TypeEntry, e-num, e-pair, e-cell, e-fn, e-lim, e-grant, tree, depth}
 use Rattle.syntax.specs.Commands.{Cmd, c-num, c-top, c-var, c-pair, c-part, c-fn, c-app, c-new, c-asg, c-read, c-sum, c-test, c-lim, c-grant, c-newkey, c-assoc}
 use Rattle.syntax.specs.Commands.{Op, o-host, o-local, o-number, o-pair, o-cell, o-function, o-limit, o-grant, o-value, o-rights, o-end, opOf, operands, width, sectionOf, fields}
 use Rattle.syntax.specs.Commands.{x-number, x-top, x-variable, x-pair, x-part, x-function, x-apply, x-cell, x-assign, x-read, x-sum, x-test, x-limit, x-grant, x-newkey, x-associate}
@@ -83,20 +83,12 @@ typeOk ds ts e = partsOk ds (length ts) e and leb (depth (tree (ts ++ (e ∷ [])
 
 -- 20: a cell of unkeyed numbers, or a limit or grant key (n is then 0), of 0, 1 and host names
 unfoldable pub unkeyedNumber : Ty → Bool
-unkeyedNumber (num q) = eqb q 0
-unkeyedNumber (pair q A B) = false
-unkeyedNumber (cell q A) = false
-unkeyedNumber (fn q A B s) = false
-unkeyedNumber (lim q r) = false
-unkeyedNumber (grant q r) = false
+unkeyedNumber T = onNum T (λ q. eqb q 0) false
 
 unfoldable pub hostTypeOk : List Name → Ty → ℕ → Bool
-hostTypeOk ds (num q) n = false
-hostTypeOk ds (pair q A B) n = false
-hostTypeOk ds (cell q A) n = openName ds q and unkeyedNumber A
-hostTypeOk ds (fn q A B s) n = false
-hostTypeOk ds (lim q r) n = openName ds q and openName ds r and eqb n 0
-hostTypeOk ds (grant q r) n = openName ds q and openName ds r and eqb n 0
+hostTypeOk ds T n =
+    let key : ℕ → ℕ → Bool = λ q r. openName ds q and openName ds r and eqb n 0 in
+    onCell T (λ q A. openName ds q and unkeyedNumber A) (onLim T key (onGrant T key false))
 
 unfoldable pub hostValueOk : List Name → List TypeEntry → HostValue ℕ → Bool
 hostValueOk ds ts h = ltb (h .ty) (length ts) and hostTypeOk ds (tree ts (h .ty)) (h .init)

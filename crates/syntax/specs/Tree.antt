@@ -64,13 +64,13 @@ valueCtx v (h ∷ hs) Γ = valueCtx (suc v) hs (e-var v (h .ty) ∷ Γ)
 unfoldable pub hostCtx : Src → List Entry
 hostCtx S = valueCtx 0 (S .values) (nameCtx 2 (S .names) [])
 
-unfoldable pub past : ℕ → ℕ
-past zero = 0
-past (suc n) = n
+unfoldable pub predecessor : ℕ → ℕ
+predecessor zero = 0
+predecessor (suc n) = n
 
 -- "The last expression is the job."
 unfoldable pub root : Src → ℕ
-root S = past (length (S .cmds))
+root S = predecessor (length (S .cmds))
 
 -- how often c stands in a list; how often it is an operand
 unfoldable pub count : ℕ → List ℕ → ℕ

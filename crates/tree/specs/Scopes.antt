@@ -17,7 +17,7 @@ use Rattle.syntax.specs.Commands.{Cmd, c-num, c-top, c-var, c-pair, c-part, c-f
 use Rattle.syntax.specs.Operands.{nth, plain, inner, children, bindsVar, bindsName}
 use Rattle.syntax.specs.Words as words
 use Rattle.syntax.specs.Job.{Src}
-use Rattle.syntax.specs.Tree.{Entry, binds, varsOf, namesOf, memB, count, hostCtx, past, root, uses, usedRight, parent, scopeIn, ctx, nameIn}
+use Rattle.syntax.specs.Tree.{Entry, binds, varsOf, namesOf, memB, count, hostCtx, predecessor, root, uses, usedRight, parent, scopeIn, ctx, nameIn}
 use Rattle.syntax.specs.Scope.{count-mem, uses-mem, mem-uses, parent-is}
 use Rattle.syntax.specs.ReadFormed.{children-map, nth-map}
 use Rattle.names.specs.Ancestors.{oneOf}
@@ -174,14 +174,14 @@ module _ (S : Src) (l : List (Cmd ℕ)) (f : ℕ → Ty) (is : S .cmds ≡ map (
   size : length (S .cmds) ≡ length l
   size = ap length is ∙ length-map l (mapCmd f)
 
-  past-is : (n : ℕ) → 0 < n → suc (past n) ≡ n
-  unfolding past
-  past-is zero h = absurd (omega arith)
-  past-is (suc n) h = refl
+  predecessor-is : (n : ℕ) → 0 < n → suc (predecessor n) ≡ n
+  unfolding predecessor
+  predecessor-is zero h = absurd (omega arith)
+  predecessor-is (suc n) h = refl
 
   pub root-is : suc (root S) ≡ length l
   unfolding root
-  root-is = past-is (length (S .cmds)) (omega (arith, size)) ∙ size
+  root-is = predecessor-is (length (S .cmds)) (omega (arith, size)) ∙ size
 
   code-at : (e : ℕ) → nth (S .cmds) e ≡ mapCmd f (nth l e)
   code-at e = ap (λ (m : List (Cmd Ty)). nth m e) is ∙ nth-map f l e

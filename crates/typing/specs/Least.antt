@@ -6,7 +6,7 @@ use mathlib.Core.Option.{Option, none, some}
 use lib.ListN.{length, getElem?}
 use lib.Dec.{eqb}
 use Rattle.order.specs.Effects.{Effect, pure, ofNames, touch, join, drop, raise, reduce, effBelow}
-use Rattle.syntax.specs.Types.{Ty, num, pair, cell, fn, lim, grant, keyOf, rekey}
+use Rattle.syntax.specs.Types.{Ty, num, pair, cell, fn, lim, grant, onNum, onPair, onCell, onFn, onLim, onGrant, keyOf, rekey}
 use Rattle.syntax.specs.Commands.{Cmd, c-num, c-top, c-var, c-pair, c-part, c-fn, c-app, c-new, c-asg, c-read, c-sum, c-test, c-lim, c-grant, c-newkey, c-assoc}
 use Rattle.syntax.specs.Operands.{nth}
 use Rattle.syntax.specs.Job.{Src, upOf}
@@ -26,52 +26,22 @@ with (untyped n) f = untyped n
 
 -- 11: an operand of the wrong kind
 unfoldable pub wantNum : Ty → (ℕ → Typed) → Typed
-wantNum (num q) f = f q
-wantNum (pair q A B) f = untyped 11
-wantNum (cell q A) f = untyped 11
-wantNum (fn q A B s) f = untyped 11
-wantNum (lim q r) f = untyped 11
-wantNum (grant q r) f = untyped 11
+wantNum T f = onNum T f (untyped 11)
 
 unfoldable pub wantPair : Ty → (ℕ → Ty → Ty → Typed) → Typed
-wantPair (num q) f = untyped 11
-wantPair (pair q A B) f = f q A B
-wantPair (cell q A) f = untyped 11
-wantPair (fn q A B s) f = untyped 11
-wantPair (lim q r) f = untyped 11
-wantPair (grant q r) f = untyped 11
+wantPair T f = onPair T f (untyped 11)
 
 unfoldable pub wantCell : Ty → (ℕ → Ty → Typed) → Typed
-wantCell (num q) f = untyped 11
-wantCell (pair q A B) f = untyped 11
-wantCell (cell q A) f = f q A
-wantCell (fn q A B s) f = untyped 11
-wantCell (lim q r) f = untyped 11
-wantCell (grant q r) f = untyped 11
+wantCell T f = onCell T f (untyped 11)
 
 unfoldable pub wantFn : Ty → (ℕ → Ty → Ty → Effect → Typed) → Typed
-wantFn (num q) f = untyped 11
-wantFn (pair q A B) f = untyped 11
-wantFn (cell q A) f = untyped 11
-wantFn (fn q A B s) f = f q A B s
-wantFn (lim q r) f = untyped 11
-wantFn (grant q r) f = untyped 11
+wantFn T f = onFn T f (untyped 11)
 
 unfoldable pub wantLim : Ty → (ℕ → ℕ → Typed) → Typed
-wantLim (num q) f = untyped 11
-wantLim (pair q A B) f = untyped 11
-wantLim (cell q A) f = untyped 11
-wantLim (fn q A B s) f = untyped 11
-wantLim (lim q r) f = f q r
-wantLim (grant q r) f = untyped 11
+wantLim T f = onLim T f (untyped 11)
 
 unfoldable pub wantGrant : Ty → (ℕ → ℕ → Typed) → Typed
-wantGrant (num q) f = untyped 11
-wantGrant (pair q A B) f = untyped 11
-wantGrant (cell q A) f = untyped 11
-wantGrant (fn q A B s) f = untyped 11
-wantGrant (lim q r) f = untyped 11
-wantGrant (grant q r) f = f q r
+wantGrant T f = onGrant T f (untyped 11)
 
 -- a condition, and the number given where it fails
 unfoldable pub require : ℕ → Bool → Typed → Typed

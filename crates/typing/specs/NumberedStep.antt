@@ -11,7 +11,7 @@ use Rattle.order.specs.OrderLaws.{getElem?-some}
 use Rattle.order.specs.SetLaws.{or-assoc, lt-pow}
 use Rattle.order.specs.Effects.{Effect, pure, touch, ofNames, join, drop as dropped, raise, reduce, effBelow}
 use Rattle.order.specs.EffectLaws.{reduce-lt, drop-lt, join-lt, touch-lt, touch-join, join-touch, raise-lt}
-use Rattle.syntax.specs.Types.{Ty, cell, fn, keyOf, rekey, TypeEntry, e-num, e-pair, e-cell, e-fn, e-lim, e-grant, entryTree, tree}
+use Rattle.syntax.specs.Types.{Ty, cell, fn, keyOf, rekey, TypeEntry, e-num, e-pair, e-cell, e-fn, e-lim, e-grant, entryTree, tree, byType, onCell, onFn, onGrant, onLim, onNum, onPair}
 use Rattle.syntax.specs.TypeLaws.{tree-entry}
 use Rattle.syntax.specs.Commands.{Cmd, c-num, c-top, c-var, c-pair, c-part, c-fn, c-app, c-new, c-asg, c-read, c-sum, c-test, c-lim, c-grant, c-newkey, c-assoc, mapCmd}
 use Rattle.syntax.specs.Operands.{plain, inner, children, typesOf, usesVar, bindsName}
@@ -131,7 +131,7 @@ module _ (S : Src) {O : Ops} (ag : Agree (upOf S) O) (ts : List TypeEntry) {E : 
       at (x, z) = subst⁻¹ (λ o. P (tree E i) o) z (subst⁻¹ (λ A. P A (some x)) (tree-entry (table-earlier ok) i x z) (f x (ok .each i x z)))
 
   by-num : {i : ℕ} → i < length E → (f : ℕ → Typed) (g : ℕ → Result) → ((q : ℕ) → q < N → M (f q) (g q)) → M (wantNum (tree E i) f) (needNum (getElem? E i) g)
-  unfolding wantNum needNum entryTree
+  unfolding wantNum needNum entryTree onNum byType
   by-num {i} h f g k = by-entry h (λ A o. M (wantNum A f) (needNum o g)) go
     where
       go : (x : TypeEntry) → EntryOk D N i x → M (wantNum (entryTree (some x) (tree E)) f) (needNum (some x) g)
@@ -144,7 +144,7 @@ module _ (S : Src) {O : Ops} (ag : Agree (upOf S) O) (ts : List TypeEntry) {E : 
 
   by-pair : {i : ℕ} → i < length E → (f : ℕ → Ty → Ty → Typed) (g : ℕ → ℕ → ℕ → Result) → ((q a b : ℕ) → q < N → a < length E → b < length E → M (f q (tree E a) (tree E b)) (g q a b))
       → M (wantPair (tree E i) f) (needPair (getElem? E i) g)
-  unfolding wantPair needPair entryTree
+  unfolding wantPair needPair entryTree onPair byType
   by-pair {i} h f g k = by-entry h (λ A o. M (wantPair A f) (needPair o g)) go
     where
       go : (x : TypeEntry) → EntryOk D N i x → M (wantPair (entryTree (some x) (tree E)) f) (needPair (some x) g)
@@ -157,7 +157,7 @@ module _ (S : Src) {O : Ops} (ag : Agree (upOf S) O) (ts : List TypeEntry) {E : 
 
   by-cell : {i : ℕ} → i < length E → (f : ℕ → Ty → Typed) (g : ℕ → ℕ → Result) → ((q t : ℕ) → q < N → t < length E → t < D → M (f q (tree E t)) (g q t))
       → M (wantCell (tree E i) f) (needCell (getElem? E i) g)
-  unfolding wantCell needCell entryTree
+  unfolding wantCell needCell entryTree onCell byType
   by-cell {i} h f g k = by-entry h (λ A o. M (wantCell A f) (needCell o g)) go
     where
       go : (x : TypeEntry) → EntryOk D N i x → M (wantCell (entryTree (some x) (tree E)) f) (needCell (some x) g)
@@ -170,7 +170,7 @@ module _ (S : Src) {O : Ops} (ag : Agree (upOf S) O) (ts : List TypeEntry) {E : 
 
   by-fn : {i : ℕ} → i < length E → (f : ℕ → Ty → Ty → Effect → Typed) (g : ℕ → ℕ → ℕ → Effect → Result)
       → ((q t u : ℕ) (s : Effect) → q < N → t < D → u < length E → s < 2 ^ N → M (f q (tree E t) (tree E u) s) (g q t u s)) → M (wantFn (tree E i) f) (needFn (getElem? E i) g)
-  unfolding wantFn needFn entryTree
+  unfolding wantFn needFn entryTree onFn byType
   by-fn {i} h f g k = by-entry h (λ A o. M (wantFn A f) (needFn o g)) go
     where
       go : (x : TypeEntry) → EntryOk D N i x → M (wantFn (entryTree (some x) (tree E)) f) (needFn (some x) g)
@@ -182,7 +182,7 @@ module _ (S : Src) {O : Ops} (ag : Agree (upOf S) O) (ts : List TypeEntry) {E : 
       go (e-grant q r) p = m-no
 
   by-lim : {i : ℕ} → i < length E → (f : ℕ → ℕ → Typed) (g : ℕ → ℕ → Result) → ((q r : ℕ) → q < N → r < N → M (f q r) (g q r)) → M (wantLim (tree E i) f) (needLim (getElem? E i) g)
-  unfolding wantLim needLim entryTree
+  unfolding wantLim needLim entryTree onLim byType
   by-lim {i} h f g k = by-entry h (λ A o. M (wantLim A f) (needLim o g)) go
     where
       go : (x : TypeEntry) → EntryOk D N i x → M (wantLim (entryTree (some x) (tree E)) f) (needLim (some x) g)
@@ -194,7 +194,7 @@ module _ (S : Src) {O : Ops} (ag : Agree (upOf S) O) (ts : List TypeEntry) {E : 
       go (e-grant q r) p = m-no
 
   by-grant : {i : ℕ} → i < length E → (f : ℕ → ℕ → Typed) (g : ℕ → ℕ → Result) → ((q r : ℕ) → q < N → r < N → M (f q r) (g q r)) → M (wantGrant (tree E i) f) (needGrant (getElem? E i) g)
-  unfolding wantGrant needGrant entryTree
+  unfolding wantGrant needGrant entryTree onGrant byType
   by-grant {i} h f g k = by-entry h (λ A o. M (wantGrant A f) (needGrant o g)) go
     where
       go : (x : TypeEntry) → EntryOk D N i x → M (wantGrant (entryTree (some x) (tree E)) f) (needGrant (some x) g)

@@ -16,7 +16,7 @@ use Rattle.syntax.specs.ReadLaws.{JobOk, read-ok}
 use Rattle.syntax.specs.ReadPlaces.{refused-number, refused-place}
 use Rattle.syntax.specs.Loading as loads
 use Rattle.syntax.specs.Loading.{inTree, loading}
-use Rattle.syntax.specs.Tree.{past, firstBad, orElse, numbered, lowest, treeRefusal}
+use Rattle.syntax.specs.Tree.{predecessor, firstBad, orElse, numbered, lowest, treeRefusal}
 use Rattle.typing.specs.Verdict.{Verdict, accept, refuse, unless, within, judge, judgeRead, verdictOf}
 use Rattle.typing.specs.Tables.{Tables, short, verdictWith}
 use Rattle.typing.specs.Numbered.{Ops, Result, makes, points, wrong, needNum, needPair, needCell, needFn, needLim, needGrant, need, keysFrom, resultAt, Sofar, settle, numberAt, Whole, whole, halted, onto, numberAll, startOf, numbering}
@@ -186,8 +186,8 @@ data Ends (a k : ℕ) : Verdict → Type 0 where
   e-accept : (T : Ty) (e : Effect) → Ends a k (accept T e)
   e-refuse : (q : Refusal) → a ≤ q .number → q .number ≤ 14 → q .place < k → Ends a k (refuse q)
 
-last-lt : (n : ℕ) → 0 < n → past n < n
-unfolding past
+last-lt : (n : ℕ) → 0 < n → predecessor n < n
+unfolding predecessor
 last-lt zero h = absurd (omega arith)
 last-lt (suc n) h = omega arith
 
@@ -196,9 +196,9 @@ unfolding reported within lastOf
 reported-ends O J h (h-halted q a b c) = e-refuse q (omega arith) (omega arith) c
 reported-ends O J h (h-whole σ) = at (O .effBelow (lastEffect J σ) (J .rights))
   where
-    at : (b : Bool) → Ends 11 (length (J .cmds)) (within b (past (length (J .cmds))) (tree (σ .entries) (lastEntry J σ)) (lastEffect J σ))
+    at : (b : Bool) → Ends 11 (length (J .cmds)) (within b (predecessor (length (J .cmds))) (tree (σ .entries) (lastEntry J σ)) (lastEffect J σ))
     at true = e-accept _ _
-    at false = e-refuse (record { number = 14; place = past (length (J .cmds)) }) (omega arith) (omega arith) (last-lt (length (J .cmds)) h)
+    at false = e-refuse (record { number = 14; place = predecessor (length (J .cmds)) }) (omega arith) (omega arith) (last-lt (length (J .cmds)) h)
 
 lower : {k : ℕ} {v : Verdict} → Ends 11 k v → Ends 8 k v
 lower (e-accept T e) = e-accept T e

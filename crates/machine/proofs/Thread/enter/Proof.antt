@@ -1,8 +1,9 @@
+use Rattle.syntax.specs.Operands.{evaluated}
 use Rattle.syntax.specs.Words.{codeIn, decode}
 use Rattle.machine.specs.View.{view}
 use Rattle.store.specs.Meaning.{keysIn}
 use mathlib.Core.Path.{ap, refl, sym, _∙_}
-use Rattle.semantics.specs.Step.{enterCmd, settle, touchAll, free, does, room}
+use Rattle.semantics.specs.Step.{bare, act, enterAt, enterCmd, settle, touchAll, room}
 use Rattle.machine.proofs.Codes.{code-push, code-bare, code-number}
 use Rattle.machine.proofs.Acts.{gave-new, goes}
 use Rattle.machine.specs.Inner.{putFrames, putFunctions, putBindings, settled}
@@ -78,15 +79,15 @@ give-requires-2 : tie.Need-give-requires-2
 give-requires-2 c κs = search needs
 
 returns-2 : tie.Need-returns-2
-unfolding codeIn decode enterCmd settle touchAll free does room
+unfolding codeIn decode evaluated enterCmd enterAt act bare settle touchAll room
 returns-2 c = λ w. simp (← c .before .before .before .before .before .at64 .ensures, c .before .before .match .keys1) (gave-new (view (c .before .before .before .before .before .before .before .before .before .args .self) (putBindings (putFunctions (putFrames w (now (c .before .before .before .before .before .before .before .before .before .args .frames))) (now (c .before .before .before .before .before .before .before .before .before .args .functions))) (now (c .before .before .before .before .before .before .before .before .before .args .bindings)))) (c .before .before .before .before .before .before .before .before .before .args .self) (putBindings (putFunctions (putFrames w (now (c .before .before .before .before .before .before .before .before .before .args .frames))) (now (c .before .before .before .before .before .before .before .before .before .args .functions))) (now (c .before .before .before .before .before .before .before .before .before .args .bindings))) _ _ _ (c .before .unkeyed .ensures) (c .give .ensures) refl)
 
 returns-3 : tie.Need-returns-3
-unfolding codeIn decode enterCmd settle touchAll free does room
+unfolding codeIn decode evaluated enterCmd enterAt act bare settle touchAll room
 returns-3 c = λ w. simp (← c .before .before .before .before .at64 .ensures, c .before .match .keys2) (c .variable .ensures (putFunctions (putFrames w (now (c .before .before .before .before .before .before .before .before .args .frames))) (now (c .before .before .before .before .before .before .before .before .args .functions))))
 
 returns-4 : tie.Need-returns-4
-unfolding codeIn decode enterCmd settle touchAll free does room
+unfolding codeIn decode evaluated enterCmd enterAt act bare settle touchAll room
 returns-4 c = λ w. simp (← c .before .before .before .before .before .before .at64 .ensures, c .before .before .before .match .keys3, ← c .before .before .at162 .ensures) (c .function .ensures (putBindings (putFrames w (now (c .before .before .before .before .before .before .before .before .before .before .args .frames))) (now (c .before .before .before .before .before .before .before .before .before .before .args .bindings))))
 
 returns-5 : tie.Need-returns-5
@@ -94,7 +95,7 @@ unfolding view keysIn
 returns-5 c = λ w. goes (view (c .before .before .before .before .before .before .before .before .before .before .args .self) (putBindings (putFunctions (putFrames w (now (c .before .before .before .before .before .before .before .before .before .before .args .frames))) (now (c .before .before .before .before .before .before .before .before .before .before .args .functions))) (now (c .before .before .before .before .before .before .before .before .before .before .args .bindings)))) (c .before .before .before .before .before .before .before .before .before .before .args .self) (putBindings (putFunctions (putFrames w (now (c .before .before .before .before .before .before .before .before .before .before .args .frames))) (now (c .before .before .before .before .before .before .before .before .before .before .args .functions))) (now (c .before .before .before .before .before .before .before .before .before .before .args .bindings))) _ _ _ _ (c .go .ensures) (code-bare (now (c .before .before .before .before .before .before .before .before .before .before .args .heads)) (now (c .before .before .before .before .before .before .before .before .before .before .args .slots)) (c .before .before .before .before .before .before .before .before .before .before .args .e .0) _ (c .before .before .before .before .before .before .at64 .ensures) (c .before .before .before .before .before .before .before .before .before .before .args .e .0) _ (view (c .before .before .before .before .before .before .before .before .before .before .args .self) (putBindings (putFunctions (putFrames w (now (c .before .before .before .before .before .before .before .before .before .before .args .frames))) (now (c .before .before .before .before .before .before .before .before .before .before .args .functions))) (now (c .before .before .before .before .before .before .before .before .before .before .args .bindings)))) (c .before .before .before .match .keys4) (c .before .before .before .before .before .need .ensures) (c .before .before .before .before .if1 .left) (c .before .at163 .ensures))
 
 returns-6 : tie.Need-returns-6
-unfolding enterCmd settle touchAll free does room
+unfolding evaluated enterCmd enterAt act bare settle touchAll room
 returns-6 c = λ w. gave-new _ _ _ _ _ _ (c .before .unkeyed2 .ensures) (c .give2 .ensures) (ap (λ k. settle (enterCmd (c .before .before .before .before .before .before .before .before .before .args .e .0) k (view (c .before .before .before .before .before .before .before .before .before .args .self) (putBindings (putFunctions (putFrames w (now (c .before .before .before .before .before .before .before .before .before .args .frames))) (now (c .before .before .before .before .before .before .before .before .before .args .functions))) (now (c .before .before .before .before .before .before .before .before .before .args .bindings)))))) (code-number (now (c .before .before .before .before .before .before .before .before .before .args .heads)) (now (c .before .before .before .before .before .before .before .before .before .args .slots)) (c .before .before .before .before .before .before .before .before .before .args .e .0) _ (c .before .before .before .before .before .at64 .ensures) _ (c .before .before .before .before .need .ensures) (c .before .before .before .if1 .left) (c .before .before .match .rest .0 .0 .0 .1) (c .before .before .match .rest .0 .0 .1) (c .before .before .match .rest .0 .1) (c .before .before .match .rest .1)))
 
 pub enter-spec : {M : Type 1} → statement M
