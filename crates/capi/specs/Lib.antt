@@ -2,3 +2,4 @@ pub mod Runs
 pub mod Checks
 pub mod Results
 pub mod Sessions
+pub mod RunSafety

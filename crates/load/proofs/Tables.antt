@@ -14,7 +14,7 @@ use Rattle.syntax.specs.Reading.{Read, refused, read, refusedAt, reading, most-
 use Rattle.syntax.specs.ReadLaws.{JobOk, read-ok}
 use Rattle.syntax.specs.WordLaws.{Bytes, JobFits, job-fits}
 use Rattle.syntax.specs.Tree.{treeRefusal}
-use Rattle.syntax.specs.Words.{nameWords, typeWords, setWords, valueWords, headWords, slotWords}
+use Rattle.syntax.specs.Words.{filled, nameWords, typeWords, setWords, valueWords, headWords, slotWords}
 use Rattle.syntax.specs.Loading.{JobTables, most-entries, most-slots, short, zeros, cleared, filledWith, loading, loadWith, holding, tablesAfterLoad}
 use Rattle.syntax.specs.LoadLaws.{load-refused, load-whole, load-out, long-load, long-after, Lengths, cleared-same}
 use Rattle.job.specs.declared.Shape.{Shape}
@@ -46,6 +46,12 @@ shorter n most = at (leb most n) refl
     at : (b : Bool) → leb most n ≡ b → ltb n most ≡ not b
     at true e = le-ltb n most (leb-true most n e)
     at false e = lt-ltb n most (leb-false most n e)
+
+-- what the tree checks ask of the tables
+held : {J : Job} {g : Shape} {n t s h p : List ℕ} (kn kt ks kh kp : ℕ) → JobFits J → g ≡ shapeOf J → n ≡ filled kn 0 (nameWords J) → t ≡ filled kt 0 (typeWords (J .types)) → s ≡ filled ks 0 (setWords (J .types))
+    → h ≡ filled kh 0 (headWords J) → p ≡ filled kp 0 (slotWords J) → Holds J h p (g .cmds) n (g .names) t s (g .types) (g .values)
+unfolding shapeOf
+held {J} kn kt ks kh kp f eg en et es eh ep = rw (eg, en, et, es, eh, ep) (filled-holds J f kh kp kn kt ks)
 
 -- what reading leaves in the tables
 unfoldable left : Bool → Read → JobTables → JobTables
@@ -118,13 +124,13 @@ module _ {bytes n t s v h p n' t' s' v' h' p' : List ℕ} {a : Answer} (to : Rea
     its = job-read g e
 
     says : refusalOf b ≡ treeRefusal (sourceOf (its .job))
-    unfolding filledWith shapeOf
+    unfolding filledWith
     says =
         let J = its .job in
         let x = its .tables in
         f J (read-ok bytes J (its .is))
-        (rw (its .shape, ap (λ (w : JobTables). w .heads) x, ap (λ (w : JobTables). w .slots) x, ap (λ (w : JobTables). w .names) x, ap (λ (w : JobTables). w .types) x, ap (λ (w : JobTables). w .sets) x)
-        (filled-holds J (job-fits bytes J by (its .is)) (length h) (length p) (length n) (length t) (length s)))
+        (held (length n) (length t) (length s) (length h) (length p) (job-fits bytes J by (its .is)) (its .shape) (ap (λ (w : JobTables). w .names) x) (ap (λ (w : JobTables). w .types) x)
+        (ap (λ (w : JobTables). w .sets) x) (ap (λ (w : JobTables). w .heads) x) (ap (λ (w : JobTables). w .slots) x))
 
     -- the job
     pub loaded-to : b ≡ trees.Tree → LoadTo bytes (answers.Job g) before after

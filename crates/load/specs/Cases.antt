@@ -17,7 +17,7 @@ use Rattle.load.specs.Loads.{LoadTo}
 
 refusal-is : (R : Read) (k : Refusal) → answers.Refused k ≡ answerOf R → R ≡ refusedAt (k .number) (k .place)
 unfolding answerOf
-refusal-is (refused r) k e = cc
+refusal-is (refused r) k e = let y : k ≡ record { number = r .number; place = r .place } = cc in ap (λ (z : Refusal). refusedAt (z .number) (z .place)) (sym y)
 refusal-is (read J) k e = absurd (let z : _≡_ {A = ℕ} 0 1 = cc in omega arith)
 
 -- the tables hold the job, which has so many entries

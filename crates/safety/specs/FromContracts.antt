@@ -16,7 +16,7 @@ use Rattle.syntax.specs.ReadLaws.{read-ok, or-none}
 use Rattle.syntax.specs.Tree.{treeRefusal}
 use Rattle.syntax.specs.Words.{codeIn}
 use Rattle.syntax.specs.WordLaws.{Bytes, job-fits, code-back}
-use Rattle.syntax.specs.Loading.{JobTables, short, filledWith, loading, holding}
+use Rattle.syntax.specs.Loading.{JobTables, short, filledWith, loading, holding, tablesAfterLoad}
 use Rattle.syntax.specs.LoadLaws.{load-whole, short-load, long-load, long-after, long-with}
 use Rattle.typing.specs.Verdict.{Verdict, accept, refuse, unless, judge, judgeRead, verdictOf}
 use Rattle.typing.specs.Tables as tables
@@ -91,6 +91,13 @@ pub start-is : (w : JobTables) (bytes : List ℕ) (J : Job) → short w ≡ fals
 unfolding startWith startLoaded
 start-is w bytes J h i = ap startLoaded (long-load w bytes h ∙ i)
 
+-- and its tables hold its expressions
+pub loaded-code : (bytes : List ℕ) (J : Job) → Bytes bytes → reading bytes ≡ read J → loading bytes ≡ read J → {w y : JobTables} → short w ≡ false → y ≡ tablesAfterLoad w bytes
+    → (k : ℕ) → codeIn (y .heads) (y .slots) k ≡ exprOf J k
+unfolding holding filledWith
+loaded-code bytes J by i l {w} h e k =
+    rw (e ∙ long-after w bytes h ∙ ap (λ (R : Read). holding R w) l) (code-back J (read-ok bytes J i) (job-fits bytes J by i) _ _ k)
+
 -- a start that says so had tables long enough
 was-long : {bytes : List ℕ} {o : Opened} {w y : JobTables} → Starts bytes o w y → o .told ≡ told.Started → short w ≡ false
 unfolding startWith startLoaded
@@ -145,10 +152,7 @@ module _ (bytes : List ℕ) (by : Bytes bytes) {r : Checked} {w x : Tables} {i s
       accepted-starts h (ap (λ (y : Tables). short (y .job)) t ∙ still-long (its .job) w (b .0))
 
   start-code : {o : Opened} {u y : JobTables} → Starts bytes o u y → o .told ≡ told.Started → (k : ℕ) → codeIn (y .heads) (y .slots) k ≡ exprOf (its .job) k
-  unfolding holding filledWith
-  start-code {o} {u} {y} h e k =
-      rw (h .tables ∙ long-after u bytes (was-long h e) ∙ ap (λ (R : Read). holding R u) its-loads)
-      (code-back (its .job) (read-ok bytes (its .job) (its .is)) (job-fits bytes (its .job) by (its .is)) _ _ k)
+  start-code h e k = loaded-code bytes (its .job) by (its .is) its-loads (was-long h e) (h .tables) k
 
   -- every opening has the job's start and its expressions
   opened : {m : Machine} {heads slots : List ℕ} → Opening bytes r x m heads slots → (seen m ≡ startOf (sourceOf (its .job))) × ((k : ℕ) → codeIn heads slots k ≡ exprOf (its .job) k)

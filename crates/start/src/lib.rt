@@ -6,6 +6,9 @@ use machine::Control;
 use machine::Machine;
 use machine::Now;
 use machine::Thread;
+use store::FRAME_WORDS;
+use store::FUNCTION_WORDS;
+use store::PAIR_WORDS;
 use table::Expr;
 ghost use mathlib.Core.Path.{_≡_};
 ghost use Rattle.syntax.specs.Job.{Src};
@@ -53,11 +56,11 @@ fn machine_of(b: Started) -> Machine
     let bindings = b.bindings;
     Machine {
         thread: t,
-        frames: [0u64; 1536],
+        frames: [0u64; FRAME_WORDS],
         cells: cells,
         keys: keys,
-        pairs: [0u64; 1024],
-        functions: [0u64; 512],
+        pairs: [0u64; PAIR_WORDS],
+        functions: [0u64; FUNCTION_WORDS],
         bindings: bindings,
     }
 }
