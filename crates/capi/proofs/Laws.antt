@@ -8,8 +8,9 @@ use lib.ListN.{length, set, drop}
 use borrow.Author.Tests.{le-leb, lt-leb}
 use Rattle.syntax.specs.Words.{codeIn}
 use Rattle.semantics.specs.Machine.{Machine as Clean}
+use Rattle.syntax.specs.Loading.{JobTables}
 use Rattle.semantics.specs.Calls.{Steps, stepsOf, calls}
-use Rattle.semantics.specs.Starting.{started, unstarted, JobTables}
+use Rattle.semantics.specs.Starting.{started, unstarted}
 use Rattle.machine.specs.declared.Machine.{Machine}
 use Rattle.machine.specs.View.{seen}
 use Rattle.calls.specs.Words.{callsIn, resultWords, over}

@@ -31,7 +31,8 @@ use Rattle.syntax.specs.TreeExactly.{tree-ok}
 use Rattle.typing.specs.Subtype.{subTy}
 use Rattle.typing.specs.Least.{Typed, typed, untyped, varType, typeAt, get, typesTo, types, typeOf, firstUntyped}
 use Rattle.typing.specs.Layout.{newKeys, keyEntries, varEntry, firstPart, secondPart, rekeyed, Points, new, old, pointsTo, Layout, point, layoutFrom, layoutOf}
-use Rattle.typing.specs.Tables.{most-entries, effectOf, effectIn, layoutFor}
+use Rattle.syntax.specs.Loading.{most-entries}
+use Rattle.typing.specs.Tables.{effectOf, effectIn, layoutFor}
 use Rattle.typing.specs.Filled.{typesTo-length, seen, typeOf-is, untyped-not, all-typed}
 use Rattle.typing.specs.Scoped.{ctx-type, ctx-var}
 use Rattle.typing.specs.Entries.{subIn}

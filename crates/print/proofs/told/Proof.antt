@@ -1,5 +1,6 @@
 use mathlib.Core.Path.{refl}
 use Rattle.order.specs.Bools.{_or_}
+use Rattle.syntax.specs.Loading as loads
 use Rattle.typing.specs.Tables.{short}
 use native.Mathlib.Omega.{arith}
 use Rattle.print.proofs.Prints.{told-refused, told-accepted}
@@ -86,7 +87,7 @@ accepted-requires c κs = search needs
 
 -- src/lib.rt:138:1
 returns : tie.Need-returns
-unfolding short _or_
+unfolding short loads.short _or_
 returns c = λ h. told-refused _ _ _ _ _ _ _ (c .before .before .before .before .before .before .before .before .before .before .before .before .before .check .ensures) (c .before .before .v .given .1) (c .refused .ensures) h refl
 
 -- src/lib.rt:138:1
