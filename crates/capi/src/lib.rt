@@ -5,7 +5,7 @@ use start::Told;
 ghost use Rattle.syntax.specs.Words.{codeIn};
 ghost use Rattle.semantics.specs.Calls.{stepsOf};
 ghost use Rattle.machine.specs.View.{seen};
-ghost use Rattle.start.specs.Lent.{jobBefore, jobAfter};
+ghost use Rattle.load.specs.Lent.{jobBefore, jobAfter};
 ghost use Rattle.checker.specs.Lent.{before, after};
 ghost use Rattle.capi.specs.Checks.{Checks};
 ghost use Rattle.capi.specs.Runs.{Goes, Runs};
