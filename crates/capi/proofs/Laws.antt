@@ -8,8 +8,9 @@ use lib.ListN.{length, set, drop}
 use borrow.Author.Tests.{le-leb, lt-leb}
 use Rattle.syntax.specs.Words.{codeIn}
 use Rattle.semantics.specs.Machine.{Machine as Clean}
+use Rattle.syntax.specs.Loading.{JobTables}
 use Rattle.semantics.specs.Calls.{Steps, stepsOf, calls}
-use Rattle.semantics.specs.Starting.{started, unstarted, JobTables}
+use Rattle.semantics.specs.Starting.{started, unstarted}
 use Rattle.machine.specs.declared.Machine.{Machine}
 use Rattle.machine.specs.View.{seen}
 use Rattle.calls.specs.Words.{callsIn, resultWords, over}
@@ -24,7 +25,7 @@ use Rattle.results.specs.Told.{Refuses, roomWords, countWords}
 use Rattle.results.proofs.Told.{counts-are}
 use Rattle.capi.specs.Runs.{numberOf, openedWith, openedTables, Goes, Ran, Runs}
 
-pub goes : {K : Steps} {words a a' k k' : List ℕ} {m : Clean} (last : Machine) → Made K words m a a' (seen last) → k' ≡ over k (countWords (last .thread)) → Goes K words m a a' k k'
+pub goes : {K : Steps} {words a a' k k' : List ℕ} {m : Clean} (last : Machine) → Made K words m a a' (seen last) → k' ≡ over k (countWords (last .thread) (last .used)) → Goes K words m a a' k k'
 goes {k = k} last h e = record { last = seen last; made = h; rooms = e ∙ ap (λ (l : List ℕ). over k l) (counts-are last) }
 
 -- answers with room for two words a call, or not

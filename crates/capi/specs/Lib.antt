@@ -1,3 +1,4 @@
 pub mod Runs
 pub mod Checks
 pub mod Sessions
+pub mod RunSafety

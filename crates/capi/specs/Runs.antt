@@ -7,8 +7,9 @@ use lib.ListN.{length, set, drop}
 use Rattle.syntax.specs.Words.{codeIn}
 use Rattle.syntax.specs.Reading.{Refusal}
 use Rattle.semantics.specs.Machine.{Machine as Clean}
+use Rattle.syntax.specs.Loading.{JobTables, tablesAfterLoad}
 use Rattle.semantics.specs.Calls.{Steps, stepsOf, calls}
-use Rattle.semantics.specs.Starting.{Started, started, unstarted, JobTables, startWith, tablesAfterStart}
+use Rattle.semantics.specs.Starting.{Started, started, unstarted, startWith}
 use Rattle.calls.specs.Words.{callsIn, resultWords, lastOf, over}
 use Rattle.calls.specs.Made.{Made}
 use Rattle.results.specs.Told.{roomWords}
@@ -25,7 +26,7 @@ openedWith true w s = startWith w s
 openedWith false w s = unstarted (record { number = 1; place = 0 })
 
 unfoldable pub openedTables : Bool → JobTables → List ℕ → JobTables
-openedTables true w s = tablesAfterStart w s
+openedTables true w s = tablesAfterLoad w s
 openedTables false w s = w
 
 -- the calls `words` on machine m: a and a' are the answers before and after, k and k' the rooms

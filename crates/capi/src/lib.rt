@@ -5,7 +5,7 @@ use start::Told;
 ghost use Rattle.syntax.specs.Words.{codeIn};
 ghost use Rattle.semantics.specs.Calls.{stepsOf};
 ghost use Rattle.machine.specs.View.{seen};
-ghost use Rattle.start.specs.Lent.{jobBefore, jobAfter};
+ghost use Rattle.load.specs.Lent.{jobBefore, jobAfter};
 ghost use Rattle.checker.specs.Lent.{before, after};
 ghost use Rattle.capi.specs.Checks.{Checks};
 ghost use Rattle.capi.specs.Runs.{Goes, Runs};
@@ -27,7 +27,8 @@ fn go(
 {
     let last = calls::make_calls(m, heads, slots, calls, answers);
     let t = last.thread;
-    results::count(t, rooms);
+    let u = last.used;
+    results::count(t, u, rooms);
 }
 
 // Starts the job and makes the calls, without a check: 0 says that the job is started, and is no verdict on it. Only of a job that

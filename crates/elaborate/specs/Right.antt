@@ -21,7 +21,7 @@ use Rattle.syntax.specs.RowLaws as rows
 use Rattle.syntax.specs.Words.{filled, nameWords, typeWord, setWord, typeWords, setWords, valueWords, headWords, slotWords, effectWords, codeIn}
 use Rattle.syntax.specs.WordLaws.{JobFits, zeros-at, filled-at, effect-back, filled-set, values-back, code-back}
 use Rattle.typing.specs.Layout.{newKeys, keyEntries, boundVars, hostVars, varEntry}
-use Rattle.typing.specs.Tables.{most-entries}
+use Rattle.syntax.specs.Loading.{most-entries}
 use Rattle.typing.specs.Numbered.{Result, makes, points, wrong, resultAt, Sofar, settle, numberAt, next, Whole, whole, halted, onto, numberAll, startOf, numbering}
 use Rattle.typing.specs.NumberedTables.{keys-length}
 use Rattle.typing.specs.NumberedLaws.{Inv, Fits, inv-start, inv-next, inv-fits, inv-room, number-turn, number-end}

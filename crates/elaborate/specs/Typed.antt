@@ -9,7 +9,7 @@ use Rattle.syntax.specs.ReadLaws.{JobOk}
 use Rattle.syntax.specs.Tree.{treeRefusal}
 use Rattle.syntax.specs.Words.{filled, nameWords, typeWords, setWords, valueWords, headWords, slotWords, effectWords}
 use Rattle.syntax.specs.WordLaws.{JobFits}
-use Rattle.typing.specs.Tables.{most-entries}
+use Rattle.syntax.specs.Loading.{most-entries}
 use Rattle.typing.specs.Numbered.{Whole, whole, halted, numbering}
 use Rattle.names.specs.Ancestors.{ancestorsBy}
 use Rattle.elaborate.specs.declared.Passed.{Passed}

@@ -172,7 +172,7 @@ pub told-refused : (bytes : List ℕ) (r : Checked) (w x : Tables) (n p : ℕ) (
     → (p ≤ most-bytes → text ≡ refusedLine (record { number = n; place = p })) → length bytes ≤ most-bytes → short w ≡ false → text ≡ deskOf bytes
 unfolding verdictIn verdictWith deskOf reported
 told-refused bytes r w x n p text c v f h l =
-    let e : refuse (record { number = n; place = p }) ≡ verdictWith w bytes = sym (ap (verdictIn (x .types) (x .sets)) v) ∙ c .verdict in
+    let e : refuse (record { number = n; place = p }) ≡ verdictWith w bytes = sym (ap (verdictIn (x .job .types) (x .job .sets)) v) ∙ c .verdict in
     let d : verdictOf bytes ≡ refuse (record { number = n; place = p }) = refused-with (short w) _ (verdictOf bytes) _ l e in
     f (refusal-place bytes _ h d) ∙ sym (ap (λ z. reported z (reading bytes)) d)
 
@@ -181,12 +181,12 @@ unfolding deskOf reported runRead
 desk-accepted bytes J T s e f = rw (e, f)
 
 pub told-accepted : (bytes : List ℕ) (r : Checked) (w x : Tables) (i s : ℕ) (text : List ℕ) → CheckTo bytes r w x → r .verdict ≡ verdicts.Accepted i s
-    → ((J : Job) (sets : List ℕ) → Ready J (r .shape) (x .names) (x .types) (x .values) → ((e : ℕ) → codeIn (x .heads) (x .slots) e ≡ exprOf J e) → text ≡ acceptedLine (treeOf (x .types) sets i) (ofWord s) ++ runLine (sourceOf J))
+    → ((J : Job) (sets : List ℕ) → Ready J (r .shape) (x .job .names) (x .job .types) (x .job .values) → ((e : ℕ) → codeIn (x .job .heads) (x .job .slots) e ≡ exprOf J e) → text ≡ acceptedLine (treeOf (x .job .types) sets i) (ofWord s) ++ runLine (sourceOf J))
     → Bytes bytes → text ≡ deskOf bytes
 told-accepted bytes r w x i s text c v f by = go (accepting bytes by r w x i s c v)
   where
-    go : Accepting bytes (r .shape) (treeOf (x .types) (x .sets) i) (ofWord s) x → text ≡ deskOf bytes
-    go y = f (y .job) (x .sets) (y .ready) (y .code) ∙ sym (desk-accepted bytes (y .job) _ (ofWord s) (y .verdict) (y .is))
+    go : Accepting bytes (r .shape) (treeOf (x .job .types) (x .job .sets) i) (ofWord s) x → text ≡ deskOf bytes
+    go y = f (y .job) (x .job .sets) (y .ready) (y .code) ∙ sym (desk-accepted bytes (y .job) _ (ofWord s) (y .verdict) (y .is))
 
 pub whole : (l : List ℕ) → length l ≤ most-bytes → deskOf l ≡ printed l
 unfolding printed

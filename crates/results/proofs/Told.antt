@@ -1,4 +1,4 @@
--- Words written one by one: a verdict, the room of a machine by the counts of its thread; and which lent slice is too short.
+-- Words written one by one: a verdict, the room of a machine by its counts; and which lent slice is too short.
 use mathlib.Core.Path.{_≡_, refl, sym, ap, _∙_}
 use Prim.Native.Nat.{ℕ, _*_, _/_, _<_, _≤_}
 use native.Mathlib.Omega.{arith}
@@ -13,6 +13,7 @@ use Rattle.store.specs.Tables.{capped}
 use Rattle.store.specs.Words.{cellIn, pairIn, functionIn, linkIn, upIn}
 use Rattle.store.specs.Frames.{frameIn}
 use Rattle.store.proofs.Laws.{list-length, stack-length}
+use Rattle.store.specs.declared.Used.{Used}
 use Rattle.machine.specs.declared.Thread.{Thread}
 use Rattle.machine.specs.declared.Machine.{Machine}
 use Rattle.machine.specs.View.{view, seen}
@@ -43,23 +44,23 @@ unfolding outWords
 out-length (verdict.Accepted i s) = refl
 out-length (verdict.Refused n p) = refl
 
-pub counted : (t : Thread) (l : List ℕ) {l1 l2 l3 l4 l5 l6 : List ℕ} {a b c d e f : ℕ}
-    → a ≡ capped (t .cells) most-cells → b ≡ capped (t .keys) most-keys → c ≡ capped (t .pairs) most-pairs → d ≡ capped (t .functions) most-functions → e ≡ capped (t .frames) most-frames → f ≡ capped (t .bindings) most-bindings
-    → l1 ≡ set l 0 a → l2 ≡ set l1 1 b → l3 ≡ set l2 2 c → l4 ≡ set l3 3 d → l5 ≡ set l4 4 e → l6 ≡ set l5 5 f → l6 ≡ over l (countWords t)
+pub counted : (t : Thread) (u : Used) (l : List ℕ) {l1 l2 l3 l4 l5 l6 : List ℕ} {a b c d e f : ℕ}
+    → a ≡ capped (u .cells) most-cells → b ≡ capped (u .keys) most-keys → c ≡ capped (u .pairs) most-pairs → d ≡ capped (u .functions) most-functions → e ≡ capped (t .frames) most-frames → f ≡ capped (u .bindings) most-bindings
+    → l1 ≡ set l 0 a → l2 ≡ set l1 1 b → l3 ≡ set l2 2 c → l4 ≡ set l3 3 d → l5 ≡ set l4 4 e → l6 ≡ set l5 5 f → l6 ≡ over l (countWords t u)
 unfolding countWords
-counted t l {a = a} {b} {c} {d} {e} {f} ha hb hc hd he hf h1 h2 h3 h4 h5 h6 =
+counted t u l {a = a} {b} {c} {d} {e} {f} ha hb hc hd he hf h1 h2 h3 h4 h5 h6 =
     h6 ∙ ap (λ z. set z 5 f) (h5 ∙ ap (λ z. set z 4 e) (h4 ∙ ap (λ z. set z 3 d) (h3 ∙ ap (λ z. set z 2 c) (h2 ∙ ap (λ z. set z 1 b) h1))))
     ∙ sets-over l (a ∷ b ∷ c ∷ d ∷ e ∷ f ∷ [])
     ∙ (λ i. over l (ha i ∷ hb i ∷ hc i ∷ hd i ∷ he i ∷ hf i ∷ []))
 
 -- the counts are the lengths
-pub counts-are : (m : Machine) → countWords (m .thread) ≡ roomWords (seen m)
+pub counts-are : (m : Machine) → countWords (m .thread) (m .used) ≡ roomWords (seen m)
 unfolding countWords roomWords view
 counts-are m =
     sym
     (λ i.
-    list-length cellIn (m .cells) (capped (m .thread .cells) most-cells) i ∷ list-length upIn (m .keys) (capped (m .thread .keys) most-keys) i ∷ list-length pairIn (m .pairs) (capped (m .thread .pairs) most-pairs) i
-    ∷ list-length functionIn (m .functions) (capped (m .thread .functions) most-functions) i ∷ stack-length frameIn (m .frames) (capped (m .thread .frames) most-frames) i ∷ list-length linkIn (m .bindings) (capped (m .thread .bindings) most-bindings) i ∷ [])
+    list-length cellIn (m .cells) (capped (m .used .cells) most-cells) i ∷ list-length upIn (m .keys) (capped (m .used .keys) most-keys) i ∷ list-length pairIn (m .pairs) (capped (m .used .pairs) most-pairs) i
+    ∷ list-length functionIn (m .functions) (capped (m .used .functions) most-functions) i ∷ stack-length frameIn (m .frames) (capped (m .thread .frames) most-frames) i ∷ list-length linkIn (m .bindings) (capped (m .used .bindings) most-bindings) i ∷ [])
 
 or-none : (a b : Bool) → (a or b) ≡ false → (a ≡ false) × (b ≡ false)
 unfolding _or_

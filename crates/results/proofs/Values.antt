@@ -17,11 +17,12 @@ use Rattle.store.specs.Words.{cellIn}
 use Rattle.store.specs.Frames.{frameIn}
 use Rattle.store.specs.Tables.{listOf, stackOf, capped}
 use Rattle.store.proofs.Laws.{list-get, list-beyond}
+use Rattle.store.specs.declared.Used.{Used}
 use Rattle.machine.specs.declared.Thread.{Thread}
 use Rattle.machine.specs.declared.Control.the-variants.{Enter, Hand}
 use Rattle.machine.specs.Meaning.{controlIn}
 use Rattle.machine.specs.declared.Machine.{Machine}
-use Rattle.machine.specs.View.{Tables, view, seen}
+use Rattle.machine.specs.View.{Tables, stateOf, view, seen}
 use Rattle.calls.specs.Words.{over}
 use Rattle.calls.specs.Laws.{sets-over}
 use Rattle.results.specs.Values.{kindNo, payloadOf, firstWord, secondWord, handedOn, valueOf, valueWords, cellsFrom, cellWords, TwoPut, CellPut}
@@ -31,13 +32,13 @@ pub two-put : (s m k : List ℕ) (at x y : ℕ) → m ≡ set s at x → k ≡ s
 two-put s m k at x y g h = let e : at + 1 ≡ suc at = omega arith in record { same = h ∙ ap (λ (z : List ℕ). set z (at + 1) y) g ∙ ap (λ (i : ℕ). set (set s at x) i y) e }
 
 -- the value
-none-is : (t : Thread) (w : Tables) → valueOf (view t w) ≡ none → valueWords (view t w) ≡ 0 ∷ 0 ∷ []
+none-is : (t : Thread) (u : Used) (w : Tables) → valueOf (view (stateOf t u) w) ≡ none → valueWords (view (stateOf t u) w) ≡ 0 ∷ 0 ∷ []
 unfolding valueWords firstWord secondWord
-none-is t w e = rw e
+none-is t u w e = rw e
 
-enter-none : (t : Thread) (w : Tables) (e : Expr) → t .now .control ≡ Enter e → valueOf (view t w) ≡ none
+enter-none : (t : Thread) (u : Used) (w : Tables) (e : Expr) → t .now .control ≡ Enter e → valueOf (view (stateOf t u) w) ≡ none
 unfolding valueOf view isDone doneAt
-enter-none t w e h = rw h
+enter-none t u w e h = rw h
 
 some-frames : (n : ℕ) → (n ≡ 0 → ⊥) → 0 < capped n most-frames
 some-frames n h = at (ltb n most-frames)
@@ -54,26 +55,26 @@ frames-some v t n h = at (capped n most-frames) (some-frames n h)
     at zero l = absurd (omega arith)
     at (suc k) l = refl
 
-hand-none : (t : Thread) (w : Tables) (v : Held) → t .now .control ≡ Hand v → (t .frames ≡ 0 → ⊥) → valueOf (view t w) ≡ none
+hand-none : (t : Thread) (u : Used) (w : Tables) (v : Held) → t .now .control ≡ Hand v → (t .frames ≡ 0 → ⊥) → valueOf (view (stateOf t u) w) ≡ none
 unfolding valueOf view isDone
-hand-none t w v h n = rw (h, frames-some (valueIn v) (w .frames) (t .frames) n)
+hand-none t u w v h n = rw (h, frames-some (valueIn v) (w .frames) (t .frames) n)
 
-hand-some : (t : Thread) (w : Tables) (v : Held) → t .now .control ≡ Hand v → t .frames ≡ 0 → valueOf (view t w) ≡ some (valueIn v)
+hand-some : (t : Thread) (u : Used) (w : Tables) (v : Held) → t .now .control ≡ Hand v → t .frames ≡ 0 → valueOf (view (stateOf t u) w) ≡ some (valueIn v)
 unfolding valueOf view isDone doneAt stackOf handedOn
-hand-some t w v h e = rw (h, e)
+hand-some t u w v h e = rw (h, e)
 
 module _ (t : Thread) {s k : List ℕ} where
-  pub put-enter : (e : Expr) → t .now .control ≡ Enter e → TwoPut s k 0 0 0 → (w : Tables) → k ≡ over s (valueWords (view t w))
-  put-enter e h z w = z .same ∙ sets-over s (0 ∷ 0 ∷ []) ∙ ap (over s) (sym (none-is t w (enter-none t w e h)))
+  pub put-enter : (e : Expr) → t .now .control ≡ Enter e → TwoPut s k 0 0 0 → (u : Used) (w : Tables) → k ≡ over s (valueWords (view (stateOf t u) w))
+  put-enter e h z u w = z .same ∙ sets-over s (0 ∷ 0 ∷ []) ∙ ap (over s) (sym (none-is t u w (enter-none t u w e h)))
 
-  pub put-waits : (v : Held) → t .now .control ≡ Hand v → (t .frames ≡ 0 → ⊥) → TwoPut s k 0 0 0 → (w : Tables) → k ≡ over s (valueWords (view t w))
-  put-waits v h n z w = z .same ∙ sets-over s (0 ∷ 0 ∷ []) ∙ ap (over s) (sym (none-is t w (hand-none t w v h n)))
+  pub put-waits : (v : Held) → t .now .control ≡ Hand v → (t .frames ≡ 0 → ⊥) → TwoPut s k 0 0 0 → (u : Used) (w : Tables) → k ≡ over s (valueWords (view (stateOf t u) w))
+  put-waits v h n z u w = z .same ∙ sets-over s (0 ∷ 0 ∷ []) ∙ ap (over s) (sym (none-is t u w (hand-none t u w v h n)))
 
   pub put-done : (v : Held) (x y : ℕ) → t .now .control ≡ Hand v → t .frames ≡ 0 → x ≡ kindNo (kindIn (v .kind) (v .payload)) → y ≡ payloadOf (kindIn (v .kind) (v .payload)) → TwoPut s k 0 x y
-      → (w : Tables) → k ≡ over s (valueWords (view t w))
+      → (u : Used) (w : Tables) → k ≡ over s (valueWords (view (stateOf t u) w))
   unfolding valueWords firstWord secondWord
-  put-done v x y h e p q z w =
-      z .same ∙ sets-over s (x ∷ y ∷ []) ∙ (λ i. over s (p i ∷ q i ∷ [])) ∙ sym (ap (λ (o : Option Value). over s (firstWord o ∷ secondWord o ∷ [])) (hand-some t w v h e))
+  put-done v x y h e p q z u w =
+      z .same ∙ sets-over s (x ∷ y ∷ []) ∙ (λ i. over s (p i ∷ q i ∷ [])) ∙ sym (ap (λ (o : Option Value). over s (firstWord o ∷ secondWord o ∷ [])) (hand-some t u w v h e))
 
 -- a cell
 module _ (table : List ℕ) (used i : ℕ) {s k : List ℕ} where
@@ -121,8 +122,8 @@ writing-end {l} {s} {a} {i} h w =
     let z : most-cells - i ≡ 0 = omega arith in
     sym (ap (λ (k : ℕ). sets a (2 * i) (cellsFrom l i k)) z) ∙ w .onward ∙ sets-over s (cellsFrom l 0 most-cells)
 
--- the cells of the machine, by the count of its thread
-pub cells-told : (m : Machine) (s : List ℕ) {k : List ℕ} (used : ℕ) → used ≡ capped (m .thread .cells) most-cells → k ≡ over s (cellsFrom (listOf cellIn (m .cells) used) 0 most-cells)
+-- the cells of the machine, by their count
+pub cells-told : (m : Machine) (s : List ℕ) {k : List ℕ} (used : ℕ) → used ≡ capped (m .used .cells) most-cells → k ≡ over s (cellsFrom (listOf cellIn (m .cells) used) 0 most-cells)
     → k ≡ over s (cellWords (seen m))
 unfolding cellWords view
 cells-told m s used e z = z ∙ ap (λ (u : ℕ). over s (cellsFrom (listOf cellIn (m .cells) u) 0 most-cells)) e

@@ -8,6 +8,7 @@ use lib.Dec.{ltb}
 use Rattle.order.specs.Bools.{_or_}
 use Rattle.semantics.specs.Machine.{Machine as Clean, most-cells, most-keys, most-pairs, most-functions, most-frames, most-bindings}
 use Rattle.store.specs.Tables.{capped}
+use Rattle.store.specs.declared.Used.{Used}
 use Rattle.machine.specs.declared.Thread.{Thread}
 use Rattle.checker.specs.declared.Verdict.{Verdict}
 use Rattle.checker.specs.declared.Verdict.the-variants.{Accepted, Refused}
@@ -31,11 +32,11 @@ pub record Refuses (n p r : ℕ) (before after : List ℕ) : Type 0 where
 unfoldable pub roomWords : Clean → List ℕ
 roomWords m = length (m .store .cells) ∷ length (m .store .keys) ∷ length (m .store .pairs) ∷ length (m .store .functions) ∷ length (m .thread .frames) ∷ length (m .store .bindings) ∷ []
 
--- the same by the counts of a thread
-unfoldable pub countWords : Thread → List ℕ
-countWords t =
-    capped (t .cells) most-cells ∷ capped (t .keys) most-keys ∷ capped (t .pairs) most-pairs ∷ capped (t .functions) most-functions ∷ capped (t .frames) most-frames
-    ∷ capped (t .bindings) most-bindings ∷ []
+-- the same by the counts of a thread and of the store
+unfoldable pub countWords : Thread → Used → List ℕ
+countWords t u =
+    capped (u .cells) most-cells ∷ capped (u .keys) most-keys ∷ capped (u .pairs) most-pairs ∷ capped (u .functions) most-functions ∷ capped (t .frames) most-frames
+    ∷ capped (u .bindings) most-bindings ∷ []
 
 -- two words for each cell
 abbrev pub cell-words : ℕ

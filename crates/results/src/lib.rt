@@ -11,6 +11,7 @@ use store::MOST_FRAMES;
 use store::MOST_FUNCTIONS;
 use store::MOST_KEYS;
 use store::MOST_PAIRS;
+use store::Used;
 use store::cap;
 use table::put64;
 use table::wide;
@@ -19,10 +20,11 @@ use table::wide16;
 ghost use mathlib.Core.Path.{_≡_};
 ghost use Prim.Native.Nat.{ℕ, _<_};
 ghost use Rattle.semantics.specs.Machine.{most-cells};
+ghost use Rattle.store.specs.declared.Used.{Used};
 ghost use Rattle.store.specs.Meaning.{kindIn};
 ghost use Rattle.store.specs.Words.{cellIn};
 ghost use Rattle.store.specs.Tables.{listOf};
-ghost use Rattle.machine.specs.View.{Tables, view, seen};
+ghost use Rattle.machine.specs.View.{Tables, stateOf, view, seen};
 ghost use Rattle.calls.specs.Words.{over};
 ghost use Rattle.results.specs.Told.{Refuses, numberFor, outWords, countWords, lentShort};
 ghost use Rattle.results.specs.Values.{kindNo, payloadOf, cellsFrom, valueWords, cellWords, TwoPut, CellPut};
@@ -60,15 +62,15 @@ pub fn refuse(n: u8, p: usize, rooms: &mut [u64]) -> u64
 }
 
 // How much of each kind is in use, as far as there are places to write it.
-pub fn count(t: Thread, rooms: &mut [u64])
-    ensures { λ _. ⌜ now (rooms .exit) ≡ over (now (rooms .entry)) (countWords t) ⌝ }
+pub fn count(t: Thread, u: Used, rooms: &mut [u64])
+    ensures { λ _. ⌜ now (rooms .exit) ≡ over (now (rooms .entry)) (countWords t u) ⌝ }
 {
-    let cells = cap(t.cells, MOST_CELLS);
-    let keys = cap(t.keys, MOST_KEYS);
-    let pairs = cap(t.pairs, MOST_PAIRS);
-    let functions = cap(t.functions, MOST_FUNCTIONS);
+    let cells = cap(u.cells, MOST_CELLS);
+    let keys = cap(u.keys, MOST_KEYS);
+    let pairs = cap(u.pairs, MOST_PAIRS);
+    let functions = cap(u.functions, MOST_FUNCTIONS);
     let frames = cap(t.frames, MOST_FRAMES);
-    let bindings = cap(t.bindings, MOST_BINDINGS);
+    let bindings = cap(u.bindings, MOST_BINDINGS);
     put64(rooms, 0, cells);
     put64(rooms, 1, keys);
     put64(rooms, 2, pairs);
@@ -137,7 +139,7 @@ fn put_two(s: &mut [u64], at: usize, x: u64, y: u64)
 
 // The value of a finished job.
 fn put_value(t: Thread, value: &mut [u64])
-    ensures { λ _. ⌜ ((w : Tables) → now (value .exit) ≡ over (now (value .entry)) (valueWords (view t w))) ⌝ }
+    ensures { λ _. ⌜ ((u : Used) (w : Tables) → now (value .exit) ≡ over (now (value .entry)) (valueWords (view (stateOf t u) w))) ⌝ }
 {
     let n = t.now;
     let c = n.control;
@@ -186,7 +188,8 @@ pub fn hand_over(m: Machine, value: &mut [u64], cells: &mut [u64])
 {
     let t = m.thread;
     put_value(t, value);
-    let used = cap(t.cells, MOST_CELLS);
+    let u = m.used;
+    let used = cap(u.cells, MOST_CELLS);
     let table = m.cells;
     put_cells(&table, used, cells);
 }

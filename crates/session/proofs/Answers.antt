@@ -81,10 +81,10 @@ pub session-refused : (bytes ws a : List ℕ) (r : Checked) (w x : Tables) (n p 
     → RefusedWith n p o → SessionTo bytes ws o w x a a
 unfolding verdictIn
 session-refused bytes ws a r w x n p o h c v f =
-    let e : refuse (record { number = n; place = p }) ≡ verdictWith w bytes = sym (ap (verdictIn (x .types) (x .sets)) v) ∙ c .verdict in
+    let e : refuse (record { number = n; place = p }) ≡ verdictWith w bytes = sym (ap (verdictIn (x .job .types) (x .job .sets)) v) ∙ c .verdict in
     let b = with-room bytes ws a w h in
     record {
-      verdict = ap (verdictIn (x .types) (x .sets)) (f .verdict) ∙ e ∙ sym b;
+      verdict = ap (verdictIn (x .job .types) (x .job .sets)) (f .verdict) ∙ e ∙ sym b;
       tables = c .tables ∙ tables-room bytes ws a w h;
       entry = λ i s k J q. absurd (let g : verdicts.Refused n p ≡ verdicts.Accepted i s = sym (f .verdict) ∙ k in let z : _≡_ {A = ℕ} 0 1 = cc in omega arith);
       refused = λ q k. record { written = refl; machine = f .machine };
@@ -106,7 +106,7 @@ unfolding shapeOf
 counted l J K e = let z : J ≡ K = cc in ap (λ (L : Job). lastIn l (length (L .cmds))) z
 
 pub session-accepted : (bytes ws a b : List ℕ) (r : Checked) (w x : Tables) (i s : ℕ) (m : Machine) → length ws ≤ length a / 2 → CheckTo bytes r w x → r .verdict ≡ verdicts.Accepted i s
-    → Made (stepsOf (codeIn (x .heads) (x .slots))) ws (builtFrom (r .shape) (x .names) (x .types) (x .values)) a b (seen m)
+    → Made (stepsOf (codeIn (x .job .heads) (x .job .slots))) ws (builtFrom (r .shape) (x .job .names) (x .job .types) (x .job .values)) a b (seen m)
     → Bytes bytes → SessionTo bytes ws (record { verdict = verdicts.Accepted i s; machine = m }) w x a b
 session-accepted bytes ws a b r w x i s m h c v f by = go (accepting bytes by r w x i s c v)
   where
@@ -116,12 +116,12 @@ session-accepted bytes ws a b r w x i s m h c v f by = go (accepting bytes by r 
 
     go : {T : Ty} → Accepting bytes (r .shape) T (ofWord s) x → SessionTo bytes ws (record { verdict = verdicts.Accepted i s; machine = m }) w x a b
     go y =
-        let e : verdictIn (x .types) (x .sets) (verdicts.Accepted i s) ≡ verdictWith w bytes = sym (ap (verdictIn (x .types) (x .sets)) v) ∙ c .verdict in
+        let e : verdictIn (x .job .types) (x .job .sets) (verdicts.Accepted i s) ≡ verdictWith w bytes = sym (ap (verdictIn (x .job .types) (x .job .sets)) v) ∙ c .verdict in
         record {
           verdict = e ∙ sym (with-room bytes ws a w h);
           tables = c .tables ∙ tables-room bytes ws a w h;
           entry = λ j t k J q. ap number (sym k) ∙ c .entry i s v ∙ ap (λ (g : Shape). lastIn (x .entries) (g .cmds)) (y .ready .shape) ∙ counted (x .entries) (y .job) J (sym (y .is) ∙ q);
-          refused = λ q k. never (x .types) (x .sets) i s q (e ∙ sym (with-room bytes ws a w h) ∙ k);
+          refused = λ q k. never (x .job .types) (x .job .sets) i s q (e ∙ sym (with-room bytes ws a w h) ∙ k);
           accepted =
               λ T t k. record {
                 job = y .job;

@@ -57,7 +57,7 @@ pub record RefusedWith (n p : ℕ) (r : Held) : Type 0 where
   pub machine : seen (r .machine) ≡ emptyMachine
 
 pub record SessionTo (bytes words : List ℕ) (r : Held) (w x : Tables) (before after : List ℕ) : Type 0 where
-  pub verdict : verdictIn (x .types) (x .sets) (r .verdict) ≡ sessionVerdict (roomFor words before) w bytes
+  pub verdict : verdictIn (x .job .types) (x .job .sets) (r .verdict) ≡ sessionVerdict (roomFor words before) w bytes
   pub tables : x ≡ sessionTables (roomFor words before) w bytes
   -- the entry that an acceptance names is that of the last expression
   pub entry : (i s : ℕ) → r .verdict ≡ Accepted i s → (J : Job) → reading bytes ≡ read J → i ≡ lastIn (x .entries) (length (J .cmds))

@@ -16,7 +16,7 @@ ghost use Rattle.order.specs.Order.{below};
 ghost use Rattle.order.specs.Sets.{bit, some-of};
 ghost use Rattle.semantics.specs.Machine.{most-frames, most-cells, most-keys, most-pairs, most-functions, most-bindings};
 ghost use Rattle.semantics.specs.Keys.{enabled, narrow};
-ghost use Rattle.store.specs.Meaning.{keysIn, kindIn, valueIn, twoIn, closureIn, bindingIn, variableIn, nameIn, ownIn};
+ghost use Rattle.store.specs.Meaning.{word-keys, keysIn, kindIn, valueIn, twoIn, closureIn, bindingIn, variableIn, nameIn, ownIn};
 ghost use Rattle.store.specs.Words.{kindAt, wordIn, cellIn, pairIn, functionIn, linkIn, upIn};
 ghost use Rattle.store.specs.Frames.{headAt, heldIn, freshOf, frameIn, Held};
 ghost use Rattle.store.specs.Tables.{Put, capped, listOf};
@@ -47,6 +47,22 @@ pub const PAIR_WORDS: usize = MOST_PAIRS as usize * 2;
 pub const FUNCTION_WORDS: usize = MOST_FUNCTIONS as usize;
 
 pub const BINDING_WORDS: usize = MOST_BINDINGS as usize * 2;
+
+// A set of keys is two numbers of so many bits, one a key; the second begins with this key.
+const WORD_KEYS: u64 = 64;
+
+const SECOND: u8 = WORD_KEYS as u8;
+
+const ALL_KEYS: u8 = MOST_KEYS as u8;
+
+// How many entries of each table that threads share are used. A count has a word of its own: narrower ones would be packed and unpacked at each step.
+pub struct Used {
+    pub cells: u64,
+    pub keys: u64,
+    pub pairs: u64,
+    pub functions: u64,
+    pub bindings: u64,
+}
 
 // A set of keys: bit i of the first number is key i, of the second key 64 + i.
 pub struct Keys(pub u64, pub u64);
@@ -342,11 +358,11 @@ pub fn has(on: Keys, k: Key) -> bool
     ensures { λ r. ⌜ r ≡ bit (keysIn on) (k .0) ⌝ }
 {
     let i = k.0;
-    if i < 64 {
+    if i < SECOND {
         return (on.0 >> i) % 2 == 1;
     }
-    if i < 128 {
-        let j = i - 64;
+    if i < ALL_KEYS {
+        let j = i - SECOND;
         return (on.1 >> j) % 2 == 1;
     }
     false
@@ -461,7 +477,7 @@ fn both(keys: &[u8; KEY_BYTES], n: u64, on: Keys, own: Own, k: Key) -> bool
 }
 
 fn one_bit(yes: bool, j: u8) -> u64
-    requires { ⌜ j < 64 ⌝ }
+    requires { ⌜ j < word-keys ⌝ }
     ensures { λ r. ⌜ r ≡ cond yes (2 ^ j) 0 ⌝ }
 {
     if yes {
@@ -470,20 +486,20 @@ fn one_bit(yes: bool, j: u8) -> u64
     0
 }
 
-// How many of n keys lie from `base` on, 64 at most.
+// How many of n keys lie from `base` on, as many at most as a number holds.
 fn width(n: u64, base: u64) -> u64
-    ensures { λ r. ⌜ (r ≡ span n base) × (r ≤ 64) ⌝ }
+    ensures { λ r. ⌜ (r ≡ span n base) × (r ≤ word-keys) ⌝ }
 {
     if n < base {
         return 0;
     }
     let m = n - base;
-    if m < 64 { m } else { 64 }
+    if m < WORD_KEYS { m } else { WORD_KEYS }
 }
 
 // Of the keys from `base` on, those below both, as bits.
 fn gather(keys: &[u8; KEY_BYTES], n: u64, on: Keys, own: Own, base: Key) -> u64
-    requires { ⌜ (base .0 ≤ 64) × (n ≤ most-keys) ⌝ }
+    requires { ⌜ (base .0 ≤ word-keys) × (n ≤ most-keys) ⌝ }
     ensures { λ r. ⌜ r ≡ bitsOf (bothOf (listOf upIn (now (keys .entry)) n) (keysIn on) (ownIn own)) (base .0) (span n (base .0)) ⌝ }
 {
     let m = width(n, base.0 as u64) as u8;
@@ -504,7 +520,7 @@ pub fn narrow(keys: &[u8; KEY_BYTES], n: u64, on: Keys, own: Own) -> Keys
     let m = cap(n, MOST_KEYS);
     Keys(
         gather(keys, m, on, own, Key(0)),
-        gather(keys, m, on, own, Key(64)),
+        gather(keys, m, on, own, Key(SECOND)),
     )
 }
 
@@ -517,8 +533,8 @@ pub fn add(n: u64, on: Keys, k: Key) -> Keys
     if m <= i as u64 {
         return on;
     }
-    if i < 64 {
+    if i < SECOND {
         return Keys(one_bit(true, i) | on.0, on.1);
     }
-    Keys(on.0, one_bit(true, i - 64) | on.1)
+    Keys(on.0, one_bit(true, i - SECOND) | on.1)
 }

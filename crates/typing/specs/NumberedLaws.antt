@@ -1,7 +1,7 @@
 -- Typing by numbers is typing by trees: each expression's entry has the tree that `Least` gives the expression, the effects are the same, the refusals are the same,
 -- and the entries are those of `Layout`.
 use mathlib.Core.Path.{_≡_, refl, sym, ap, _∙_, subst, subst⁻¹}
-use Prim.Native.Nat.{ℕ, zero, suc, _+_, _*_, _^_, _≤_, _<_}
+use Prim.Native.Nat.{ℕ, zero, suc, _+_, _*_, _≤_, _<_}
 use native.Mathlib.Omega.{arith}
 use mathlib.Core.Bool.{Bool, true, false}
 use mathlib.Core.List.{List, [], _∷_, _++_, map, append-assoc, append-nil, List·Memᴰ, List·Memᴰ·head, List·Memᴰ·eq-of-singleton}
@@ -31,7 +31,8 @@ use Rattle.syntax.specs.TreeExactly.{tree-ok}
 use Rattle.typing.specs.Subtype.{subTy}
 use Rattle.typing.specs.Least.{Typed, typed, untyped, varType, typeAt, get, typesTo, types, typeOf, firstUntyped}
 use Rattle.typing.specs.Layout.{newKeys, keyEntries, varEntry, firstPart, secondPart, rekeyed, Points, new, old, pointsTo, Layout, point, layoutFrom, layoutOf}
-use Rattle.typing.specs.Tables.{most-entries, effectOf, effectIn, layoutFor}
+use Rattle.syntax.specs.Loading.{most-entries}
+use Rattle.typing.specs.Tables.{effectOf, effectIn, layoutFor}
 use Rattle.typing.specs.Filled.{typesTo-length, seen, typeOf-is, untyped-not, all-typed}
 use Rattle.typing.specs.Scoped.{ctx-type, ctx-var}
 use Rattle.typing.specs.Entries.{subIn}

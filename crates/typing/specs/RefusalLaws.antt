@@ -14,8 +14,10 @@ use Rattle.syntax.specs.Job.{Job, sourceOf}
 use Rattle.syntax.specs.Reading.{Refusal, Read, refused, read, reading}
 use Rattle.syntax.specs.ReadLaws.{JobOk, read-ok}
 use Rattle.syntax.specs.ReadPlaces.{refused-number, refused-place}
+use Rattle.syntax.specs.Loading as loads
+use Rattle.syntax.specs.Loading.{inTree, loading}
 use Rattle.syntax.specs.Tree.{predecessor, firstBad, orElse, numbered, lowest, treeRefusal}
-use Rattle.typing.specs.Verdict.{Verdict, accept, refuse, unless, within, judgeRead, verdictOf}
+use Rattle.typing.specs.Verdict.{Verdict, accept, refuse, unless, within, judge, judgeRead, verdictOf}
 use Rattle.typing.specs.Tables.{Tables, short, verdictWith}
 use Rattle.typing.specs.Numbered.{Ops, Result, makes, points, wrong, needNum, needPair, needCell, needFn, needLim, needGrant, need, keysFrom, resultAt, Sofar, settle, numberAt, Whole, whole, halted, onto, numberAll, startOf, numbering}
 use Rattle.typing.specs.Layout.{varEntry}
@@ -255,6 +257,35 @@ refusal-stands s q e = at (reading s) refl (verdict-by-order s ∙ e)
         let w = unless-ends (tree-among J) (typing-ends J (read-ok s J f)) in
         let z = ends w g in
         by-expression q J f (z .0) (z .1) (z .2)
+
+-- a load gives 2 to 10
+pub load-number : (s : List ℕ) (q : Refusal) → loading s ≡ refused q → (2 ≤ q .number) × (q .number ≤ 10)
+unfolding loading inTree loads.unless
+load-number s q e = at (reading s) refl e
+  where
+    same : {p : Refusal} → refused p ≡ refused q → p .number ≡ q .number
+    same {p} f = let z : p ≡ q = cc in ap (λ (x : Refusal). x .number) z
+
+    tree : {k : ℕ} {o : Option Refusal} (K : Job) → Among 8 10 k o → loads.unless o K ≡ refused q → (2 ≤ q .number) × (q .number ≤ 10)
+    tree K no-refusal f = absurd (let z : _≡_ {A = ℕ} 0 1 = cc in omega arith)
+    tree K (among p a b h) f = let n = same f in (omega arith, omega arith)
+
+    at : (R : Read) → reading s ≡ R → inTree R ≡ refused q → (2 ≤ q .number) × (q .number ≤ 10)
+    at (refused r) f g = let n = same g in let a = refused-number s r f in (omega (arith, a .0), omega (arith, a .1))
+    at (read K) f g = tree K (tree-among K) g
+
+-- and the check gives it too
+pub verdict-load : (s : List ℕ) (q : Refusal) → loading s ≡ refused q → verdictOf s ≡ refuse q
+unfolding loading inTree loads.unless verdictOf judgeRead judge unless
+verdict-load s q e = at (reading s) e
+  where
+    tree : (K : Job) (o : Option Refusal) (v : Verdict) → loads.unless o K ≡ refused q → unless o v ≡ refuse q
+    tree K none v g = absurd (let z : _≡_ {A = ℕ} 0 1 = cc in omega arith)
+    tree K (some r) v g = let z : r ≡ q = cc in ap refuse z
+
+    at : (R : Read) → inTree R ≡ refused q → judgeRead R ≡ refuse q
+    at (refused r) g = let z : r ≡ q = cc in ap refuse z
+    at (read K) g = tree K (treeRefusal (sourceOf K)) _ g
 
 -- with lent tables, 1 besides: so 0 is no refusal's number
 pub refusal-number : (w : Tables) (s : List ℕ) (q : Refusal) → verdictWith w s ≡ refuse q → (1 ≤ q .number) × (q .number ≤ 14)

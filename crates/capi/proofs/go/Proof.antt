@@ -20,7 +20,7 @@ same-length-2 : tie.Need-same-length-2
 same-length-2 c = search needs
 
 returns : tie.Need-returns
-returns c = goes (c .before .before .before .before .before .before .before .make-calls .result) (c .before .before .before .before .before .before .before .make-calls .ensures) (c .before .before .count .ensures)
+returns c = goes (c .before .before .before .before .before .before .before .before .make-calls .result) (c .before .before .before .before .before .before .before .before .make-calls .ensures) (c .before .before .count .ensures)
 
 pub go-spec : {M : Type 1} → statement M
 go-spec = tie.close (tie.spec make-calls-requires count-requires same-length same-length-2 returns)

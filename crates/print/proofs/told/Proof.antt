@@ -1,5 +1,6 @@
 use mathlib.Core.Path.{refl}
 use Rattle.order.specs.Bools.{_or_}
+use Rattle.syntax.specs.Loading as loads
 use Rattle.typing.specs.Tables.{short}
 use native.Mathlib.Omega.{arith}
 use Rattle.print.proofs.Prints.{told-refused, told-accepted}
@@ -67,7 +68,7 @@ accepted-requires : tie.Need-accepted-requires
 accepted-requires c κs = search needs
 
 returns : tie.Need-returns
-unfolding short _or_
+unfolding short loads.short _or_
 returns c = λ h. told-refused _ _ _ _ _ _ _ (c .before .before .before .before .before .before .before .before .before .before .before .before .before .check .ensures) (c .before .before .v .given .1) (c .refused .ensures) h refl
 
 returns-2 : tie.Need-returns-2

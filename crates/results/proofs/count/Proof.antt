@@ -48,7 +48,7 @@ same-length c = search needs
 
 returns : tie.Need-returns
 returns c =
-    counted _ _
+    counted _ _ _
     (c .before .before .before .before .before .before .before .before .before .before .before .before .before .before .before .before .before .before .before .before .before .before .before .before .before .before .before .before .before .cap .ensures .0)
     (c .before .before .before .before .before .before .before .before .before .before .before .before .before .before .before .before .before .before .before .before .before .before .before .before .before .before .before .before .cap2 .ensures .0)
     (c .before .before .before .before .before .before .before .before .before .before .before .before .before .before .before .before .before .before .before .before .before .before .before .before .before .before .before .cap3 .ensures .0)

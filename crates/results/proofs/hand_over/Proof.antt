@@ -18,13 +18,13 @@ put-cells-requires : tie.Need-put-cells-requires
 put-cells-requires c κs = search needs
 
 same-length : tie.Need-same-length
-same-length c = c .before .before .before .before .before .before .before .before .value .given
+same-length c = c .before .before .before .before .before .before .before .before .before .value .given
 
 same-length-2 : tie.Need-same-length-2
 same-length-2 c = c .before .cells .given
 
 returns : tie.Need-returns
-returns c = (c .before .before .before .before .before .before .before .before .before .put-value .ensures _, cells-told _ _ _ (c .before .before .before .before .before .before .cap .ensures .0) (c .before .before .put-cells .ensures))
+returns c = (c .before .before .before .before .before .before .before .before .before .before .put-value .ensures _ _, cells-told _ _ _ (c .before .before .before .before .before .before .cap .ensures .0) (c .before .before .put-cells .ensures))
 
 pub hand-over-spec : {M : Type 1} → statement M
 hand-over-spec =
