@@ -15,7 +15,7 @@ use Rattle.typing.specs.Tables.{Tables}
 use Rattle.semantics.specs.Start.{startOf}
 use Rattle.semantics.specs.Starting.{started}
 use Rattle.semantics.specs.Calls as semantics
-use Rattle.semantics.specs.Calls.{calls}
+use Rattle.semantics.specs.Calls.{stepsOf, calls}
 use Rattle.semantics.specs.Demand3.{exprOf, callsOf, Allowed}
 use Rattle.calls.specs.Words.{callsIn, resultWords}
 use Rattle.checker.specs.declared.Checked.{Checked}
@@ -55,5 +55,5 @@ accepted-run bytes words by {c} {w} {x} {i} {s} to v {r} {u} {y} {a} {a'} h l ro
       allowed = its .allowed (callsIn words);
       written =
           h .goes (startOf (sourceOf J)) opens .answers
-          ∙ ap (λ (f : ℕ → Cmd ℕ). resultWords (calls f (callsIn words) (startOf (sourceOf J))) ++ drop (2 * length words) a) code;
+          ∙ ap (λ (f : ℕ → Cmd ℕ). resultWords (calls (stepsOf f) (callsIn words) (startOf (sourceOf J))) ++ drop (2 * length words) a) code;
     }
