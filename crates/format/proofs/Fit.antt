@@ -7,7 +7,7 @@ use native.Mathlib.Numerals.{add-one}
 use lib.ListN.{length, take, getD, set, length-append, length-take}
 use lib.Seq.{take-all, take-suc-set, take-append-le, take-suc, length-take-le}
 use Rattle.format.specs.declared.Text.{Text}
-use Rattle.format.specs.Text.{textOf, joined}
+use Rattle.format.specs.Text.{text-bytes, textOf, joined}
 
 take-front : (n : ℕ) (a b : List ℕ) → take n (take n a ++ b) ≡ take n (a ++ b)
 take-front zero a b = refl
