@@ -1,10 +1,18 @@
-// Typing by numbers: from the tables of a job, the type entry and the effect of each expression, and the entries that the job makes.
+// Elaboration: from the tables of a job, the type entry and the effect of each expression, and the entries that the job makes.
 use infer::Typing;
+use table::Expr;
+use table::MOST_NAMES;
+use table::MOST_VARIABLES;
 use table::at16;
 use table::at64;
+use table::byte_of;
+use table::key_of;
+use table::name_of;
 use table::put16;
 use table::put64;
+use table::type_word;
 use types::Entry;
+use types::MEMORY;
 ghost use mathlib.Core.Path.{_≡_};
 ghost use Prim.Native.Nat.{_%_, _≤_};
 ghost use Rattle.syntax.specs.Words.{typeBits, typeWord, setWord, codeIn};
@@ -15,7 +23,7 @@ ghost use Rattle.elaborate.specs.Binders.{binderOf, storeKey, bound, bou
 ghost use Rattle.elaborate.specs.Pass.{work, Settled, Kept, typedFrom, Ended};
 ghost use Rattle.elaborate.specs.Typed.{Typed};
 
-// What an expression binds: a function's variable with the entry of its type, or a variable and a local name by 3E.
+// What an expression binds: a function's variable with the entry of its type, or a variable and a local name by 0x3E.
 pub enum Binder {
     Nothing,
     Function(u8, u16),
@@ -41,24 +49,18 @@ fn short(n: usize) -> u16
     (n % 65536) as u16
 }
 
-// The word of a type entry: command byte, key, first and second part.
-fn bits(byte: u8, q: u8, a: u16, b: u16) -> u64
-    ensures { λ r. ⌜ r ≡ typeBits byte q a b ⌝ }
-{
-    (byte as u64) + 256 * (q as u64) + 65536 * (a as u64) + 4294967296 * (b as u64)
-}
-
-fn type_word(e: Entry) -> u64
+// The words of a type entry: its own, and its effect.
+fn entry_word(e: Entry) -> u64
     ensures { λ r. ⌜ r ≡ typeWord (made (entryOf e)) ⌝ }
 {
     match e {
-        Entry::Number(q) => bits(0x10, q.0, 0, 0),
-        Entry::Pair(q, a, b) => bits(0x11, q.0, a, b),
-        Entry::Cell(q, a) => bits(0x12, q.0, a, 0),
-        Entry::Function(q, a, b, _) => bits(0x13, q.0, a, b),
-        Entry::Limit(q, r) => bits(0x14, q.0, r.0 as u16, 0),
-        Entry::Grant(q, r) => bits(0x15, q.0, r.0 as u16, 0),
-        Entry::Nothing => bits(0x10, 0, 0, 0),
+        Entry::Number(q) => type_word(0x10, q.0, 0, 0),
+        Entry::Pair(q, a, b) => type_word(0x11, q.0, a, b),
+        Entry::Cell(q, a) => type_word(0x12, q.0, a, 0),
+        Entry::Function(q, a, b, _) => type_word(0x13, q.0, a, b),
+        Entry::Limit(q, r) => type_word(0x14, q.0, r.0 as u16, 0),
+        Entry::Grant(q, r) => type_word(0x15, q.0, r.0 as u16, 0),
+        Entry::Nothing => type_word(0x10, 0, 0, 0),
     }
 }
 
@@ -72,30 +74,30 @@ fn set_word(e: Entry) -> u64
 }
 
 // What expression e binds.
-fn binder_at<'a>(heads: &'a [u64], slots: &'a [u16], e: u16) -> Binder
-    ensures { λ r. ⌜ r ≡ binderOf (codeIn (now (heads .entry)) (now (slots .entry)) e) ⌝ }
+fn binder_at<'a>(heads: &'a [u64], slots: &'a [u16], e: Expr) -> Binder
+    ensures { λ r. ⌜ r ≡ binderOf (codeIn (now (heads .entry)) (now (slots .entry)) (e .0)) ⌝ }
 {
-    let w = at64(heads, e as usize);
-    let x = w / 256 % 4294967296;
-    match w % 256 {
-        0x35 => return Binder::Function((x % 256) as u8, at16(slots, (e as usize) * 5 + 1)),
-        0x3E => return Binder::NewKey((x % 256) as u8, (x / 256 % 256) as u8),
+    let i = e.0 as usize;
+    let w = at64(heads, i);
+    match byte_of(w) {
+        0x35 => return Binder::Function(key_of(w), at16(slots, i * 5 + 1)),
+        0x3E => return Binder::NewKey(key_of(w), name_of(w)),
         _ => return Binder::Nothing,
     }
 }
 
-// The three entries of a 3E with local name r, from n on: its limit key, its grant key, and their pair.
+// The three entries of a 0x3E with local name r, from n on: its limit key, its grant key, and their pair.
 fn store_key(types: &mut [u64], n: usize, r: u8)
     requires { ⌜ n ≤ 327680 ⌝ }
     ensures { λ _. ⌜ now (types .exit) ≡ storeKey (now (types .entry)) n r ⌝ }
 {
-    put64(types, n, bits(0x14, 0, r as u16, 0));
-    put64(types, n + 1, bits(0x15, 0, r as u16, 0));
-    put64(types, n + 2, bits(0x11, 0, short(n), short(n + 1)));
+    put64(types, n, type_word(0x14, 0, r as u16, 0));
+    put64(types, n + 1, type_word(0x15, 0, r as u16, 0));
+    put64(types, n + 2, type_word(0x11, 0, short(n), short(n + 1)));
 }
 
 // One binder more, when n entries stand before; the number of entries afterwards.
-fn bind_one(b: Binder, n: usize, types: &mut [u64], vars: &mut [u16; 64]) -> usize
+fn bind_one(b: Binder, n: usize, types: &mut [u64], vars: &mut [u16; MOST_VARIABLES]) -> usize
     requires { ⌜ n ≤ 327680 ⌝ }
     ensures { λ r. ⌜ bound r (now (types .exit)) (now (vars .exit)) ≡ boundOne b (bound n (now (types .entry)) (now (vars .entry))) ⌝ }
 {
@@ -113,14 +115,14 @@ fn bind_one(b: Binder, n: usize, types: &mut [u64], vars: &mut [u16; 64]) -> usi
     }
 }
 
-// The entries of each 3E, and the variables that expressions bind, when n types are declared.
+// The entries of each 0x3E, and the variables that expressions bind, when n types are declared.
 fn bind<'a>(
     heads: &'a [u64],
     slots: &'a [u16],
     cmds: u16,
     n: u16,
     types: &mut [u64],
-    vars: &mut [u16; 64],
+    vars: &mut [u16; MOST_VARIABLES],
 ) -> usize
     ensures { λ r. ⌜ (r ≤ 262144) × (bound r (now (types .exit)) (now (vars .exit))
         ≡ boundFrom (now (heads .entry)) (now (slots .entry)) cmds 0 (bound n (now (types .entry)) (now (vars .entry)))) ⌝ }
@@ -128,7 +130,7 @@ fn bind<'a>(
     let mut count = n as usize;
     let mut i: u16 = 0;
     while i < cmds {
-        let b = binder_at(heads, slots, i);
+        let b = binder_at(heads, slots, Expr(i));
         let more = bind_one(b, count, types, vars);
         count = more;
         i = i + 1;
@@ -137,7 +139,7 @@ fn bind<'a>(
 }
 
 // The variables of the first n host values.
-fn hosts(values: &[u64], n: u16, vars: &mut [u16; 64])
+fn hosts(values: &[u64], n: u16, vars: &mut [u16; MOST_VARIABLES])
     ensures { λ _. ⌜ now (vars .exit) ≡ hostsFrom (now (values .entry)) n 0 (now (vars .entry)) ⌝ }
 {
     let mut i: usize = 0;
@@ -151,7 +153,7 @@ fn hosts(values: &[u64], n: u16, vars: &mut [u16; 64])
 // Writes the result of expression e, when n entries stand in the type table. What is known of comparisons stays right.
 fn settle(
     t: Typing,
-    e: u16,
+    e: Expr,
     n: usize,
     types: &mut [u64],
     sets: &mut [u64],
@@ -160,22 +162,24 @@ fn settle(
     known: &mut [u64],
 ) -> Next
     requires { ⌜ n ≤ 524288 ⌝ }
-    ensures { λ r. ⌜ Settled (resultIn t) e (work n (now (types .entry)) (now (sets .entry)) (now (entries .entry)) (now (effects .entry))) r
+    ensures { λ r. ⌜ Settled (resultIn t) (e .0) (work n (now (types .entry)) (now (sets .entry)) (now (entries .entry)) (now (effects .entry))) r
         (now (types .exit)) (now (sets .exit)) (now (entries .exit)) (now (effects .exit))
         × Kept (now (types .entry)) (now (sets .entry)) (now (known .entry)) (now (types .exit)) (now (sets .exit)) (now (known .exit)) ⌝ }
 {
+    let i = e.0 as usize;
     match t {
         Typing::Makes(x, s) => {
             types::make_room(types, n, known);
-            put64(types, n, type_word(x));
+            put64(types, n, entry_word(x));
             put64(sets, n, set_word(x));
-            put16(entries, e as usize, short(n));
-            put64(effects, e as usize, s);
-            return Next::Count(n + 1);
+            put16(entries, i, short(n));
+            put64(effects, i, s);
+            let more = n + 1;
+            return Next::Count(more);
         }
-        Typing::Points(i, s) => {
-            put16(entries, e as usize, i);
-            put64(effects, e as usize, s);
+        Typing::Points(j, s) => {
+            put16(entries, i, j);
+            put64(effects, i, s);
             return Next::Count(n);
         }
         Typing::Wrong(k) => return Next::Stop(k),
@@ -185,8 +189,8 @@ fn settle(
 // The expressions in order, when n entries stand in the type table.
 fn type_all<'a>(
     names: &'a [u16],
-    anc: &'a [u64; 64],
-    vars: &'a [u16; 64],
+    anc: &'a [u64; MOST_NAMES],
+    vars: &'a [u16; MOST_VARIABLES],
     heads: &'a [u64],
     slots: &'a [u16],
     cmds: u16,
@@ -204,7 +208,7 @@ fn type_all<'a>(
     let mut e: u16 = 0;
     while e < cmds {
         let t = infer::result(
-            e,
+            Expr(e),
             heads,
             slots,
             types,
@@ -216,7 +220,7 @@ fn type_all<'a>(
             anc,
             known,
         );
-        match settle(t, e, count, types, sets, entries, effects, known) {
+        match settle(t, Expr(e), count, types, sets, entries, effects, known) {
             Next::Count(m) => count = m,
             Next::Stop(k) => return Passed::Halted(k, e),
         }
@@ -225,11 +229,11 @@ fn type_all<'a>(
     Passed::Whole
 }
 
-// From the tables of a job with so many declared types, host values and expressions: the entries of each 3E, then for each
-// expression its entry and its effect, and the entry that it makes. The first refusal ends it. This is typing by numbers.
+// From the tables of a job with so many declared types, host values and expressions: the entries of each 0x3E, then for each
+// expression its entry and its effect, and the entry that it makes. The first refusal ends it.
 pub fn number_all<'a>(
     names: &'a [u16],
-    anc: &'a [u64; 64],
+    anc: &'a [u64; MOST_NAMES],
     values: &'a [u64],
     heads: &'a [u64],
     slots: &'a [u16],
@@ -245,7 +249,7 @@ pub fn number_all<'a>(
         (now (types .entry)) (now (sets .entry)) (now (entries .entry)) (now (effects .entry)) r
         (now (types .exit)) (now (sets .exit)) (now (entries .exit)) (now (effects .exit)) ⌝ }
 {
-    let mut vars = [0u16; 64];
+    let mut vars = [0u16; MOST_VARIABLES];
     hosts(values, given, &mut vars);
     let n = bind(heads, slots, cmds, declared, types, &mut vars);
     if declared < 6 { // a memory is not worth its cost: no comparison looks at more than 63 pairs
@@ -265,7 +269,7 @@ pub fn number_all<'a>(
             &mut known,
         );
     }
-    let mut known = [0u64; 1021];
+    let mut known = [0u64; MEMORY];
     type_all(
         names,
         anc,

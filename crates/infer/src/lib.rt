@@ -1,10 +1,16 @@
 // The type and the effect of one expression, from the lent tables and what is known of its operands.
-use names::Name;
-use names::at16;
-use names::at64;
 use names::eff_below;
 use names::join;
 use names::touch;
+use table::Expr;
+use table::MOST_DEPTH;
+use table::MOST_NAMES;
+use table::MOST_VARIABLES;
+use table::Name;
+use table::at16;
+use table::at64;
+use table::key_of;
+use table::name_of;
 use types::Entry;
 use types::entry_at;
 ghost use mathlib.Core.Path.{_≡_};
@@ -47,7 +53,7 @@ fn operand_at<'a>(slots: &'a [u16], entries: &'a [u16], effects: &'a [u64], j: u
 }
 
 // An effect with the name of a touched value's key, reduced.
-fn touched(anc: &[u64; 64], q: Name, s: u64) -> u64
+fn touched(anc: &[u64; MOST_NAMES], q: Name, s: u64) -> u64
     ensures { λ r. ⌜ r ≡ reduceBy (now (anc .entry)) (touchBy (q .0) s) ⌝ }
 {
     names::reduce(anc, touch(q, s))
@@ -55,7 +61,7 @@ fn touched(anc: &[u64; 64], q: Name, s: u64) -> u64
 
 // Whether type a is a subtype of type t. One of them is a declared type, which is no deeper than 16.
 fn fits<'a>(
-    anc: &'a [u64; 64],
+    anc: &'a [u64; MOST_NAMES],
     types: &'a [u64],
     sets: &'a [u64],
     a: u16,
@@ -66,10 +72,10 @@ fn fits<'a>(
     ensures { λ r. ⌜ (r ≡ by.fitsBy (now (anc .entry)) (now (types .entry)) (now (sets .entry)) a t)
         × Known (now (anc .entry)) (now (types .entry)) (now (sets .entry)) (now (known .exit)) ⌝ }
 {
-    types::below(16, anc, types, sets, a, t, known)
+    types::below(MOST_DEPTH, anc, types, sets, a, t, known)
 }
 
-// 30, 31, 32.
+// 0x30, 0x31, 0x32.
 fn number() -> Typing
     ensures { λ r. ⌜ resultIn r ≡ by.numberBy ⌝ }
 {
@@ -82,14 +88,14 @@ fn top() -> Typing
     Typing::Makes(Entry::Limit(Name(0), Name(1)), 0)
 }
 
-fn variable(vars: &[u16; 64], v: u8) -> Typing
+fn variable(vars: &[u16; MOST_VARIABLES], v: u8) -> Typing
     ensures { λ r. ⌜ resultIn r ≡ by.variableBy (now (vars .entry)) v ⌝ }
 {
     Typing::Points(at16(vars, v as usize), 0)
 }
 
-// 33.
-fn pair(anc: &[u64; 64], x: Operand, y: Operand) -> Typing
+// 0x33.
+fn pair(anc: &[u64; MOST_NAMES], x: Operand, y: Operand) -> Typing
     ensures { λ r. ⌜ resultIn r ≡ by.pairBy (now (anc .entry)) x y ⌝ }
 {
     Typing::Makes(
@@ -98,8 +104,14 @@ fn pair(anc: &[u64; 64], x: Operand, y: Operand) -> Typing
     )
 }
 
-// 34.
-fn part<'a>(anc: &'a [u64; 64], types: &'a [u64], sets: &'a [u64], x: Operand, i: u32) -> Typing
+// 0x34.
+fn part<'a>(
+    anc: &'a [u64; MOST_NAMES],
+    types: &'a [u64],
+    sets: &'a [u64],
+    x: Operand,
+    i: u32,
+) -> Typing
     ensures { λ r. ⌜ resultIn r ≡ by.partBy (now (anc .entry)) (now (types .entry)) (now (sets .entry)) x i ⌝ }
 {
     let Entry::Pair(q, a, b) = entry_at(types, sets, x.ty) else {
@@ -112,16 +124,16 @@ fn part<'a>(anc: &'a [u64; 64], types: &'a [u64], sets: &'a [u64], x: Operand, i
     Typing::Points(b, s)
 }
 
-// 35.
+// 0x35.
 fn function(t: u16, x: Operand) -> Typing
     ensures { λ r. ⌜ resultIn r ≡ by.functionBy t x ⌝ }
 {
     Typing::Makes(Entry::Function(Name(0), t, x.ty, x.effect), 0)
 }
 
-// 36.
+// 0x36.
 fn apply<'a>(
-    anc: &'a [u64; 64],
+    anc: &'a [u64; MOST_NAMES],
     types: &'a [u64],
     sets: &'a [u64],
     x: Operand,
@@ -142,9 +154,9 @@ fn apply<'a>(
     Typing::Wrong(12)
 }
 
-// 37.
+// 0x37.
 fn cell<'a>(
-    anc: &'a [u64; 64],
+    anc: &'a [u64; MOST_NAMES],
     types: &'a [u64],
     sets: &'a [u64],
     t: u16,
@@ -161,9 +173,9 @@ fn cell<'a>(
     Typing::Wrong(12)
 }
 
-// 38.
+// 0x38.
 fn assign<'a>(
-    anc: &'a [u64; 64],
+    anc: &'a [u64; MOST_NAMES],
     types: &'a [u64],
     sets: &'a [u64],
     x: Operand,
@@ -183,8 +195,8 @@ fn assign<'a>(
     Typing::Wrong(12)
 }
 
-// 39.
-fn read<'a>(anc: &'a [u64; 64], types: &'a [u64], sets: &'a [u64], x: Operand) -> Typing
+// 0x39.
+fn read<'a>(anc: &'a [u64; MOST_NAMES], types: &'a [u64], sets: &'a [u64], x: Operand) -> Typing
     ensures { λ r. ⌜ resultIn r ≡ by.readBy (now (anc .entry)) (now (types .entry)) (now (sets .entry)) x ⌝ }
 {
     let Entry::Cell(q, t) = entry_at(types, sets, x.ty) else {
@@ -193,8 +205,14 @@ fn read<'a>(anc: &'a [u64; 64], types: &'a [u64], sets: &'a [u64], x: Operand) -
     Typing::Points(t, touched(anc, q, x.effect))
 }
 
-// 3A.
-fn sum<'a>(anc: &'a [u64; 64], types: &'a [u64], sets: &'a [u64], x: Operand, y: Operand) -> Typing
+// 0x3A.
+fn sum<'a>(
+    anc: &'a [u64; MOST_NAMES],
+    types: &'a [u64],
+    sets: &'a [u64],
+    x: Operand,
+    y: Operand,
+) -> Typing
     ensures { λ r. ⌜ resultIn r ≡ by.sumBy (now (anc .entry)) (now (types .entry)) (now (sets .entry)) x y ⌝ }
 {
     let Entry::Number(p) = entry_at(types, sets, x.ty) else {
@@ -207,9 +225,9 @@ fn sum<'a>(anc: &'a [u64; 64], types: &'a [u64], sets: &'a [u64], x: Operand, y:
     Typing::Makes(Entry::Number(Name(0)), touched(anc, p, s))
 }
 
-// 3B.
+// 0x3B.
 fn test<'a>(
-    anc: &'a [u64; 64],
+    anc: &'a [u64; MOST_NAMES],
     types: &'a [u64],
     sets: &'a [u64],
     x: Operand,
@@ -245,9 +263,9 @@ fn four(n: u32) -> usize
     4
 }
 
-// 3C: n keys at place `at` and after it, and the body at the fifth place.
+// 0x3C: n keys at place `at` and after it, and the body at the fifth place.
 fn limit<'a>(
-    anc: &'a [u64; 64],
+    anc: &'a [u64; MOST_NAMES],
     types: &'a [u64],
     sets: &'a [u64],
     slots: &'a [u16],
@@ -281,9 +299,9 @@ fn limit<'a>(
     Typing::Wrong(13)
 }
 
-// 3D.
+// 0x3D.
 fn grant<'a>(
-    anc: &'a [u64; 64],
+    anc: &'a [u64; MOST_NAMES],
     types: &'a [u64],
     sets: &'a [u64],
     x: Operand,
@@ -299,28 +317,28 @@ fn grant<'a>(
 }
 
 // Whether u is the upper name of r.
-fn is_upper(names: &[u16], r: u8, u: Name) -> bool
-    ensures { λ b. ⌜ b ≡ eqb (u .0) (getD (now (names .entry)) r 0 % 256) ⌝ }
+fn is_upper(names: &[u16], r: Name, u: Name) -> bool
+    ensures { λ b. ⌜ b ≡ eqb (u .0) (getD (now (names .entry)) (r .0) 0 % 256) ⌝ }
 {
-    let w = at16(names, r as usize) % 256;
+    let w = at16(names, r.0 as usize) % 256;
     let n = u.0 as u16;
     n == w
 }
 
-// 3E.
+// 0x3E.
 fn new_key<'a>(
-    anc: &'a [u64; 64],
+    anc: &'a [u64; MOST_NAMES],
     types: &'a [u64],
     sets: &'a [u64],
     names: &'a [u16],
-    r: u8,
+    r: Name,
     x: Operand,
     y: Operand,
     t: u16,
     known: &mut [u64],
 ) -> Typing
     requires { ⌜ Known (now anc) (now types) (now sets) (now known) ⌝ }
-    ensures { λ b. ⌜ (resultIn b ≡ by.newKeyBy (now (anc .entry)) (now (types .entry)) (now (sets .entry)) (now (names .entry)) r x y t)
+    ensures { λ b. ⌜ (resultIn b ≡ by.newKeyBy (now (anc .entry)) (now (types .entry)) (now (sets .entry)) (now (names .entry)) (r .0) x y t)
         × Known (now (anc .entry)) (now (types .entry)) (now (sets .entry)) (now (known .exit)) ⌝ }
 {
     let Entry::Limit(q, u) = entry_at(types, sets, x.ty) else {
@@ -332,7 +350,7 @@ fn new_key<'a>(
     if fits(anc, types, sets, y.ty, t, known) {} else {
         return Typing::Wrong(12);
     }
-    let s = join(x.effect, names::raise(Name(r), u, y.effect));
+    let s = join(x.effect, names::raise(r, u, y.effect));
     Typing::Points(t, touched(anc, q, s))
 }
 
@@ -365,9 +383,9 @@ fn rekeyed(k: Name, e: Entry) -> Entry
     }
 }
 
-// 3F.
+// 0x3F.
 fn associate<'a>(
-    anc: &'a [u64; 64],
+    anc: &'a [u64; MOST_NAMES],
     types: &'a [u64],
     sets: &'a [u64],
     x: Operand,
@@ -384,23 +402,11 @@ fn associate<'a>(
     Typing::Makes(rekeyed(r, e), touched(anc, k, s))
 }
 
-// The operand of one byte or four in a head, and the local name of 3E.
+// The operand of one byte or four in a head.
 fn lead(w: u64) -> u32
     ensures { λ r. ⌜ r ≡ w / 256 % 4294967296 ⌝ }
 {
     (w / 256 % 4294967296) as u32
-}
-
-fn low(w: u64) -> u8
-    ensures { λ r. ⌜ r ≡ w / 256 % 4294967296 % 256 ⌝ }
-{
-    (lead(w) % 256) as u8
-}
-
-fn local(w: u64) -> u8
-    ensures { λ r. ⌜ r ≡ w / 256 % 4294967296 / 256 % 256 ⌝ }
-{
-    (lead(w) / 256 % 256) as u8
 }
 
 // The commands with two operands or more, of which x is the first; the five places start at `at`. Any other stands for a number.
@@ -414,7 +420,7 @@ fn two<'a>(
     entries: &'a [u16],
     effects: &'a [u64],
     names: &'a [u16],
-    anc: &'a [u64; 64],
+    anc: &'a [u64; MOST_NAMES],
     known: &mut [u64],
 ) -> Typing
     requires { ⌜ (at ≤ 327675) × (x ≡ by.operandAt (now slots) (now entries) (now effects) at) × Known (now anc) (now types) (now sets) (now known) ⌝ }
@@ -436,7 +442,7 @@ fn two<'a>(
         0x3D => return grant(anc, types, sets, x, y),
         0x3E => {
             let t = at16(slots, at + 2);
-            return new_key(anc, types, sets, names, local(w), x, y, t, known);
+            return new_key(anc, types, sets, names, Name(name_of(w)), x, y, t, known);
         }
         0x3F => return associate(anc, types, sets, x, y),
         _ => return number(),
@@ -446,32 +452,33 @@ fn two<'a>(
 // Expression e: its command is in heads and slots, the entries and effects of the expressions before it in entries and effects, and
 // the entries of the variables in vars. What is known of comparisons is right, and stays so.
 pub fn result<'a>(
-    e: u16,
+    e: Expr,
     heads: &'a [u64],
     slots: &'a [u16],
     types: &'a [u64],
     sets: &'a [u64],
     entries: &'a [u16],
     effects: &'a [u64],
-    vars: &'a [u16; 64],
+    vars: &'a [u16; MOST_VARIABLES],
     names: &'a [u16],
-    anc: &'a [u64; 64],
+    anc: &'a [u64; MOST_NAMES],
     known: &mut [u64],
 ) -> Typing
     requires { ⌜ Known (now anc) (now types) (now sets) (now known) ⌝ }
     ensures { λ r. ⌜ (resultIn r
         ≡ resultAt (opsBy (now (anc .entry)) (now (names .entry))) (λ v. getD (now (vars .entry)) v 0)
         (entryIn (now (types .entry)) (now (sets .entry))) (λ a. getD (now (entries .entry)) a 0)
-        (λ a. ofWord (getD (now (effects .entry)) a 0)) (codeIn (now (heads .entry)) (now (slots .entry)) e))
+        (λ a. ofWord (getD (now (effects .entry)) a 0)) (codeIn (now (heads .entry)) (now (slots .entry)) (e .0)))
         × Known (now (anc .entry)) (now (types .entry)) (now (sets .entry)) (now (known .exit)) ⌝ }
 {
-    let w = at64(heads, e as usize);
-    let at = (e as usize) * 5;
+    let i = e.0 as usize;
+    let w = at64(heads, i);
+    let at = i * 5;
     let x = operand_at(slots, entries, effects, at);
     match w % 256 {
         0x30 => return number(),
         0x31 => return top(),
-        0x32 => return variable(vars, low(w)),
+        0x32 => return variable(vars, key_of(w)),
         0x34 => return part(anc, types, sets, x, lead(w)),
         0x35 => return function(at16(slots, at + 1), x),
         0x37 => return cell(anc, types, sets, at16(slots, at + 1), x, known),

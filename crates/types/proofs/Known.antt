@@ -1,21 +1,21 @@
 -- A memory of comparisons, and one level of a comparison by number.
-use mathlib.Core.Path.{_≡_, refl, sym, _∙_}
-use Prim.Native.Nat.{ℕ, zero, suc, _+_, _*_, _-_, _<_}
+use mathlib.Core.Path.{_≡_, refl, ap, sym, _∙_}
+use Prim.Native.Nat.{ℕ, zero, suc, _+_, _*_, _-_, _%_, _<_}
 use native.Mathlib.Omega.{arith}
 use native.Mathlib.Numerals.{sub-one}
 use mathlib.Core.Bool.{Bool, true, false, cond}
 use mathlib.Core.List.{List, [], _∷_}
 use mathlib.Core.Logic.{_≢_, _⊎_, inl, inr, ⊎-elim}
-use lib.ListN.{getD, set}
+use lib.ListN.{length, getD, set, replicate}
 use lib.Dec.{eqb}
-use borrow.Author.Tests.{eqb-true}
+use borrow.Author.Tests.{eqb-true, ne-eqb}
 use Rattle.order.specs.Effects.{sameEffect}
 use Rattle.syntax.specs.Words.{entryIn}
+use Rattle.syntax.specs.WordLaws.{zeros-at}
 use Rattle.typing.specs.Entries.{sameIn, subIn, superIn}
 use Rattle.names.specs.Ancestors.{belowBy, effBelowBy, effectsBy}
-use Rattle.types.specs.declared.Rest.{Rest}
-use Rattle.types.specs.Known.{Known, pick, turnedOf, keysBy, comparedIn, leftOf, settledAs, packOf}
-use Rattle.types.proofs.Words.{levelOf, Level, of-words}
+use Rattle.types.specs.Known.{Known, pick, turnedOf, keysBy, headsBy, leavesOf, comparedIn, packOf}
+use Rattle.types.proofs.Words.{byKind, levelOf, firstOf, secondOf, of-words}
 
 -- one place of a table is written, if it is there
 set-at : (t : List ℕ) (i w j : ℕ) → (getD (set t i w) j 0 ≡ getD t j 0) ⊎ (getD (set t i w) j 0 ≡ w)
@@ -32,6 +32,9 @@ module _ (anc types sets : List ℕ) where
     where
       no : (rel d a b : ℕ) → 0 ≡ packOf rel d a b → d ≡ 0
       no rel d a b e = omega arith
+
+  pub known-cleared : (t : List ℕ) {known : List ℕ} → known ≡ replicate (length t) 0 → Known anc types sets known
+  known-cleared t e = known-none (λ i. ap (λ (l : List ℕ). getD l i 0) e ∙ zeros-at (length t) i)
 
   -- a comparison w that is remembered holds, and one that holds may be remembered
   module _ {known : List ℕ} (k : Known anc types sets known) (rel d a b : ℕ) (n : d ≢ 0) (hd : d < 256) (ha : a < 65536) (hb : b < 65536) (w i : ℕ) (hw : w ≡ packOf rel d a b) where
@@ -77,30 +80,68 @@ module _ (anc types sets : List ℕ) where
       at false p true q = rw (eqb-true r 2 q) (level-super d a b)
       at false p false q = level-same r d a b p q
 
-  pub level : (r d a b : ℕ) → d ≢ 0 → {x : ℕ} → x ≡ getD types a 0 → {y : ℕ} → y ≡ getD types b 0
-      → Level (keysBy (belowBy anc) r) (keysBy (effBelowBy anc) r) (comparedIn anc types sets r (d - 1)) (comparedIn anc types sets (turnedOf r) (d - 1)) (comparedIn anc types sets 0 (d - 1))
-      (comparedIn anc types sets r d a b) x y (getD sets a 0) (getD sets b 0)
-  level r zero a b n hx hy = absurd (n refl)
-  level r (suc d) a b n hx hy = rw sub-one (record { by = simp (hx, hy) (level-at r d a b) })
+  -- A level of d, by the words x and y of its entries
 
--- what is settled is what is left
-pub left-settled : (anc types sets : List ℕ) (rel d : ℕ) (b : Bool) {r : Rest} → r ≡ settledAs b → b ≡ leftOf anc types sets rel d r
-unfolding leftOf settledAs
-left-settled anc types sets rel d true e = rw e
-left-settled anc types sets rel d false e = rw e
+  module _ (r d a b : ℕ) (n : d ≢ 0) {x : ℕ} (hx : x ≡ getD types a 0) {y : ℕ} (hy : y ≡ getD types b 0) {h : Bool} (hh : h ≡ headsBy (belowBy anc) r x y) where
+    by-words :
+        comparedIn anc types sets r d a b ≡
+        byKind h (x % 256) (cond (comparedIn anc types sets r (d - 1) (firstOf x) (firstOf y)) (comparedIn anc types sets r (d - 1) (secondOf x) (secondOf y)) false)
+        (comparedIn anc types sets 0 (d - 1) (firstOf x) (firstOf y))
+        (cond (keysBy (effBelowBy anc) r (getD sets a 0) (getD sets b 0)) (cond (comparedIn anc types sets (turnedOf r) (d - 1) (firstOf x) (firstOf y)) (comparedIn anc types sets r (d - 1) (secondOf x) (secondOf y)) false) false)
+        (leavesOf x y)
+    unfolding headsBy
+    by-words = at d n
+      where
+        at : (d : ℕ) → d ≢ 0 →
+            comparedIn anc types sets r d a b ≡
+            byKind h (x % 256) (cond (comparedIn anc types sets r (d - 1) (firstOf x) (firstOf y)) (comparedIn anc types sets r (d - 1) (secondOf x) (secondOf y)) false)
+            (comparedIn anc types sets 0 (d - 1) (firstOf x) (firstOf y))
+            (cond (keysBy (effBelowBy anc) r (getD sets a 0) (getD sets b 0)) (cond (comparedIn anc types sets (turnedOf r) (d - 1) (firstOf x) (firstOf y)) (comparedIn anc types sets r (d - 1) (secondOf x) (secondOf y)) false) false)
+            (leavesOf x y)
+        at zero z = absurd (z refl)
+        at (suc e) z = rw sub-one (simp (hh, hx, hy) (level-at r e a b))
 
--- two parts, one after the other
-pub two-first : {t p v : Bool} → v ≡ p → v ≡ false → (q : Bool) → t ≡ cond p q false → false ≡ t
-two-first hv f q e = simp (e, ← hv, f)
+    pub other-heads : h ≡ false → false ≡ comparedIn anc types sets r d a b
+    unfolding byKind
+    other-heads f = simp (by-words, f)
 
-pub two-second : {t p q u v : Bool} → v ≡ p → v ≡ true → u ≡ q → u ≡ false → t ≡ cond p q false → false ≡ t
-two-second hv f hu g e = simp (e, ← hv, f, ← hu, g)
+    module _ (g : h ≡ true) {k : ℕ} (hk : k ≡ x % 256) where
+      pub leaves : k ≢ 0x11 → k ≢ 0x12 → k ≢ 0x13 → {v : Bool} → v ≡ leavesOf x y → v ≡ comparedIn anc types sets r d a b
+      unfolding byKind
+      leaves n1 n2 n3 hv = hv ∙ sym (simp (by-words, g, ← hk, ne-eqb k 0x11 n1, ne-eqb k 0x12 n2, ne-eqb k 0x13 n3))
 
-pub two : {t p q u v : Bool} → v ≡ p → v ≡ true → u ≡ q → u ≡ true → t ≡ cond p q false → t ≡ true
-two hv f hu g e = simp (e, ← hv, f, ← hu, g)
+      pub other-effects : k ≡ 0x13 → {i j : ℕ} → i ≡ getD sets a 0 → j ≡ getD sets b 0 → {w : Bool} → w ≡ keysBy (effBelowBy anc) r i j → w ≡ false → false ≡ comparedIn anc types sets r d a b
+      unfolding byKind
+      other-effects m hi hj hw f = simp (by-words, g, ← hk, m, ← hi, ← hj, ← hw, f)
+
+      module _ {p q : ℕ} (hp : p ≡ firstOf x) (hq : q ≡ firstOf y) where
+        pub cells : k ≡ 0x12 → {v : Bool} → v ≡ comparedIn anc types sets 0 (d - 1) p q → v ≡ comparedIn anc types sets r d a b
+        unfolding byKind
+        cells m hv = simp (by-words, g, ← hk, m, ← hp, ← hq) hv
+
+        -- the first parts of pairs, then the second ones
+        module _ (m : k ≡ 0x11) {v : Bool} (hv : v ≡ comparedIn anc types sets r (d - 1) p q) where
+          pub pairs-first : v ≡ false → false ≡ comparedIn anc types sets r d a b
+          unfolding byKind
+          pairs-first f = simp (by-words, g, ← hk, m, ← hp, ← hq, ← hv, f)
+
+          pub pairs : v ≡ true → {s t : ℕ} → s ≡ secondOf x → t ≡ secondOf y → {u : Bool} → u ≡ comparedIn anc types sets r (d - 1) s t → u ≡ comparedIn anc types sets r d a b
+          unfolding byKind
+          pairs f hs ht hu = simp (by-words, g, ← hk, m, ← hp, ← hq, ← hv, f, ← hs, ← ht) hu
+
+        -- effects, the arguments of functions, then the results
+        module _ (m : k ≡ 0x13) {i j : ℕ} (hi : i ≡ getD sets a 0) (hj : j ≡ getD sets b 0) {w : Bool} (hw : w ≡ keysBy (effBelowBy anc) r i j) (f : w ≡ true)
+            {v : Bool} (hv : v ≡ comparedIn anc types sets (turnedOf r) (d - 1) p q) where
+          pub functions-first : v ≡ false → false ≡ comparedIn anc types sets r d a b
+          unfolding byKind
+          functions-first l = simp (by-words, g, ← hk, m, ← hi, ← hj, ← hw, f, ← hp, ← hq, ← hv, l)
+
+          pub functions : v ≡ true → {s t : ℕ} → s ≡ secondOf x → t ≡ secondOf y → {u : Bool} → u ≡ comparedIn anc types sets r (d - 1) s t → u ≡ comparedIn anc types sets r d a b
+          unfolding byKind
+          functions l hs ht hu = simp (by-words, g, ← hk, m, ← hi, ← hj, ← hw, f, ← hp, ← hq, ← hv, l, ← hs, ← ht) hu
 
 -- no levels
-module _ (types sets anc : List ℕ) (a b d : ℕ) (e : d ≡ 0) where
+module _ (anc types sets : List ℕ) (a b d : ℕ) (e : d ≡ 0) where
   pub same-none : false ≡ sameIn d (entryIn types sets) a b
   unfolding sameIn
   same-none = rw e

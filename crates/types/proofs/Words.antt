@@ -1,15 +1,17 @@
 -- Comparison of two entries by their words: kinds first, then keys, then what the kind has.
-use mathlib.Core.Path.{_≡_, refl, sym, _∙_}
+use mathlib.Core.Path.{_≡_, refl, sym}
 use Prim.Native.Nat.{ℕ, _/_, _%_}
+use native.Mathlib.Omega.{arith}
 use mathlib.Core.Bool.{Bool, true, false, cond}
 use mathlib.Core.Logic.{_≢_}
 use mathlib.Core.Option.{none}
 use lib.Dec.{eqb}
-use borrow.Author.Tests.{eqb-true, eqb-false, eq-eqb, ne-eqb}
+use borrow.Author.Tests.{eqb-true, eqb-false, ne-eqb}
 use Rattle.order.specs.Bools.{_and_}
 use Rattle.order.specs.Effects.{Effect, ofWord}
 use Rattle.syntax.specs.Words.{entryBits}
 use Rattle.typing.specs.Entries.{ifNum, ifPair, ifCell, ifFn, ifLim, ifGrant, levelBy}
+use Rattle.types.specs.Known.{leafBy, leavesOf}
 
 -- the kinds of entry
 data Kind : ℕ → Type 0 where
@@ -124,133 +126,79 @@ one : (x : Bool) → x ≡ cond x true false
 one true = refl
 one false = refl
 
-and-two : (x y : Bool) → (x and y) ≡ cond x y false
+and-two : (i x y : Bool) → cond i (x and y) false ≡ cond (cond i x false) y false
 unfolding _and_
-and-two true y = refl
-and-two false y = refl
+and-two true true y = refl
+and-two true false y = refl
+and-two false x y = refl
 
-and-three : (x y z : Bool) → (x and y and z) ≡ cond x (cond y z false) false
+and-three : (i x y z : Bool) → cond i (x and y and z) false ≡ cond (cond i x false) (cond y z false) false
 unfolding _and_
-and-three true true z = refl
-and-three true false z = refl
-and-three false y z = refl
+and-three true true true z = refl
+and-three true true false z = refl
+and-three true false y z = refl
+and-three false x y z = refl
 
 -- the last test may come second
-and-four : (x y z w : Bool) → (x and y and z and w) ≡ cond x (cond w (cond y z false) false) false
+and-four : (i x y z w : Bool) → cond i (x and y and z and w) false ≡ cond (cond i x false) (cond w (cond y z false) false) false
 unfolding _and_
-and-four true true true true = refl
-and-four true true true false = refl
-and-four true true false true = refl
-and-four true true false false = refl
-and-four true false z true = refl
-and-four true false z false = refl
-and-four false y z w = refl
+and-four true true true true true = refl
+and-four true true true true false = refl
+and-four true true true false true = refl
+and-four true true true false false = refl
+and-four true true false z true = refl
+and-four true true false z false = refl
+and-four true false y z w = refl
+and-four false x y z w = refl
 
-pub never : (x y : Bool) → false ≡ cond x (cond y false false) false
-never true true = refl
-never true false = refl
-never false y = refl
+pub never : (x : Bool) → false ≡ cond x false false
+never true = refl
+never false = refl
 
--- the answer for kinds k and l: the test of keys, then what the kind has
-unfoldable pub byKind : ℕ → ℕ → Bool → Bool → Bool → Bool → Bool → Bool
-byKind k l keys pairs cells functions owners =
-    cond (eqb k l)
-    (cond keys
-    (cond (eqb k 0x10) true
+-- the answer for kind k: the heads, then the kinds with parts, then the leaves
+unfoldable pub byKind : Bool → ℕ → Bool → Bool → Bool → Bool → Bool
+byKind heads k pairs cells functions leaves =
+    cond heads
     (cond (eqb k 0x11) pairs
     (cond (eqb k 0x12) cells
-    (cond (eqb k 0x13) functions
-    (cond (eqb k 0x14) owners
-    (cond (eqb k 0x15) owners false))))))
-    false)
+    (cond (eqb k 0x13) functions leaves)))
     false
 
--- the first and the second part of a word, and a key's own name
+-- the first and the second part of a word, and the name of a limit or grant key
 abbrev pub firstOf : ℕ → ℕ
 firstOf w = w / 65536 % 65536
 
 abbrev pub secondOf : ℕ → ℕ
 secondOf w = w / 4294967296 % 65536
 
+pub name-in-first : (w : ℕ) → firstOf w % 256 ≡ w / 65536 % 256
+name-in-first w = omega arith
+
 -- the answer for the words x and y and their sets s and t
 abbrev pub levelOf : (ℕ → ℕ → Bool) → (ℕ → ℕ → Bool) → (ℕ → ℕ → Bool) → (ℕ → ℕ → Bool) → (ℕ → ℕ → Bool) → ℕ → ℕ → ℕ → ℕ → Bool
 levelOf ky ef rec arg eq x y s t =
-    byKind (x % 256) (y % 256) (ky (x / 256 % 256) (y / 256 % 256))
+    byKind (cond (eqb (x % 256) (y % 256)) (ky (x / 256 % 256) (y / 256 % 256)) false) (x % 256)
     (cond (rec (firstOf x) (firstOf y)) (rec (secondOf x) (secondOf y)) false)
     (eq (firstOf x) (firstOf y))
     (cond (ef s t) (cond (arg (firstOf x) (firstOf y)) (rec (secondOf x) (secondOf y)) false) false)
-    (eqb (firstOf x % 256) (firstOf y % 256))
+    (leavesOf x y)
 
 -- one level of a comparison by words
 module _ (ky : ℕ → ℕ → Bool) (ef : Effect → Effect → Bool) (rec arg eq : ℕ → ℕ → Bool) where
   of-kinds : {k l : ℕ} → Kind k → Kind l → (p a b s q c d t : ℕ)
       → levelBy ky ef rec arg eq (entryBits k p a b s) (entryBits l q c d t) ≡
-      byKind k l (ky p q) (cond (rec a c) (rec b d) false) (eq a c) (cond (ef (ofWord s) (ofWord t)) (cond (arg a c) (rec b d) false) false) (eqb (a % 256) (c % 256))
-  unfolding levelBy entryBits byKind
-  of-kinds k-num h p a b s q c d t = rw (if-num q c d t h (λ r. ky p r), ← one (ky p q))
-  of-kinds k-pair h p a b s q c d t = rw (if-pair q c d t h (λ r x y. ky p r and rec a x and rec b y), and-three (ky p q) (rec a c) (rec b d))
-  of-kinds k-cell h p a b s q c d t = rw (if-cell q c d t h (λ r x. ky p r and eq a x), and-two (ky p q) (eq a c))
-  of-kinds k-fn h p a b s q c d t = rw (if-fn q c d t h (λ r x y u. ky p r and arg a x and rec b y and ef (ofWord s) u), and-four (ky p q) (arg a c) (rec b d) (ef (ofWord s) (ofWord t)))
-  of-kinds k-lim h p a b s q c d t = rw (if-lim q c d t h (λ r x. ky p r and eqb (a % 256) x), and-two (ky p q) (eqb (a % 256) (c % 256)))
-  of-kinds k-grant h p a b s q c d t = rw (if-grant q c d t h (λ r x. ky p r and eqb (a % 256) x), and-two (ky p q) (eqb (a % 256) (c % 256)))
+      byKind (cond (eqb k l) (ky p q) false) k (cond (rec a c) (rec b d) false) (eq a c) (cond (ef (ofWord s) (ofWord t)) (cond (arg a c) (rec b d) false) false) (leafBy k (eqb (a % 256) (c % 256)))
+  unfolding levelBy entryBits byKind leafBy
+  of-kinds {l = l} k-num h p a b s q c d t = rw (if-num q c d t h (λ r. ky p r)) (one (cond (eqb 0x10 l) (ky p q) false))
+  of-kinds {l = l} k-pair h p a b s q c d t = rw (if-pair q c d t h (λ r x y. ky p r and rec a x and rec b y)) (and-three (eqb 0x11 l) (ky p q) (rec a c) (rec b d))
+  of-kinds {l = l} k-cell h p a b s q c d t = rw (if-cell q c d t h (λ r x. ky p r and eq a x)) (and-two (eqb 0x12 l) (ky p q) (eq a c))
+  of-kinds {l = l} k-fn h p a b s q c d t = rw (if-fn q c d t h (λ r x y u. ky p r and arg a x and rec b y and ef (ofWord s) u)) (and-four (eqb 0x13 l) (ky p q) (arg a c) (rec b d) (ef (ofWord s) (ofWord t)))
+  of-kinds {l = l} k-lim h p a b s q c d t = rw (if-lim q c d t h (λ r x. ky p r and eqb (a % 256) x)) (and-two (eqb 0x14 l) (ky p q) (eqb (a % 256) (c % 256)))
+  of-kinds {l = l} k-grant h p a b s q c d t = rw (if-grant q c d t h (λ r x. ky p r and eqb (a % 256) x)) (and-two (eqb 0x15 l) (ky p q) (eqb (a % 256) (c % 256)))
   of-kinds {k} {l} (k-none n0 n1 n2 n3 n4 n5) h p a b s q c d t =
       simp (ne-eqb k 0x10 n0, ne-eqb k 0x11 n1, ne-eqb k 0x12 n2, ne-eqb k 0x13 n3, ne-eqb k 0x14 n4, ne-eqb k 0x15 n5)
-      (never (eqb k l) (ky p q))
+      (never (cond (eqb k l) (ky p q) false))
 
   pub of-words : (x y s t : ℕ)
       → levelBy ky ef rec arg eq (entryBits (x % 256) (x / 256 % 256) (firstOf x) (secondOf x) s) (entryBits (y % 256) (y / 256 % 256) (firstOf y) (secondOf y) t) ≡ levelOf ky (λ i j. ef (ofWord i) (ofWord j)) rec arg eq x y s t
-  of-words x y s t = of-kinds (kindOf (x % 256)) (kindOf (y % 256)) _ _ _ _ _ _ _ _
-
--- The answer v of a level, kind after kind
-
-pub record Level (ky ef rec arg eq : ℕ → ℕ → Bool) (v : Bool) (x y s t : ℕ) : Type 0 where
-  pub by : v ≡ levelOf ky ef rec arg eq x y s t
-
-module _ {ky ef rec arg eq : ℕ → ℕ → Bool} {v : Bool} {x y s t : ℕ} (h : Level ky ef rec arg eq v x y s t) {k l : ℕ} (hk : k ≡ x % 256) (hl : l ≡ y % 256) where
-  pub kinds-differ : k ≢ l → v ≡ false
-  unfolding byKind
-  kinds-differ n = simp (h .by, ← hk, ← hl, ne-eqb k l n)
-
-  module _ (e : k ≡ l) {p q : ℕ} (hp : p ≡ x / 256 % 256) (hq : q ≡ y / 256 % 256) {n : Bool} (hn : n ≡ ky p q) where
-    pub keys-differ : n ≡ false → v ≡ false
-    unfolding byKind
-    keys-differ f = simp (h .by, ← hk, ← hl, eq-eqb k l e, ← hp, ← hq, ← hn, f)
-
-    module _ (f : n ≡ true) where
-      of-kind : v ≡ byKind k k true (cond (rec (firstOf x) (firstOf y)) (rec (secondOf x) (secondOf y)) false) (eq (firstOf x) (firstOf y))
-          (cond (ef s t) (cond (arg (firstOf x) (firstOf y)) (rec (secondOf x) (secondOf y)) false) false) (eqb (firstOf x % 256) (firstOf y % 256))
-      of-kind = simp (h .by, ← hk, ← hl, ← e, ← hp, ← hq, ← hn, f)
-
-      pub numbers : k ≡ 0x10 → v ≡ true
-      unfolding byKind
-      numbers m = simp (of-kind, m)
-
-      pub limits : k ≡ 0x14 → {o : ℕ} → o ≡ firstOf x % 256 → {r : ℕ} → r ≡ firstOf y % 256 → v ≡ eqb o r
-      unfolding byKind
-      limits m ho hr = simp (of-kind, m, ← ho, ← hr)
-
-      pub grants : k ≡ 0x15 → {o : ℕ} → o ≡ firstOf x % 256 → {r : ℕ} → r ≡ firstOf y % 256 → v ≡ eqb o r
-      unfolding byKind
-      grants m ho hr = simp (of-kind, m, ← ho, ← hr)
-
-      pub others : k ≢ 0x10 → k ≢ 0x11 → k ≢ 0x12 → k ≢ 0x13 → k ≢ 0x14 → k ≢ 0x15 → v ≡ false
-      unfolding byKind
-      others n0 n1 n2 n3 n4 n5 = simp (of-kind, ne-eqb k 0x10 n0, ne-eqb k 0x11 n1, ne-eqb k 0x12 n2, ne-eqb k 0x13 n3, ne-eqb k 0x14 n4, ne-eqb k 0x15 n5, eq-eqb k k refl)
-
-      pub no-effects : k ≡ 0x13 → {i : ℕ} → i ≡ s → {j : ℕ} → j ≡ t → {w : Bool} → w ≡ ef i j → w ≡ false → v ≡ false
-      unfolding byKind
-      no-effects m hi hj hw g = simp (of-kind, m, ← hi, ← hj, ← hw, g)
-
-      module _ {a b : ℕ} (ha : a ≡ firstOf x) (hb : b ≡ firstOf y) where
-        pub cells : k ≡ 0x12 → v ≡ eq a b
-        unfolding byKind
-        cells m = simp (of-kind, m, ha, hb)
-
-        module _ {c d : ℕ} (hc : c ≡ secondOf x) (hd : d ≡ secondOf y) where
-          pub pairs : k ≡ 0x11 → v ≡ cond (rec a b) (rec c d) false
-          unfolding byKind
-          pairs m = simp (of-kind, m, ha, hb, hc, hd)
-
-          pub functions : k ≡ 0x13 → {i : ℕ} → i ≡ s → {j : ℕ} → j ≡ t → {w : Bool} → w ≡ ef i j → w ≡ true → v ≡ cond (arg a b) (rec c d) false
-          unfolding byKind
-          functions m hi hj hw g = simp (of-kind, m, ← hi, ← hj, ← hw, g, ha, hb, hc, hd)
+  of-words x y s t = rw (← name-in-first x, ← name-in-first y) (of-kinds (kindOf (x % 256)) (kindOf (y % 256)) _ _ _ _ _ _ _ _)

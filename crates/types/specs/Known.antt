@@ -1,6 +1,6 @@
 -- A memory of comparisons that hold: each of its words that is not 0 packs a comparison, its levels and its two entries.
 use mathlib.Core.Path.{_≡_}
-use Prim.Native.Nat.{ℕ, _+_, _*_, _-_, _%_, _<_}
+use Prim.Native.Nat.{ℕ, _+_, _*_, _/_, _%_, _<_}
 use mathlib.Core.Bool.{Bool, true, false, cond}
 use mathlib.Core.List.{List}
 use mathlib.Core.Logic.{_≢_}
@@ -9,8 +9,6 @@ use lib.Dec.{eqb}
 use Rattle.syntax.specs.Words.{entryIn}
 use Rattle.typing.specs.Entries.{sameIn, subIn, superIn}
 use Rattle.names.specs.Ancestors.{belowBy, effectsBy}
-use Rattle.types.specs.declared.Rest.{Rest}
-use Rattle.types.specs.declared.Rest.the-variants.{Never, Holds, Cells, Pairs, Functions}
 
 -- comparisons by number: 1 is below, 2 above, any other equality
 unfoldable pub pick : {A : Type 0} → ℕ → A → A → A → A
@@ -29,16 +27,16 @@ unfoldable pub comparedIn : List ℕ → List ℕ → List ℕ → ℕ → ℕ �
 comparedIn anc types sets rel d a b =
     pick rel (sameIn d (entryIn types sets) a b) (subIn (belowBy anc) (effectsBy anc) d (entryIn types sets) a b) (superIn (belowBy anc) (effectsBy anc) d (entryIn types sets) a b)
 
--- what is left of a comparison of d levels after its first level
-unfoldable pub leftOf : List ℕ → List ℕ → List ℕ → ℕ → ℕ → Rest → Bool
-leftOf anc types sets rel d Never = false
-leftOf anc types sets rel d Holds = true
-leftOf anc types sets rel d (Cells x y) = comparedIn anc types sets 0 (d - 1) x y
-leftOf anc types sets rel d (Pairs x y z w) = cond (comparedIn anc types sets rel (d - 1) x y) (comparedIn anc types sets rel (d - 1) z w) false
-leftOf anc types sets rel d (Functions x y z w) = cond (comparedIn anc types sets (turnedOf rel) (d - 1) x y) (comparedIn anc types sets rel (d - 1) z w) false
+-- the heads of two words: the kinds are the same, and the keys compare
+unfoldable pub headsBy : (ℕ → ℕ → Bool) → ℕ → ℕ → ℕ → Bool
+headsBy bl rel x y = cond (eqb (x % 256) (y % 256)) (keysBy bl rel (x / 256 % 256) (y / 256 % 256)) false
 
-unfoldable pub settledAs : Bool → Rest
-settledAs on = cond on Holds Never
+-- words of one kind that have no parts: numbers, and limit or grant keys, whose names are the same or not
+unfoldable pub leafBy : ℕ → Bool → Bool
+leafBy kind same = cond (eqb kind 0x10) true (cond (eqb kind 0x14) same (cond (eqb kind 0x15) same false))
+
+abbrev pub leavesOf : ℕ → ℕ → Bool
+leavesOf x y = leafBy (x % 256) (eqb (x / 65536 % 256) (y / 65536 % 256))
 
 -- a comparison in one word; no two have the same, and with a level or more it is not 0
 abbrev pub packOf : ℕ → ℕ → ℕ → ℕ → ℕ

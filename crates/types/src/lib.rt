@@ -1,16 +1,24 @@
 // Types in a lent table of words: what an entry stands for, and comparison of two types by their entries.
+use table::MOST_NAMES;
+use table::Name;
+use table::at64;
+use table::byte_of;
+use table::first_of;
+use table::key_of;
+use table::name_of;
+use table::second_of;
 ghost use mathlib.Core.Path.{_≡_};
-ghost use Prim.Native.Nat.{ℕ, _/_, _%_};
 ghost use mathlib.Core.Bool.{true};
-ghost use mathlib.Core.Logic.{_≢_};
 ghost use lib.ListN.{getD, set};
 ghost use lib.Dec.{eqb};
 ghost use Rattle.syntax.specs.Words.{entryIn};
 ghost use Rattle.typing.specs.Entries.{sameIn, subIn, superIn};
 ghost use Rattle.names.specs.Ancestors.{belowBy, effBelowBy, effectsBy};
 ghost use Rattle.types.specs.Entry.{entryOf};
-ghost use Rattle.types.specs.Known.{Known, Stays, comparedIn, keysBy, leftOf, packOf, settledAs, slotOf};
-use names::Name;
+ghost use Rattle.types.specs.Known.{Known, Stays, headsBy, keysBy, leavesOf, packOf, slotOf};
+
+// The words of a memory of comparisons: a prime, so that comparisons of few types seldom share a place.
+pub const MEMORY: usize = 1021;
 
 // A type by its head: its key's name, and the entries of its parts; a function has its effect, and a key the name that it is for.
 pub enum Entry {
@@ -23,74 +31,28 @@ pub enum Entry {
     Nothing,
 }
 
-// What is left to compare of two types after their heads: nothing, since they do not compare or since they do; the contents of cells; the
-// parts of pairs; the arguments and the results of functions.
-pub enum Rest {
-    Never,
-    Holds,
-    Cells(u16, u16),
-    Pairs(u16, u16, u16, u16),
-    Functions(u16, u16, u16, u16),
-}
-
-// Word i of a table, and 0 past its end.
-fn word(table: &[u64], i: u16) -> u64
-    ensures { λ r. ⌜ r ≡ getD (now (table .entry)) i 0 ⌝ }
-{
-    names::at64(table, i as usize)
-}
-
-// The parts of an entry's word.
-fn kind(w: u64) -> u8
-    ensures { λ r. ⌜ r ≡ w % 256 ⌝ }
-{
-    (w % 256) as u8
-}
-
-fn key(w: u64) -> u8
-    ensures { λ r. ⌜ r ≡ w / 256 % 256 ⌝ }
-{
-    (w / 256 % 256) as u8
-}
-
-fn first(w: u64) -> u16
-    ensures { λ r. ⌜ r ≡ w / 65536 % 65536 ⌝ }
-{
-    (w / 65536 % 65536) as u16
-}
-
-fn second(w: u64) -> u16
-    ensures { λ r. ⌜ r ≡ w / 4294967296 % 65536 ⌝ }
-{
-    (w / 4294967296 % 65536) as u16
-}
-
-// The name that a limit or grant key is for.
-fn owner(w: u64) -> u8
-    ensures { λ r. ⌜ r ≡ w / 65536 % 65536 % 256 ⌝ }
-{
-    (w / 65536 % 65536 % 256) as u8
-}
-
 // Entry i of the tables.
 pub fn entry_at<'a>(types: &'a [u64], sets: &'a [u64], i: u16) -> Entry
     ensures { λ r. ⌜ entryOf r ≡ entryIn (now (types .entry)) (now (sets .entry)) i ⌝ }
 {
-    let w = word(types, i);
-    let q = Name(key(w));
-    match kind(w) {
+    let w = at64(types, i as usize);
+    let q = Name(key_of(w));
+    match byte_of(w) {
         0x10 => return Entry::Number(q),
-        0x11 => return Entry::Pair(q, first(w), second(w)),
-        0x12 => return Entry::Cell(q, first(w)),
-        0x13 => return Entry::Function(q, first(w), second(w), word(sets, i)),
-        0x14 => return Entry::Limit(q, Name(owner(w))),
-        0x15 => return Entry::Grant(q, Name(owner(w))),
+        0x11 => return Entry::Pair(q, first_of(w), second_of(w)),
+        0x12 => return Entry::Cell(q, first_of(w)),
+        0x13 => {
+            let s = at64(sets, i as usize);
+            return Entry::Function(q, first_of(w), second_of(w), s);
+        }
+        0x14 => return Entry::Limit(q, Name(name_of(w))),
+        0x15 => return Entry::Grant(q, Name(name_of(w))),
         _ => return Entry::Nothing,
     }
 }
 
 // Comparisons by number: 1 is below, 2 above, any other equality. Whether two keys compare.
-fn keys(rel: u8, anc: &[u64; 64], p: u8, q: u8) -> bool
+fn keys(rel: u8, anc: &[u64; MOST_NAMES], p: u8, q: u8) -> bool
     ensures { λ r. ⌜ r ≡ keysBy (belowBy (now (anc .entry))) rel p q ⌝ }
 {
     if rel == 1 {
@@ -103,7 +65,7 @@ fn keys(rel: u8, anc: &[u64; 64], p: u8, q: u8) -> bool
 }
 
 // Whether two effects compare.
-fn effects(rel: u8, anc: &[u64; 64], s: u64, t: u64) -> bool
+fn effects(rel: u8, anc: &[u64; MOST_NAMES], s: u64, t: u64) -> bool
     ensures { λ r. ⌜ r ≡ keysBy (effBelowBy (now (anc .entry))) rel s t ⌝ }
 {
     if rel == 1 {
@@ -115,7 +77,7 @@ fn effects(rel: u8, anc: &[u64; 64], s: u64, t: u64) -> bool
     s == t
 }
 
-// A comparison in one word, and the place for it in a memory of 1021 words. A shorter one remembers less.
+// A comparison in one word, and the place for it in a memory. A shorter one remembers less.
 fn packed(rel: u8, d: u8, a: u16, b: u16) -> u64
     ensures { λ r. ⌜ r ≡ packOf rel d a b ⌝ }
 {
@@ -125,109 +87,59 @@ fn packed(rel: u8, d: u8, a: u16, b: u16) -> u64
 fn slot(w: u64) -> usize
     ensures { λ r. ⌜ r ≡ slotOf w ⌝ }
 {
-    (w % 1021) as usize
+    w as usize % MEMORY
 }
 
 // Whether a comparison is remembered.
 fn recalled(known: &[u64], w: u64) -> bool
     ensures { λ r. ⌜ r ≡ eqb (getD (now (known .entry)) (slotOf w) 0) w ⌝ }
 {
-    names::at64(known, slot(w)) == w
+    at64(known, slot(w)) == w
 }
 
 // Remembers a comparison, and answers that it holds. Only of closed questions: under general types the answer would depend on what names stand for.
 fn remember(known: &mut [u64], w: u64) -> bool
     ensures { λ r. ⌜ (r ≡ true) × (now (known .exit) ≡ set (now (known .entry)) (slotOf w) w) ⌝ }
 {
-    let i = slot(w);
-    if i < known.len() {
-        known[i] = w;
-    }
+    table::put64(known, slot(w), w);
     true
-}
-
-// Forgets everything.
-fn forget(known: &mut [u64])
-    ensures { λ _. ⌜ ((i : ℕ) → getD (now (known .exit)) i 0 ≡ 0) ⌝ }
-{
-    let mut i: usize = 0;
-    while i < known.len() {
-        known[i] = 0;
-        i = i + 1;
-    }
 }
 
 // To be called before entry n is written: what is remembered stays right if no entry stands there, and else it is forgotten.
 pub fn make_room<'a>(types: &'a [u64], n: usize, known: &mut [u64])
     ensures { λ _. ⌜ Stays (now (types .entry)) n (now (known .entry)) (now (known .exit)) ⌝ }
 {
-    if names::at64(types, n) == 0 {} else {
-        forget(known);
+    if at64(types, n) == 0 {} else {
+        table::clear64(known);
     }
 }
 
-// Whether it is settled that two types compare.
-fn settled(on: bool) -> Rest
-    ensures { λ r. ⌜ r ≡ settledAs on ⌝ }
+// Whether the heads of two words compare: their kinds are the same, and their keys compare.
+fn heads(rel: u8, anc: &[u64; MOST_NAMES], x: u64, y: u64) -> bool
+    ensures { λ r. ⌜ r ≡ headsBy (belowBy (now (anc .entry))) rel x y ⌝ }
 {
-    if on {
-        return Rest::Holds;
+    if byte_of(x) == byte_of(y) {
+        return keys(rel, anc, key_of(x), key_of(y));
     }
-    Rest::Never
+    false
 }
 
-// The first of d levels of a comparison, or what is remembered of it. Kinds first, then keys, then what the kind has.
-fn look<'a>(
-    rel: u8,
-    d: u8,
-    anc: &'a [u64; 64],
-    types: &'a [u64],
-    sets: &'a [u64],
-    a: u16,
-    b: u16,
-    known: &'a [u64],
-) -> Rest
-    requires { ⌜ Known (now anc) (now types) (now sets) (now known) ⌝ }
-    ensures { λ r. ⌜ (d ≢ 0 → comparedIn (now (anc .entry)) (now (types .entry)) (now (sets .entry)) rel d a b
-        ≡ leftOf (now (anc .entry)) (now (types .entry)) (now (sets .entry)) rel d r) ⌝ }
+// Whether the names of two limit or grant keys are the same; numbers have nothing more to compare, and other kinds are no leaves.
+fn leaves(x: u64, y: u64) -> bool
+    ensures { λ r. ⌜ r ≡ leavesOf x y ⌝ }
 {
-    let x = word(types, a);
-    let y = word(types, b);
-    let k = kind(x);
-    if k == kind(y) {} else {
-        return Rest::Never;
-    }
-    if keys(rel, anc, key(x), key(y)) {} else {
-        return Rest::Never;
-    }
-    match k {
-        0x10 => return Rest::Holds,
-        0x11 => { // part by part
-            if recalled(known, packed(rel, d, a, b)) {
-                return Rest::Holds;
-            }
-            return Rest::Pairs(first(x), first(y), second(x), second(y));
-        }
-        0x12 => return Rest::Cells(first(x), first(y)), // by equality
-        0x13 => {
-            if recalled(known, packed(rel, d, a, b)) {
-                return Rest::Holds;
-            }
-            if effects(rel, anc, word(sets, a), word(sets, b)) {
-                return Rest::Functions(first(x), first(y), second(x), second(y));
-            }
-            return Rest::Never;
-        }
-        0x14 => return settled(owner(x) == owner(y)),
-        0x15 => return settled(owner(x) == owner(y)),
-        _ => return Rest::Never,
+    match byte_of(x) {
+        0x10 => return true,
+        0x14 => return name_of(x) == name_of(y),
+        0x15 => return name_of(x) == name_of(y),
+        _ => return false,
     }
 }
 
 // Whether types a and b are equal down to the leaves, of which d levels are looked at. What is found to hold is remembered.
 fn same<'a>(
     d: u8,
-    anc: &'a [u64; 64],
+    anc: &'a [u64; MOST_NAMES],
     types: &'a [u64],
     sets: &'a [u64],
     a: u16,
@@ -241,34 +153,46 @@ fn same<'a>(
     if d == 0 {
         return false;
     }
+    let x = at64(types, a as usize);
+    let y = at64(types, b as usize);
+    if heads(0, anc, x, y) {} else {
+        return false;
+    }
     let e = d - 1;
-    match look(0, d, anc, types, sets, a, b, known) {
-        Rest::Never => return false,
-        Rest::Holds => return true,
-        Rest::Cells(x, y) => return same(e, anc, types, sets, x, y, known),
-        Rest::Pairs(x, y, z, w) => {
-            if same(e, anc, types, sets, x, y, known) {
-                if same(e, anc, types, sets, z, w, known) {
+    match byte_of(x) {
+        0x11 => {
+            if recalled(known, packed(0, d, a, b)) {
+                return true;
+            }
+            if same(e, anc, types, sets, first_of(x), first_of(y), known) {
+                if same(e, anc, types, sets, second_of(x), second_of(y), known) {
                     return remember(known, packed(0, d, a, b));
                 }
             }
             return false;
         }
-        Rest::Functions(x, y, z, w) => {
-            if same(e, anc, types, sets, x, y, known) {
-                if same(e, anc, types, sets, z, w, known) {
-                    return remember(known, packed(0, d, a, b));
+        0x12 => return same(e, anc, types, sets, first_of(x), first_of(y), known),
+        0x13 => {
+            if recalled(known, packed(0, d, a, b)) {
+                return true;
+            }
+            if effects(0, anc, at64(sets, a as usize), at64(sets, b as usize)) {
+                if same(e, anc, types, sets, first_of(x), first_of(y), known) {
+                    if same(e, anc, types, sets, second_of(x), second_of(y), known) {
+                        return remember(known, packed(0, d, a, b));
+                    }
                 }
             }
             return false;
         }
+        _ => return leaves(x, y),
     }
 }
 
 // Whether type a is below type b: a cell's content is compared by equality, and a function's argument the other way round.
 pub fn below<'a>(
     d: u8,
-    anc: &'a [u64; 64],
+    anc: &'a [u64; MOST_NAMES],
     types: &'a [u64],
     sets: &'a [u64],
     a: u16,
@@ -282,34 +206,46 @@ pub fn below<'a>(
     if d == 0 {
         return false;
     }
+    let x = at64(types, a as usize);
+    let y = at64(types, b as usize);
+    if heads(1, anc, x, y) {} else {
+        return false;
+    }
     let e = d - 1;
-    match look(1, d, anc, types, sets, a, b, known) {
-        Rest::Never => return false,
-        Rest::Holds => return true,
-        Rest::Cells(x, y) => return same(e, anc, types, sets, x, y, known),
-        Rest::Pairs(x, y, z, w) => {
-            if below(e, anc, types, sets, x, y, known) {
-                if below(e, anc, types, sets, z, w, known) {
+    match byte_of(x) {
+        0x11 => { // part by part
+            if recalled(known, packed(1, d, a, b)) {
+                return true;
+            }
+            if below(e, anc, types, sets, first_of(x), first_of(y), known) {
+                if below(e, anc, types, sets, second_of(x), second_of(y), known) {
                     return remember(known, packed(1, d, a, b));
                 }
             }
             return false;
         }
-        Rest::Functions(x, y, z, w) => {
-            if above(e, anc, types, sets, x, y, known) { // the other way round
-                if below(e, anc, types, sets, z, w, known) {
-                    return remember(known, packed(1, d, a, b)); // this pair, this way round
+        0x12 => return same(e, anc, types, sets, first_of(x), first_of(y), known), // by equality
+        0x13 => {
+            if recalled(known, packed(1, d, a, b)) {
+                return true;
+            }
+            if effects(1, anc, at64(sets, a as usize), at64(sets, b as usize)) {
+                if above(e, anc, types, sets, first_of(x), first_of(y), known) { // the other way round
+                    if below(e, anc, types, sets, second_of(x), second_of(y), known) {
+                        return remember(known, packed(1, d, a, b)); // this pair, this way round
+                    }
                 }
             }
             return false;
         }
+        _ => return leaves(x, y),
     }
 }
 
 // Whether type a is above type b.
 fn above<'a>(
     d: u8,
-    anc: &'a [u64; 64],
+    anc: &'a [u64; MOST_NAMES],
     types: &'a [u64],
     sets: &'a [u64],
     a: u16,
@@ -323,26 +259,38 @@ fn above<'a>(
     if d == 0 {
         return false;
     }
+    let x = at64(types, a as usize);
+    let y = at64(types, b as usize);
+    if heads(2, anc, x, y) {} else {
+        return false;
+    }
     let e = d - 1;
-    match look(2, d, anc, types, sets, a, b, known) {
-        Rest::Never => return false,
-        Rest::Holds => return true,
-        Rest::Cells(x, y) => return same(e, anc, types, sets, x, y, known),
-        Rest::Pairs(x, y, z, w) => {
-            if above(e, anc, types, sets, x, y, known) {
-                if above(e, anc, types, sets, z, w, known) {
+    match byte_of(x) {
+        0x11 => {
+            if recalled(known, packed(2, d, a, b)) {
+                return true;
+            }
+            if above(e, anc, types, sets, first_of(x), first_of(y), known) {
+                if above(e, anc, types, sets, second_of(x), second_of(y), known) {
                     return remember(known, packed(2, d, a, b));
                 }
             }
             return false;
         }
-        Rest::Functions(x, y, z, w) => {
-            if below(e, anc, types, sets, x, y, known) {
-                if above(e, anc, types, sets, z, w, known) {
-                    return remember(known, packed(2, d, a, b));
+        0x12 => return same(e, anc, types, sets, first_of(x), first_of(y), known),
+        0x13 => {
+            if recalled(known, packed(2, d, a, b)) {
+                return true;
+            }
+            if effects(2, anc, at64(sets, a as usize), at64(sets, b as usize)) {
+                if below(e, anc, types, sets, first_of(x), first_of(y), known) {
+                    if above(e, anc, types, sets, second_of(x), second_of(y), known) {
+                        return remember(known, packed(2, d, a, b));
+                    }
                 }
             }
             return false;
         }
+        _ => return leaves(x, y),
     }
 }

@@ -1,15 +1,22 @@
 use borrow.Author.Needs.{needs}
 use Rattle.syntax.specs.Words.{codeIn, decode}
+use Rattle.infer.proofs.Fields.{lead-low, lead-local}
 use Rattle.elaborate.specs.Binders.{binderOf}
 use Rattle.elaborate.proofs.Laws.{no-binder}
 use Rattle.elaborate.proofs.binder_at.Statement.{statement}
 use Rattle.elaborate.proofs.binder_at.Tie as tie
 
+cast-i : tie.Need-cast-i
+cast-i c = search needs
+
 at64-requires : tie.Need-at64-requires
 at64-requires c κs = search needs
 
-cast-t10 : tie.Need-cast-t10
-cast-t10 c = search needs
+byte-of-requires : tie.Need-byte-of-requires
+byte-of-requires c κs = search needs
+
+key-of-requires : tie.Need-key-of-requires
+key-of-requires c κs = search needs
 
 mul-at16 : tie.Need-mul-at16
 mul-at16 c = search needs
@@ -22,33 +29,35 @@ at16-requires c κs = search needs
 
 returns : tie.Need-returns
 unfolding binderOf codeIn decode
-returns c = simp (← (c .before .before .at64 .ensures), (c .before .match .keys1), (c .at16 .ensures))
+returns c = simp (← (c .before .before .before .before .at64 .ensures), ← (c .before .before .before .byte-of .ensures), (c .before .before .match .keys1), lead-low, (c .before .key-of .ensures), (c .at16 .ensures))
 
-cast-t16 : tie.Need-cast-t16
-cast-t16 c = search needs
+key-of-requires-2 : tie.Need-key-of-requires-2
+key-of-requires-2 c κs = search needs
 
-cast-t19 : tie.Need-cast-t19
-cast-t19 c = search needs
+name-of-requires : tie.Need-name-of-requires
+name-of-requires c κs = search needs
 
 returns-2 : tie.Need-returns-2
 unfolding binderOf codeIn decode
-returns-2 c = simp (← (c .before .at64 .ensures), (c .match .keys2))
+returns-2 c = simp (← (c .before .before .before .before .at64 .ensures), ← (c .before .before .before .byte-of .ensures), (c .before .before .match .keys2), lead-low, (c .before .key-of2 .ensures), lead-local, (c .name-of .ensures))
 
 returns-3 : tie.Need-returns-3
 unfolding codeIn
-returns-3 c = simp (← (c .before .at64 .ensures)) (no-binder _ _ _ _ _ _ _ ((c .match .rest .0 .1)) ((c .match .rest .1)))
+returns-3 c = simp (← (c .before .before .at64 .ensures), ← (c .before .byte-of .ensures)) (no-binder _ _ _ _ _ _ _ ((c .match .rest .0 .1)) ((c .match .rest .1)))
 
 pub binder-at-spec : {M : Type 1} → statement M
 binder-at-spec =
     tie.close
     (tie.spec
+    cast-i
     at64-requires
-    cast-t10
+    byte-of-requires
+    key-of-requires
     mul-at16
     add-at16
     at16-requires
     returns
-    cast-t16
-    cast-t19
+    key-of-requires-2
+    name-of-requires
     returns-2
     returns-3)

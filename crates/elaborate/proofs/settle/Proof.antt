@@ -5,14 +5,17 @@ use Rattle.elaborate.specs.Pass.{nextOf, settled}
 use Rattle.elaborate.proofs.settle.Statement.{statement}
 use Rattle.elaborate.proofs.settle.Tie as tie
 
+cast-i : tie.Need-cast-i
+cast-i c = search needs
+
 enum-known-t : tie.Need-enum-known-t
 enum-known-t c = search needs
 
 make-room-requires : tie.Need-make-room-requires
 make-room-requires c κs = search needs
 
-type-word-requires : tie.Need-type-word-requires
-type-word-requires c κs = search needs
+entry-word-requires : tie.Need-entry-word-requires
+entry-word-requires c κs = search needs
 
 put64-requires : tie.Need-put64-requires
 put64-requires c κs = search needs
@@ -32,8 +35,8 @@ put16-requires c κs = search needs
 put64-requires-3 : tie.Need-put64-requires-3
 put64-requires-3 c κs = search needs
 
-add-t26 : tie.Need-add-t26
-add-t26 c = search needs
+add-more : tie.Need-add-more
+add-more c = search needs
 
 same-length : tie.Need-same-length
 same-length c = search needs
@@ -52,7 +55,7 @@ same-length-5 c = search needs
 
 returns : tie.Need-returns
 unfolding resultIn nextOf settled
-returns c = (simp ((c .before .before .before .before .before .before .before .before .before .before .before .before .before .before .before .before .before .before .before .before .before .before .before .before .before .t .given .1)) (record { next = refl; types = simp ((c .before .before .before .before .before .before .before .before .before .before .before .before .before .before .before .before .put64 .ensures), (c .before .before .before .before .before .before .before .before .before .before .before .before .before .before .before .before .before .type-word .ensures)); sets = simp ((c .before .before .before .before .before .before .before .before .before .before .before .put642 .ensures), (c .before .before .before .before .before .before .before .before .before .before .before .before .set-word .ensures)); entries = simp ((c .before .before .before .before .before .before .put16 .ensures), (c .before .before .before .before .before .before .before .short .ensures)); effects = simp ((c .before .before .put643 .ensures)) }), record { right = λ anc k. simp ((c .before .before .before .before .before .before .before .before .before .before .before .before .before .before .before .before .put64 .ensures), (c .before .before .before .before .before .before .before .before .before .before .before .put642 .ensures)) (c .before .before .before .before .before .before .before .before .before .before .before .before .before .before .before .before .before .before .before .before .before .make-room .ensures .right anc _ _ _ k) })
+returns c = (simp ((c .before .before .before .before .before .before .before .before .before .before .before .before .before .before .before .before .before .before .before .before .before .before .before .before .before .t .given .1)) (record { next = refl; types = simp ((c .before .before .before .before .before .before .before .before .before .before .before .before .before .before .before .before .put64 .ensures), (c .before .before .before .before .before .before .before .before .before .before .before .before .before .before .before .before .before .entry-word .ensures)); sets = simp ((c .before .before .before .before .before .before .before .before .before .before .before .put642 .ensures), (c .before .before .before .before .before .before .before .before .before .before .before .before .set-word .ensures)); entries = simp ((c .before .before .before .before .before .before .put16 .ensures), (c .before .before .before .before .before .before .before .short .ensures)); effects = simp ((c .before .before .put643 .ensures)) }), record { right = λ anc k. simp ((c .before .before .before .before .before .before .before .before .before .before .before .before .before .before .before .before .put64 .ensures), (c .before .before .before .before .before .before .before .before .before .before .before .put642 .ensures)) (c .before .before .before .before .before .before .before .before .before .before .before .before .before .before .before .before .before .before .before .before .before .make-room .ensures .right anc _ _ _ k) })
 
 enum-known-t-2 : tie.Need-enum-known-t-2
 enum-known-t-2 c = search needs
@@ -84,16 +87,17 @@ pub settle-spec : {M : Type 1} → statement M
 settle-spec =
     tie.close
     (tie.spec
+    cast-i
     enum-known-t
     make-room-requires
-    type-word-requires
+    entry-word-requires
     put64-requires
     set-word-requires
     put64-requires-2
     short-requires
     put16-requires
     put64-requires-3
-    add-t26
+    add-more
     same-length
     same-length-2
     same-length-3

@@ -4,8 +4,8 @@ use Rattle.elaborate.specs.Binders.{storeKey}
 use Rattle.elaborate.proofs.store_key.Statement.{statement}
 use Rattle.elaborate.proofs.store_key.Tie as tie
 
-bits-requires : tie.Need-bits-requires
-bits-requires c κs = search needs
+type-word-requires : tie.Need-type-word-requires
+type-word-requires c κs = search needs
 
 put64-requires : tie.Need-put64-requires
 put64-requires c κs = search needs
@@ -13,8 +13,8 @@ put64-requires c κs = search needs
 add-put64 : tie.Need-add-put64
 add-put64 c = omega arith
 
-bits-requires-2 : tie.Need-bits-requires-2
-bits-requires-2 c κs = search needs
+type-word-requires-2 : tie.Need-type-word-requires-2
+type-word-requires-2 c κs = search needs
 
 put64-requires-2 : tie.Need-put64-requires-2
 put64-requires-2 c κs = search needs
@@ -31,8 +31,8 @@ add-short c = omega arith
 short-requires-2 : tie.Need-short-requires-2
 short-requires-2 c κs = search needs
 
-bits-requires-3 : tie.Need-bits-requires-3
-bits-requires-3 c κs = search needs
+type-word-requires-3 : tie.Need-type-word-requires-3
+type-word-requires-3 c κs = search needs
 
 put64-requires-3 : tie.Need-put64-requires-3
 put64-requires-3 c κs = search needs
@@ -42,22 +42,22 @@ same-length c = search needs
 
 returns : tie.Need-returns
 unfolding storeKey
-returns c = simp ((c .before .before .put643 .ensures), (c .before .before .before .bits3 .ensures), (c .before .before .before .before .before .short .ensures), (c .before .before .before .before .short2 .ensures), (c .before .before .before .before .before .before .before .before .before .put642 .ensures), (c .before .before .before .before .before .before .before .before .before .before .bits2 .ensures), (c .before .before .before .before .before .before .before .before .before .before .before .before .before .before .put64 .ensures), (c .before .before .before .before .before .before .before .before .before .before .before .before .before .before .before .bits .ensures))
+returns c = simp ((c .before .before .put643 .ensures), (c .before .before .before .type-word3 .ensures), (c .before .before .before .before .before .short .ensures), (c .before .before .before .before .short2 .ensures), (c .before .before .before .before .before .before .before .before .before .put642 .ensures), (c .before .before .before .before .before .before .before .before .before .before .type-word2 .ensures), (c .before .before .before .before .before .before .before .before .before .before .before .before .before .before .put64 .ensures), (c .before .before .before .before .before .before .before .before .before .before .before .before .before .before .before .type-word .ensures))
 
 pub store-key-spec : {M : Type 1} → statement M
 store-key-spec =
     tie.close
     (tie.spec
-    bits-requires
+    type-word-requires
     put64-requires
     add-put64
-    bits-requires-2
+    type-word-requires-2
     put64-requires-2
     add-put64-2
     short-requires
     add-short
     short-requires-2
-    bits-requires-3
+    type-word-requires-3
     put64-requires-3
     same-length
     returns)

@@ -2,6 +2,7 @@ use native.Mathlib.Omega.{arith}
 use borrow.Author.Tests.{ne-eqb}
 use borrow.Author.Needs.{needs}
 use Rattle.order.specs.Effects.{ofWord}
+use Rattle.infer.proofs.Fields.{lead-low}
 use Rattle.typing.specs.Numbered.{resultAt, fits}
 use Rattle.syntax.specs.Words.{codeIn, decode, entryIn}
 use Rattle.syntax.specs.DecodeLaws.{decodeBy, decode-is}
@@ -9,6 +10,9 @@ use Rattle.infer.proofs.Keys.{keys-any}
 use lib.ListN.{getD}
 use Rattle.infer.proofs.result.Statement.{statement}
 use Rattle.infer.proofs.result.Tie as tie
+
+cast-i : tie.Need-cast-i
+cast-i c = search needs
 
 at64-requires : tie.Need-at64-requires
 at64-requires c κs = search needs
@@ -24,24 +28,24 @@ number-requires c κs = search needs
 
 returns : tie.Need-returns
 unfolding resultAt codeIn decode fits
-returns c = (simp (← (c .before .before .before .at64 .ensures), (c .before .match .keys1), (c .number .ensures)), c .before .before .before .before .before .before .before .before .before .before .before .before .pre)
+returns c = (simp (← (c .before .before .before .at64 .ensures), (c .before .match .keys1), (c .number .ensures)), c .before .before .before .before .before .before .before .before .before .before .before .before .before .pre)
 
 top-requires : tie.Need-top-requires
 top-requires c κs = search needs
 
 returns-2 : tie.Need-returns-2
 unfolding resultAt codeIn decode fits
-returns-2 c = (simp (← (c .before .before .before .at64 .ensures), (c .before .match .keys2), (c .top .ensures)), c .before .before .before .before .before .before .before .before .before .before .before .before .pre)
+returns-2 c = (simp (← (c .before .before .before .at64 .ensures), (c .before .match .keys2), (c .top .ensures)), c .before .before .before .before .before .before .before .before .before .before .before .before .before .pre)
 
-low-requires : tie.Need-low-requires
-low-requires c κs = search needs
+key-of-requires : tie.Need-key-of-requires
+key-of-requires c κs = search needs
 
 variable-requires : tie.Need-variable-requires
 variable-requires c κs = search needs
 
 returns-3 : tie.Need-returns-3
 unfolding resultAt codeIn decode fits
-returns-3 c = (simp (← (c .before .before .before .before .at64 .ensures), (c .before .before .match .keys3), (c .variable .ensures), (c .before .low .ensures)), c .before .before .before .before .before .before .before .before .before .before .before .before .before .pre)
+returns-3 c = (simp (← (c .before .before .before .before .at64 .ensures), (c .before .before .match .keys3), (c .variable .ensures), lead-low, (c .before .key-of .ensures)), c .before .before .before .before .before .before .before .before .before .before .before .before .before .before .pre)
 
 lead-requires : tie.Need-lead-requires
 lead-requires c κs = search needs
@@ -51,7 +55,7 @@ part-requires c κs = search needs
 
 returns-4 : tie.Need-returns-4
 unfolding resultAt codeIn decode fits
-returns-4 c = (simp (← (c .before .before .before .before .at64 .ensures), (c .before .before .match .keys4), (c .part .ensures), (c .before .lead .ensures), (c .before .before .before .operand-at .ensures)), c .before .before .before .before .before .before .before .before .before .before .before .before .before .pre)
+returns-4 c = (simp (← (c .before .before .before .before .at64 .ensures), (c .before .before .match .keys4), (c .part .ensures), (c .before .lead .ensures), (c .before .before .before .operand-at .ensures)), c .before .before .before .before .before .before .before .before .before .before .before .before .before .before .pre)
 
 add-at16 : tie.Need-add-at16
 add-at16 c = search needs
@@ -64,7 +68,7 @@ function-requires c κs = search needs
 
 returns-5 : tie.Need-returns-5
 unfolding resultAt codeIn decode fits
-returns-5 c = (simp (← (c .before .before .before .before .at64 .ensures), (c .before .before .match .keys5), (c .function .ensures), (c .before .at16 .ensures), (c .before .before .before .operand-at .ensures)), c .before .before .before .before .before .before .before .before .before .before .before .before .before .pre)
+returns-5 c = (simp (← (c .before .before .before .before .at64 .ensures), (c .before .before .match .keys5), (c .function .ensures), (c .before .at16 .ensures), (c .before .before .before .operand-at .ensures)), c .before .before .before .before .before .before .before .before .before .before .before .before .before .before .pre)
 
 add-at16-2 : tie.Need-add-at16-2
 add-at16-2 c = search needs
@@ -87,7 +91,7 @@ read-requires c κs = search needs
 
 returns-7 : tie.Need-returns-7
 unfolding resultAt codeIn decode fits
-returns-7 c = (simp (← (c .before .before .before .at64 .ensures), (c .before .match .keys7), (c .read .ensures), (c .before .before .operand-at .ensures)), c .before .before .before .before .before .before .before .before .before .before .before .before .pre)
+returns-7 c = (simp (← (c .before .before .before .at64 .ensures), (c .before .match .keys7), (c .read .ensures), (c .before .before .operand-at .ensures)), c .before .before .before .before .before .before .before .before .before .before .before .before .before .pre)
 
 lead-requires-2 : tie.Need-lead-requires-2
 lead-requires-2 c κs = search needs
@@ -97,7 +101,7 @@ limit-requires c κs = search needs
 
 returns-8 : tie.Need-returns-8
 unfolding resultAt codeIn decode
-returns-8 c = (simp (← (c .before .before .before .before .at64 .ensures), (c .before .before .match .keys8), (c .limit .ensures), (c .before .lead2 .ensures)) (keys-any (c .before .before .before .before .before .before .before .before .before .before .before .before .before .args .anc .now) (c .before .before .before .before .before .before .before .before .before .before .before .before .before .args .names .now) (λ v. getD (c .before .before .before .before .before .before .before .before .before .before .before .before .before .args .vars .now) v 0) (entryIn (c .before .before .before .before .before .before .before .before .before .before .before .before .before .args .types .now) (c .before .before .before .before .before .before .before .before .before .before .before .before .before .args .sets .now)) (λ a. getD (c .before .before .before .before .before .before .before .before .before .before .before .before .before .args .entries .now) a 0) (λ a. ofWord (getD (c .before .before .before .before .before .before .before .before .before .before .before .before .before .args .effects .now) a 0)) _ _ _ _), c .before .before .before .before .before .before .before .before .before .before .before .before .before .pre)
+returns-8 c = (simp (← (c .before .before .before .before .at64 .ensures), (c .before .before .match .keys8), (c .limit .ensures), (c .before .lead2 .ensures)) (keys-any (c .before .before .before .before .before .before .before .before .before .before .before .before .before .before .args .anc .now) (c .before .before .before .before .before .before .before .before .before .before .before .before .before .before .args .names .now) (λ v. getD (c .before .before .before .before .before .before .before .before .before .before .before .before .before .before .args .vars .now) v 0) (entryIn (c .before .before .before .before .before .before .before .before .before .before .before .before .before .before .args .types .now) (c .before .before .before .before .before .before .before .before .before .before .before .before .before .before .args .sets .now)) (λ a. getD (c .before .before .before .before .before .before .before .before .before .before .before .before .before .before .args .entries .now) a 0) (λ a. ofWord (getD (c .before .before .before .before .before .before .before .before .before .before .before .before .before .before .args .effects .now) a 0)) _ _ _ _), c .before .before .before .before .before .before .before .before .before .before .before .before .before .before .pre)
 
 two-requires : tie.Need-two-requires
 two-requires c κs = search needs
@@ -107,12 +111,13 @@ same-length-2 c = search needs
 
 returns-9 : tie.Need-returns-9
 unfolding resultAt codeIn decodeBy
-returns-9 c = (simp (decode-is, ← (c .before .before .before .before .before .before .at64 .ensures), ne-eqb _ _ (c .before .before .before .before .match .rest .1), ne-eqb _ _ (c .before .before .before .before .match .rest .0 .1), ne-eqb _ _ (c .before .before .before .before .match .rest .0 .0 .1), ne-eqb _ _ (c .before .before .before .before .match .rest .0 .0 .0 .1), ne-eqb _ _ (c .before .before .before .before .match .rest .0 .0 .0 .0 .1), ne-eqb _ _ (c .before .before .before .before .match .rest .0 .0 .0 .0 .0 .1), ne-eqb _ _ (c .before .before .before .before .match .rest .0 .0 .0 .0 .0 .0 .1)) ((c .before .before .two .ensures .0) (λ v. getD ((c .before .before .before .before .before .before .before .before .before .before .before .before .before .before .before .args .vars) .now) v 0)), c .before .before .two .ensures .1)
+returns-9 c = (simp (decode-is, ← (c .before .before .before .before .before .before .at64 .ensures), ne-eqb _ _ (c .before .before .before .before .match .rest .1), ne-eqb _ _ (c .before .before .before .before .match .rest .0 .1), ne-eqb _ _ (c .before .before .before .before .match .rest .0 .0 .1), ne-eqb _ _ (c .before .before .before .before .match .rest .0 .0 .0 .1), ne-eqb _ _ (c .before .before .before .before .match .rest .0 .0 .0 .0 .1), ne-eqb _ _ (c .before .before .before .before .match .rest .0 .0 .0 .0 .0 .1), ne-eqb _ _ (c .before .before .before .before .match .rest .0 .0 .0 .0 .0 .0 .1)) ((c .before .before .two .ensures .0) (λ v. getD ((c .before .before .before .before .before .before .before .before .before .before .before .before .before .before .before .before .args .vars) .now) v 0)), c .before .before .two .ensures .1)
 
 pub result-spec : {M : Type 1} → statement M
 result-spec =
     tie.close
     (tie.spec
+    cast-i
     at64-requires
     mul-at
     operand-at-requires
@@ -120,7 +125,7 @@ result-spec =
     returns
     top-requires
     returns-2
-    low-requires
+    key-of-requires
     variable-requires
     returns-3
     lead-requires

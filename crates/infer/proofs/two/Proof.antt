@@ -1,5 +1,6 @@
 use borrow.Author.Tests.{ne-eqb}
 use borrow.Author.Needs.{needs}
+use Rattle.infer.proofs.Fields.{lead-local}
 use Rattle.typing.specs.Numbered.{resultAt, fits}
 use Rattle.infer.proofs.two.Statement.{statement}
 use Rattle.infer.proofs.two.Tie as tie
@@ -79,8 +80,8 @@ add-at16-2 c = search needs
 at16-requires-2 : tie.Need-at16-requires-2
 at16-requires-2 c κs = search needs
 
-local-requires : tie.Need-local-requires
-local-requires c κs = search needs
+name-of-requires : tie.Need-name-of-requires
+name-of-requires c κs = search needs
 
 new-key-requires : tie.Need-new-key-requires
 new-key-requires c κs = search needs
@@ -90,7 +91,7 @@ same-length-4 c = search needs
 
 returns-7 : tie.Need-returns-7
 unfolding resultAt fits
-returns-7 c = (λ var. simp ((c .before .before .before .before .before .before .match .keys7), (c .before .before .new-key .ensures .0), (c .before .before .before .before .before .before .before .operand-at .ensures), (c .before .before .before .before .local .ensures), (c .before .before .before .before .before .at162 .ensures), (c .before .before .before .before .before .before .before .before .before .before .before .before .before .before .before .pre .1)), c .before .before .new-key .ensures .1)
+returns-7 c = (λ var. simp ((c .before .before .before .before .before .before .match .keys7), (c .before .before .new-key .ensures .0), (c .before .before .before .before .before .before .before .operand-at .ensures), lead-local, (c .before .before .before .before .name-of .ensures), (c .before .before .before .before .before .at162 .ensures), (c .before .before .before .before .before .before .before .before .before .before .before .before .before .before .before .pre .1)), c .before .before .new-key .ensures .1)
 
 associate-requires : tie.Need-associate-requires
 associate-requires c κs = search needs
@@ -133,7 +134,7 @@ two-spec =
     returns-6
     add-at16-2
     at16-requires-2
-    local-requires
+    name-of-requires
     new-key-requires
     same-length-4
     returns-7

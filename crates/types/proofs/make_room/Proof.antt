@@ -1,6 +1,7 @@
 use mathlib.Core.Path.{sym, _∙_}
+use denote.Ref.{now}
 use borrow.Author.Needs.{needs}
-use Rattle.types.proofs.Known.{known-none}
+use Rattle.types.proofs.Known.{known-cleared}
 use Rattle.types.proofs.Stays.{known-stays}
 use Rattle.types.proofs.make_room.Statement.{statement}
 use Rattle.types.proofs.make_room.Tie as tie
@@ -8,8 +9,8 @@ use Rattle.types.proofs.make_room.Tie as tie
 at64-requires : tie.Need-at64-requires
 at64-requires c κs = search needs
 
-forget-requires : tie.Need-forget-requires
-forget-requires c κs = search needs
+clear64-requires : tie.Need-clear64-requires
+clear64-requires c κs = search needs
 
 returns : tie.Need-returns
 returns c = record { right = λ anc sets w s k. known-stays anc _ sets _ w s (sym (c .before .at64 .ensures) ∙ c .if1 .taken) k }
@@ -18,7 +19,7 @@ same-length : tie.Need-same-length
 same-length c = search needs
 
 returns-2 : tie.Need-returns-2
-returns-2 c = record { right = λ anc sets w s k. known-none anc _ _ (c .before .before .forget .ensures) }
+returns-2 c = record { right = λ anc sets w s k. known-cleared anc _ _ (now (c .before .before .before .before .before .before .before .before .args .known)) (c .before .before .clear64 .ensures) }
 
 pub make-room-spec : {M : Type 1} → statement M
-make-room-spec = tie.close (tie.spec at64-requires forget-requires returns same-length returns-2)
+make-room-spec = tie.close (tie.spec at64-requires clear64-requires returns same-length returns-2)

@@ -1,5 +1,4 @@
-use mathlib.Core.Path.{refl, sym}
-use lib.Seq.{set-out}
+use mathlib.Core.Path.{refl}
 use borrow.Author.Needs.{needs}
 use Rattle.types.proofs.remember.Statement.{statement}
 use Rattle.types.proofs.remember.Tie as tie
@@ -7,21 +6,14 @@ use Rattle.types.proofs.remember.Tie as tie
 slot-requires : tie.Need-slot-requires
 slot-requires c κs = search needs
 
-mul-known : tie.Need-mul-known
-mul-known c = search needs
-
-slice-write-known : tie.Need-slice-write-known
-slice-write-known c = search needs
+put64-requires : tie.Need-put64-requires
+put64-requires c κs = search needs
 
 same-length : tie.Need-same-length
 same-length c = search needs
 
 returns : tie.Need-returns
-returns c = (refl, simp (c .before .slot .ensures))
-
-returns-2 : tie.Need-returns-2
-returns-2 c = (refl, simp (← (c .before .slot .ensures)) (sym (set-out _ _ _ (c .if1 .left))))
+returns c = (refl, simp (c .before .before .put64 .ensures, c .before .before .before .slot .ensures))
 
 pub remember-spec : {M : Type 1} → statement M
-remember-spec =
-    tie.close (tie.spec slot-requires mul-known slice-write-known same-length returns returns-2)
+remember-spec = tie.close (tie.spec slot-requires put64-requires same-length returns)
