@@ -1,4 +1,3 @@
 pub mod Runs
 pub mod Checks
-pub mod Results
 pub mod Sessions

@@ -2,27 +2,17 @@
 use mathlib.Core.Path.{_≡_}
 use Prim.Native.Nat.{ℕ, _*_}
 use mathlib.Core.Bool.{Bool, true, false}
-use mathlib.Core.List.{List, [], _∷_, _++_}
+use mathlib.Core.List.{List, _++_}
 use lib.ListN.{length, set, drop}
 use Rattle.syntax.specs.Words.{codeIn}
 use Rattle.syntax.specs.Reading.{Refusal}
 use Rattle.semantics.specs.Machine.{Machine as Clean}
 use Rattle.semantics.specs.Calls.{Steps, stepsOf, calls}
 use Rattle.semantics.specs.Starting.{Started, started, unstarted, JobTables, startWith, tablesAfterStart}
-use Rattle.store.specs.declared.Used.{Used}
-use Rattle.store.specs.Tables.{capped}
-use Rattle.machine.specs.declared.Thread.{Thread}
 use Rattle.calls.specs.Words.{callsIn, resultWords, lastOf, over}
 use Rattle.calls.specs.Made.{Made}
+use Rattle.results.specs.Told.{roomWords}
 use Rattle.session.specs.Session.{roomFor}
-
--- the cells, keys, pairs, functions, frames and bindings that a machine uses
-unfoldable pub roomWords : Clean → List ℕ
-roomWords m = length (m .store .cells) ∷ length (m .store .keys) ∷ length (m .store .pairs) ∷ length (m .store .functions) ∷ length (m .thread .frames) ∷ length (m .store .bindings) ∷ []
-
--- the same by the counts of a thread and of the store
-unfoldable pub countWords : Thread → Used → List ℕ
-countWords t u = capped (u .cells) 256 ∷ capped (u .keys) 128 ∷ capped (u .pairs) 512 ∷ capped (u .functions) 512 ∷ capped (t .frames) 256 ∷ capped (u .bindings) 1024 ∷ []
 
 -- 0 if there is no refusal
 unfoldable pub numberOf : Started → ℕ

@@ -4,7 +4,7 @@ use Prim.Native.Nat.{ℕ, zero, suc, _^_, _≤_, _<_}
 use native.Mathlib.Nat.{pow-le-pow-right}
 use native.Mathlib.Omega.{arith}
 use mathlib.Core.Bool.{Bool, true, false, cond, not, _&&_, _||_, true≢false, false≢true, or-comm}
-use mathlib.Core.List.{List, [], _∷_, _++_, map, List·Memᴰ, List·Memᴰ·head, List·Memᴰ·tail, Memᴰ·cast, Memᴰ·map, Memᴰ·of-map}
+use mathlib.Core.List.{List, map, List·Memᴰ, Memᴰ·cast, Memᴰ·map, Memᴰ·of-map}
 use mathlib.Core.Option.{some, Option·some-injective}
 use mathlib.Core.Logic.{_≢_, _⊎_, inl, inr}
 use lib.ListN.{getElem?}
@@ -12,8 +12,8 @@ use lib.Dec.{eqb}
 use lib.Bits.{bitOr, or-lt, or-comm as or-swap}
 use borrow.Author.Tests.{eq-eqb, ne-eqb, eqb-true, eqb-false, not-true, not-false}
 use Rattle.order.specs.Order.{Below, bot, here, there, below}
-use Rattle.order.specs.OrderLaws.{Proper, below→, →below, below-bot, below-le, below-zero, below-antisym, below-trans, below-append}
-use Rattle.order.specs.Sets.{bit, members, membersFrom, setOf, keep, some-of, all-of}
+use Rattle.order.specs.OrderLaws.{Proper, below→, →below, below-bot, below-le, below-zero, below-antisym, below-trans}
+use Rattle.order.specs.Sets.{bit, members, membersFrom, keep, some-of, all-of}
 use Rattle.order.specs.SetLaws.{bool-ext, or-assoc, or→, →or-l, →or-r, and→, →and, bit-or, bit-zero, bit-pow, set-ext, bit-lt, lt-bit, keep-mem, mem-keep, some-of→, →some-of, none-of→, →none-of, all-of→, →all-of, mem-bit, bit-mem, setOf-bit, bit-setOf, mem-setOf, setOf-mem, bit-keep-set}
 use Rattle.order.specs.Effects.{setNames, setTouch, SetBelow, setBelow, maximal, setReduced, setReduce, setDrop, setRaise}
 
@@ -138,9 +138,6 @@ eff-trans p q = record { each = λ n m. let z = p .each n m in let y = q .each (
 
 pub eff-pure : {up : List ℕ} {t : ℕ} → SetBelow up 0 t
 eff-pure = record { each = λ n m. absurd (pure-name m) }
-
-pub eff-append : {up : List ℕ} (l : List ℕ) {s t : ℕ} → SetBelow up s t → SetBelow (up ++ l) s t
-eff-append l p = record { each = λ n m. let z = p .each n m in (z .0, z .1, below-append l (z .2)) }
 
 pub eff-join : {up : List ℕ} {s t u : ℕ} → SetBelow up s u → SetBelow up t u → SetBelow up (bitOr s t) u
 eff-join {up} {s} {t} {u} p q = record { each = λ n m. at n (join-cases s t m) }

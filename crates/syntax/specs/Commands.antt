@@ -85,41 +85,41 @@ pub data Role : Type 0 where
   -- op, i: a choice from the first number to the second
   r-choice : ℕ → ℕ → Role
 
--- what a role says: a number of its own, by which roles are compared; the widths of its operands; and whether the numbers from there on are allowed
-pub record Says : Type 0 where
+-- what there is to know of a role: a number of its own, by which roles are compared; the widths of its operands; and whether the numbers from there on are allowed
+pub record Traits : Type 0 where
   pub code : ℕ
   pub widths : List ℕ
   pub allows : List ℕ → Bool
 
-abbrev pub free : ℕ → List ℕ → Says
+abbrev pub free : ℕ → List ℕ → Traits
 free c ws = record { code = c; widths = ws; allows = λ o. true }
 
-abbrev pub ranged : ℕ → (List ℕ → Bool) → Says
+abbrev pub ranged : ℕ → (List ℕ → Bool) → Traits
 ranged c p = record { code = c; widths = 1 ∷ []; allows = p }
 
 -- the places of 0x3C's keys are four, used or not: "c (0 to 4) keys, unused key operands FFFF"
-unfoldable pub says : Role → Says
-says r-evaluated = free 0 (2 ∷ [])
-says r-entered = free 1 (2 ∷ [])
-says r-inside = free 2 (2 ∷ [])
-says r-count = ranged 3 (λ o. leb (getD o 0 0) 4 and all-of (λ e. eqb e 0xFFFF) (drop (getD o 0 0) (take 4 (drop 1 o))))
-says r-keys = free 4 (2 ∷ 2 ∷ 2 ∷ 2 ∷ [])
-says r-unused = free 5 []
-says r-variable = free 6 (1 ∷ [])
-says r-parameter = free 7 (1 ∷ [])
-says r-keypair = free 8 (1 ∷ [])
-says r-local = free 9 (1 ∷ [])
-says r-name = free 10 (1 ∷ [])
-says r-type = free 11 (2 ∷ [])
-says r-set = free 12 (8 ∷ [])
-says r-number = free 13 (4 ∷ [])
-says (r-choice lo hi) = ranged 14 (λ o. leb lo (getD o 0 0) and leb (getD o 0 0) hi)
+unfoldable pub traits : Role → Traits
+traits r-evaluated = free 0 (2 ∷ [])
+traits r-entered = free 1 (2 ∷ [])
+traits r-inside = free 2 (2 ∷ [])
+traits r-count = ranged 3 (λ o. leb (getD o 0 0) 4 and all-of (λ e. eqb e 0xFFFF) (drop (getD o 0 0) (take 4 (drop 1 o))))
+traits r-keys = free 4 (2 ∷ 2 ∷ 2 ∷ 2 ∷ [])
+traits r-unused = free 5 []
+traits r-variable = free 6 (1 ∷ [])
+traits r-parameter = free 7 (1 ∷ [])
+traits r-keypair = free 8 (1 ∷ [])
+traits r-local = free 9 (1 ∷ [])
+traits r-name = free 10 (1 ∷ [])
+traits r-type = free 11 (2 ∷ [])
+traits r-set = free 12 (8 ∷ [])
+traits r-number = free 13 (4 ∷ [])
+traits (r-choice lo hi) = ranged 14 (λ o. leb lo (getD o 0 0) and leb (getD o 0 0) hi)
 
 -- every operand is one that its role allows
 unfoldable pub allowed : List Role → List ℕ → Bool
-unfolding says
+unfolding traits
 allowed [] o = true
-allowed (r ∷ rs) o = cond (says r .allows o) (allowed rs (drop (length (says r .widths)) o)) false
+allowed (r ∷ rs) o = cond (traits r .allows o) (allowed rs (drop (length (traits r .widths)) o)) false
 
 -- "Sections come in this order": names 0, types 1, host values 2, rights 3, expressions 4, the end 5
 pub record Form : Type 0 where
@@ -212,8 +212,8 @@ opOf b = findOp commands b
 
 -- the widths of a command's operands
 unfoldable pub operands : Op → List ℕ
-unfolding form says flatMap
-operands o = flatMap (λ r. says r .widths) (form o .roles)
+unfolding form traits flatMap
+operands o = flatMap (λ r. traits r .widths) (form o .roles)
 
 unfoldable pub total : List ℕ → ℕ
 total [] = 0

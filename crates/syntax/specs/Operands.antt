@@ -4,13 +4,13 @@ use mathlib.Core.Bool.{Bool, true, false, cond}
 use mathlib.Core.List.{List, [], _∷_, _++_}
 use lib.ListN.{getD}
 use lib.Dec.{eqb}
-use Rattle.syntax.specs.Commands.{Cmd, c-num, Role, r-evaluated, r-entered, r-inside, r-keys, r-variable, r-parameter, r-keypair, r-local, says, form, Operand, numbers, type, row}
+use Rattle.syntax.specs.Commands.{Cmd, c-num, Role, r-evaluated, r-entered, r-inside, r-keys, r-variable, r-parameter, r-keypair, r-local, traits, form, Operand, numbers, type, row}
 
 -- a role is one of the wanted ones; some role is
 unfoldable pub wanted : List Role → Role → Bool
-unfolding says
+unfolding traits
 wanted [] r = false
-wanted (w ∷ ws) r = cond (eqb (says r .code) (says w .code)) true (wanted ws r)
+wanted (w ∷ ws) r = cond (eqb (traits r .code) (traits w .code)) true (wanted ws r)
 
 unfoldable pub someWanted : List Role → List Role → Bool
 unfolding wanted

@@ -11,7 +11,7 @@ use borrow.Author.Tests.{eqb-true}
 use Rattle.order.specs.Bools.{_and_, and-l, and-r}
 use Rattle.syntax.specs.Types.{Ty}
 use Rattle.syntax.specs.Commands.{Cmd, c-num, c-top, c-var, c-pair, c-part, c-fn, c-app, c-new, c-asg, c-read, c-sum, c-test, c-lim, c-grant, c-newkey, c-assoc, mapCmd}
-use Rattle.syntax.specs.Commands.{Role, says, r-parameter, r-keypair, form, Operand, numbers, type, Row, row-of, row}
+use Rattle.syntax.specs.Commands.{Role, traits, r-parameter, r-keypair, form, Operand, numbers, type, Row, row-of, row}
 use Rattle.syntax.specs.Operands.{wanted, someWanted, having, types, ofRoles, plain, inner, children, typesOf, usesVar, bindsVar, bindsName}
 use Rattle.syntax.specs.Tree.{entriesOf, binds}
 
@@ -22,24 +22,24 @@ unfoldable pub among : List Role → List Role → Bool
 among [] vs = true
 among (w ∷ ws) vs = wanted vs w and among ws vs
 
-wanted-code : (vs : List Role) (r w : Role) → says r .code ≡ says w .code → wanted vs r ≡ wanted vs w
+wanted-code : (vs : List Role) (r w : Role) → traits r .code ≡ traits w .code → wanted vs r ≡ wanted vs w
 unfolding wanted
 wanted-code [] r w e = refl
-wanted-code (v ∷ vs) r w e = ap₂ (λ (c : ℕ) (x : Bool). cond (eqb c (says v .code)) true x) e (wanted-code vs r w e)
+wanted-code (v ∷ vs) r w e = ap₂ (λ (c : ℕ) (x : Bool). cond (eqb c (traits v .code)) true x) e (wanted-code vs r w e)
 
 pub wanted-among : (ws vs : List Role) → among ws vs ≡ true → (r : Role) → wanted ws r ≡ true → wanted vs r ≡ true
 unfolding among wanted
 wanted-among [] vs a r h = absurd (false≢true h)
-wanted-among (w ∷ ws) vs a r h = at (eqb (says r .code) (says w .code)) refl h (λ k. wanted-among ws vs (and-r _ _ a) r k)
+wanted-among (w ∷ ws) vs a r h = at (eqb (traits r .code) (traits w .code)) refl h (λ k. wanted-among ws vs (and-r _ _ a) r k)
   where
-    at : (b : Bool) → eqb (says r .code) (says w .code) ≡ b → cond b true (wanted ws r) ≡ true → (wanted ws r ≡ true → wanted vs r ≡ true) → wanted vs r ≡ true
-    at true e k f = wanted-code vs r w (eqb-true (says r .code) (says w .code) e) ∙ and-l _ _ a
+    at : (b : Bool) → eqb (traits r .code) (traits w .code) ≡ b → cond b true (wanted ws r) ≡ true → (wanted ws r ≡ true → wanted vs r ≡ true) → wanted vs r ≡ true
+    at true e k f = wanted-code vs r w (eqb-true (traits r .code) (traits w .code) e) ∙ and-l _ _ a
     at false e k f = f k
 
 wanted-either : (ws vs : List Role) (r : Role) → wanted (ws ++ vs) r ≡ true → (wanted ws r ≡ true) ⊎ (wanted vs r ≡ true)
 unfolding wanted
 wanted-either [] vs r h = inr h
-wanted-either (w ∷ ws) vs r h = at (eqb (says r .code) (says w .code)) h (λ k. wanted-either ws vs r k)
+wanted-either (w ∷ ws) vs r h = at (eqb (traits r .code) (traits w .code)) h (λ k. wanted-either ws vs r k)
   where
     at : (b : Bool) → cond b true (wanted (ws ++ vs) r) ≡ true → (wanted (ws ++ vs) r ≡ true → (wanted ws r ≡ true) ⊎ (wanted vs r ≡ true)) → (cond b true (wanted ws r) ≡ true) ⊎ (wanted vs r ≡ true)
     at true k f = inl refl

@@ -9,11 +9,11 @@ use mathlib.Core.Option.{Option, none, some, Option·none-ne-some, Option·some-
 use mathlib.Core.Logic.{_⊎_, inl, inr}
 use lib.ListN.{length, length-append, length-take, length-replicate, getD, getElem?, set, replicate, take, drop, List·getD-append}
 use lib.Seq.{getD-append-add, getD-drop, set-append-seam}
-use lib.Dec.{eqb, ltb, leb}
+use lib.Dec.{eqb, ltb}
 use borrow.Author.Tests.{ltb-true}
 use Rattle.order.specs.Bools.{_and_, and-l, and-r}
 use Rattle.order.specs.Sets.{all-of}
-use Rattle.order.specs.SetLaws.{all-of→, lt-bit, bit-mem}
+use Rattle.order.specs.SetLaws.{all-of→}
 use Rattle.order.specs.Effects.{Effect, ofWord, pure}
 use Rattle.order.specs.EffectLaws.{Within, within-names}
 use Rattle.order.specs.OrderLaws.{getElem?-lt, getElem?-snoc, length-snoc}
@@ -21,17 +21,17 @@ use Rattle.syntax.specs.Types.{TypeEntry, e-num, e-pair, e-cell, e-fn, e
 use Rattle.syntax.specs.Commands.{Cmd, c-num, c-top, c-var, c-pair, c-part, c-fn, c-app, c-new, c-asg, c-read, c-sum, c-test, c-lim, c-grant, c-newkey, c-assoc}
 use Rattle.syntax.specs.Commands.{Op, o-host, o-local, o-number, o-pair, o-cell, o-function, o-limit, o-grant, o-value, o-rights, o-end, opOf, operands, width, sectionOf, little, fields}
 use Rattle.syntax.specs.Commands.{x-number, x-top, x-variable, x-pair, x-part, x-function, x-apply, x-cell, x-assign, x-read, x-sum, x-test, x-limit, x-grant, x-newkey, x-associate}
-use Rattle.syntax.specs.Commands.{r-count, r-number, row}
+use Rattle.syntax.specs.Commands.{r-count, r-number, form, allowed, row}
 use Rattle.syntax.specs.Operands.{nth, wanted, ofRoles, plain, inner, children, typesOf, usesVar, bindsVar, bindsName}
 use Rattle.syntax.specs.RowLaws.{among, roles-among}
 use Rattle.syntax.specs.Job.{Name, HostValue, Job}
 use Rattle.syntax.specs.Reading.{Refusal, State, declared, localName, setOk, nameOk, partsOk, typeOk, hostValueOk, rightsOk, cmdOk}
-use Rattle.syntax.specs.Reading.{Written, w-name, w-type, w-value, w-rights, w-cmd, w-end, unwritten, written, given, enter, misplaced, full}
+use Rattle.syntax.specs.Reading.{Written, w-name, w-type, w-value, w-rights, w-cmd, w-end, unwritten, means, written, given, enter, misplaced, full}
 use Rattle.syntax.specs.Reading.{Step, refuse, proceed, finish, settle, command, Read, refused, read, ended, onward, onOp, readFrom, noJob, reading}
-use Rattle.syntax.specs.Words.{nameWord, typeWord, setWord, valueWord, headBits, headWord, filled, placeRoles, slots, nameWords, typeWords, setWords, valueWords, headWords, slotWords, effectWords, decode, codeIn}
+use Rattle.syntax.specs.Words.{valueWord, headBits, headWord, filled, slots, valueWords, headWords, slotWords, effectWords, decode, codeIn}
 use Rattle.syntax.specs.ReadLaws.{JobOk, built-at, read-ok}
 use Rattle.syntax.specs.ReadFormed.{declared-lt, nth-at, entry-parts, CmdFormed, cmds-formed}
-use Rattle.syntax.specs.WrittenLaws.{partOf, sumOf, limitOf, written-part, written-sum, written-limit, numbersIn, numbersOf}
+use Rattle.syntax.specs.WrittenLaws.{numbersIn, numbersOf}
 
 -- Ranges
 
@@ -310,10 +310,6 @@ data Thin : Written → Type 0 where
   thin-end : Thin w-end
   thin-none : Thin unwritten
 
-if-thin : (b : Bool) (k : Cmd ℕ) {w : Written} → Narrow k → Thin w → Thin (cond b (w-cmd k) w)
-if-thin true k n w = thin-cmd k n
-if-thin false k n w = w
-
 -- neither a number nor keys
 narrow-plain : (k : Cmd ℕ) → ofRoles (r-number ∷ r-count ∷ []) k ≡ [] → Narrow k
 unfolding among wanted _and_
@@ -325,49 +321,48 @@ narrow-plain k e = record { number = λ n m. none (roles-among (r-number ∷ [])
 thin-plain : (k : Cmd ℕ) → ofRoles (r-number ∷ r-count ∷ []) k ≡ [] → Thin (w-cmd k)
 thin-plain k e = thin-cmd k (narrow-plain k e)
 
-thin-part : (a i : ℕ) → Thin (partOf a i)
-unfolding partOf ofRoles
-thin-part a i = if-thin (eqb i 1) (c-part a true) (narrow-plain _ refl) (if-thin (eqb i 2) (c-part a false) (narrow-plain _ refl) thin-none)
+-- at most four keys
+thin-limit : (c : ℕ) (l : List ℕ) (b : ℕ) → Thin (w-cmd (c-lim (take c (take 4 l)) b))
+unfolding ofRoles
+thin-limit c l b = thin-cmd (c-lim (take c (take 4 l)) b) (record { number = λ n m. absurd (List·Memᴰ·not-nil m); few-keys = λ n m. omega (arith, List·Memᴰ·eq-of-singleton m, length-take c (take 4 l), length-take 4 l) })
 
-thin-sum : (i a b : ℕ) → Thin (sumOf i a b)
-unfolding sumOf ofRoles
-thin-sum i a b = if-thin (eqb i 0) (c-sum true a b) (narrow-plain _ refl) (if-thin (eqb i 1) (c-sum false a b) (narrow-plain _ refl) thin-none)
-
-thin-limit : (c : ℕ) (l : List ℕ) (b : ℕ) → Thin (limitOf c (take 4 l) b)
-unfolding limitOf ofRoles
-thin-limit c l b =
-    if-thin (leb c 4 and all-of (λ e. eqb e 0xFFFF) (drop c (take 4 l))) (c-lim (take c (take 4 l)) b)
-    (record { number = λ n m. absurd (List·Memᴰ·not-nil m); few-keys = λ n m. omega (arith, List·Memᴰ·eq-of-singleton m, length-take c (take 4 l), length-take 4 l) }) thin-none
+thin-means : (op : Op) (s : List ℕ) → Bytes s → Thin (means op (fields (operands op) s))
+unfolding means fields operands ofRoles
+thin-means o-host s h = thin-name _
+thin-means o-local s h = thin-name _
+thin-means o-number s h = thin-type _
+thin-means o-pair s h = thin-type _
+thin-means o-cell s h = thin-type _
+thin-means o-function s h = thin-type _
+thin-means o-limit s h = thin-type _
+thin-means o-grant s h = thin-type _
+thin-means o-value s h = thin-value _ (little-lt 4 (drop 2 s) (bytes-drop 2 s h))
+thin-means o-rights s h = thin-rights _
+thin-means x-number s h = thin-cmd (c-num (little (take 4 s))) (record { number = λ n m. omega (arith, List·Memᴰ·eq-of-singleton m, little-lt 4 s h); few-keys = λ c m. absurd (List·Memᴰ·not-nil m) })
+thin-means x-top s h = thin-plain _ refl
+thin-means x-variable s h = thin-plain _ refl
+thin-means x-pair s h = thin-plain _ refl
+thin-means x-part s h = thin-plain _ refl
+thin-means x-function s h = thin-plain _ refl
+thin-means x-apply s h = thin-plain _ refl
+thin-means x-cell s h = thin-plain _ refl
+thin-means x-assign s h = thin-plain _ refl
+thin-means x-read s h = thin-plain _ refl
+thin-means x-sum s h = thin-plain _ refl
+thin-means x-test s h = thin-plain _ refl
+thin-means x-limit s h = let o = fields (operands x-limit) s in thin-limit (getD o 0 0) (drop 1 o) (getD o 5 0)
+thin-means x-grant s h = thin-plain _ refl
+thin-means x-newkey s h = thin-plain _ refl
+thin-means x-associate s h = thin-plain _ refl
+thin-means o-end s h = thin-end
 
 thin-op : (op : Op) (s : List ℕ) → Bytes s → Thin (written op (fields (operands op) s))
-unfolding written fields operands ofRoles
-thin-op o-host s h = thin-name _
-thin-op o-local s h = thin-name _
-thin-op o-number s h = thin-type _
-thin-op o-pair s h = thin-type _
-thin-op o-cell s h = thin-type _
-thin-op o-function s h = thin-type _
-thin-op o-limit s h = thin-type _
-thin-op o-grant s h = thin-type _
-thin-op o-value s h = thin-value _ (little-lt 4 (drop 2 s) (bytes-drop 2 s h))
-thin-op o-rights s h = thin-rights _
-thin-op x-number s h = thin-cmd (c-num (little (take 4 s))) (record { number = λ n m. omega (arith, List·Memᴰ·eq-of-singleton m, little-lt 4 s h); few-keys = λ c m. absurd (List·Memᴰ·not-nil m) })
-thin-op x-top s h = thin-plain _ refl
-thin-op x-variable s h = thin-plain _ refl
-thin-op x-pair s h = thin-plain _ refl
-thin-op x-part s h = subst⁻¹ (λ w. Thin w) (written-part (fields (operands x-part) s)) (thin-part _ _)
-thin-op x-function s h = thin-plain _ refl
-thin-op x-apply s h = thin-plain _ refl
-thin-op x-cell s h = thin-plain _ refl
-thin-op x-assign s h = thin-plain _ refl
-thin-op x-read s h = thin-plain _ refl
-thin-op x-sum s h = subst⁻¹ (λ w. Thin w) (written-sum (fields (operands x-sum) s)) (thin-sum _ _ _)
-thin-op x-test s h = thin-plain _ refl
-thin-op x-limit s h = let o = fields (operands x-limit) s in subst⁻¹ (λ w. Thin w) (written-limit o) (thin-limit (getD o 0 0) (drop 1 o) (getD o 5 0))
-thin-op x-grant s h = thin-plain _ refl
-thin-op x-newkey s h = thin-plain _ refl
-thin-op x-associate s h = thin-plain _ refl
-thin-op o-end s h = thin-end
+unfolding written
+thin-op op s h = at (allowed (form op .roles) (fields (operands op) s))
+  where
+    at : (b : Bool) → Thin (cond b (means op (fields (operands op) s)) unwritten)
+    at true = thin-means op s h
+    at false = thin-none
 
 -- what one command comes to, what reading comes to
 data SlimStep : Step → Type 0 where

@@ -7,7 +7,7 @@ use lib.ListN.{length, replicate, getD, take, drop}
 use lib.Dec.{eqb}
 use Rattle.order.specs.Effects.{Effect, ofWord}
 use Rattle.syntax.specs.Types.{TypeEntry, e-num, e-pair, e-cell, e-fn, e-lim, e-grant}
-use Rattle.syntax.specs.Commands.{Cmd, c-num, Op, o-number, o-pair, o-cell, o-function, o-limit, o-grant, says, form, row, commands, findOp, opOf}
+use Rattle.syntax.specs.Commands.{Cmd, c-num, Op, o-number, o-pair, o-cell, o-function, o-limit, o-grant, traits, form, row, commands, findOp, opOf}
 use Rattle.syntax.specs.Commands.{Role, r-evaluated, r-entered, r-inside, r-count, r-keys, r-unused, r-variable, r-parameter, r-keypair, r-local, r-type, r-number, r-choice}
 use Rattle.syntax.specs.Operands.{wanted, ofRoles, typesOf}
 use Rattle.syntax.specs.Job.{Name, HostValue, Job}
@@ -99,19 +99,20 @@ slotWords J = flatMap slots (J .cmds)
 
 -- how many places the expressions of a row have; its type stands behind them
 unfoldable pub placesIn : List Role → ℕ
-unfolding wanted says flatMap
-placesIn rs = length (flatMap (λ r. cond (wanted placeRoles r) (says r .widths) []) rs)
+unfolding wanted traits flatMap
+placesIn rs = length (flatMap (λ r. cond (wanted placeRoles r) (traits r .widths) []) rs)
 
--- the operands' numbers in order, by their roles: from x, the head's operands, of which all but those of one byte are the last; from the places l; from t, the type's place
+-- the operands' numbers, in order, by their roles. x is what the head has of them: those of one byte, the first one lowest, or one that takes all of it; l are the places, and t is the type's
 unfoldable pub numbersBy : List Role → ℕ → List ℕ → ℕ → List ℕ
-unfolding wanted says
+unfolding wanted traits
 numbersBy [] x l t = []
 numbersBy (r ∷ rs) x l t =
     cond (wanted byteRoles r) (x % 256 ∷ numbersBy rs (x / 256) l t)
     (cond (wanted headRoles r) (x ∷ numbersBy rs x l t)
     (cond (wanted (r-type ∷ []) r) (t ∷ numbersBy rs x l t)
-    (take (length (says r .widths)) l ++ numbersBy rs x (drop (length (says r .widths)) l) t)))
+    (take (length (traits r .widths)) l ++ numbersBy rs x (drop (length (traits r .widths)) l) t)))
 
+-- the expression that is written; z where none is
 unfoldable pub expression : Cmd ℕ → Written → Cmd ℕ
 expression z (w-name d) = z
 expression z (w-type e) = z

@@ -24,7 +24,7 @@ use Rattle.typing.specs.Rules.{Has, h-num, h-top, h-var, h-pair, h-part1
 use Rattle.typing.specs.SubtypeLaws.{sub-refl, sub-trans, sub-key, sub-rekey, →subTy}
 use Rattle.typing.specs.Least.{Typed, typed, with, wantNum, wantPair, wantCell, wantFn, wantLim, wantGrant, require, isUpper, varType, ofVar, keysAt, typeAt, get, typesTo, typeOf}
 use Rattle.typing.specs.Scoped.{ctx-type}
-use Rattle.typing.specs.Scoping.{scoping}
+use Rattle.typing.specs.Scoping.{worked-out}
 use Rattle.typing.specs.Filled.{seen, typeOf-is}
 
 -- the entry of e in the table, and that it is at most T and t
@@ -190,7 +190,7 @@ module _ (S : Src) (ok : Formed S) (tree : TreeOk S) where
   -- an expression in its context
   module _ {e : ℕ} {Γ : List Entry} (l : e < length (S .cmds)) (ih : IH e) (g : Ctx S e Γ) where
     operand : {a : ℕ} {Δ : List Entry} {T : Ty} {t : Effect} → a < e → Ctx S a Δ → Has S Δ a T t → Known e a T t
-    operand {a} h d x = let z = ih a h _ _ _ x d in known (seen S e a (omega (arith, l)) h ∙ z .got) (z .sub) (z .under) (scoping S ok tree d (z .got) .ty .reduced)
+    operand {a} h d x = let z = ih a h _ _ _ x d in known (seen S e a (omega (arith, l)) h ∙ z .got) (z .sub) (z .under) (worked-out S ok tree d (z .got) .ty)
 
     of-plain : {a : ℕ} {T : Ty} {t : Effect} {k : Cmd Ty} → nth (S .cmds) e ≡ k → List·Memᴰ a (plain k) → Has S Γ a T t → Known e a T t
     of-plain {a} c m x = let w = subst⁻¹ (λ (k : Cmd Ty). List·Memᴰ a (plain k)) c m in operand (plain-lt S ok w) (x-plain w g) x

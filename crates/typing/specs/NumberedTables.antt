@@ -1,7 +1,7 @@
 -- Type tables as typing makes them: parts are earlier entries, the content of a cell and the argument of a function are declared types, names and sets are in their
 -- bounds. The trees of such a table, and the entries of variables.
 use mathlib.Core.Path.{_≡_, refl, sym, ap, _∙_, subst, subst⁻¹}
-use Prim.Native.Nat.{ℕ, zero, suc, _+_, _*_, _^_, _≤_, _<_}
+use Prim.Native.Nat.{ℕ, zero, suc, _+_, _*_, _≤_, _<_}
 use native.Mathlib.Omega.{arith}
 use mathlib.Core.Bool.{Bool, true, false, cond}
 use mathlib.Core.List.{List, [], _∷_, _++_, map, flatMap, append-assoc, append-nil, List·Memᴰ, List·Memᴰ·head, List·Memᴰ·tail, List·Memᴰ·not-nil, List·Memᴰ·append-cases}
@@ -12,7 +12,7 @@ use lib.Dec.{eqb}
 use borrow.Author.Tests.{eqb-true, eq-eqb, ne-eqb, ltb-true}
 use Rattle.order.specs.Bools.{and-l, and-r}
 use Rattle.order.specs.OrderLaws.{getElem?-snoc, getElem?-lt, length-snoc}
-use Rattle.order.specs.SetLaws.{lt-bit, bit-mem, all-of→}
+use Rattle.order.specs.SetLaws.{all-of→}
 use Rattle.order.specs.Effects.{Effect}
 use Rattle.order.specs.EffectLaws.{Within, within-names}
 use Rattle.syntax.specs.Types.{Ty, pair, lim, grant, TypeEntry, e-num, e-pair, e-cell, e-fn, e-lim, e-grant, entryTree, tree}

@@ -52,7 +52,7 @@ module _ {Γ : List Entry} where
   fn-in : {q : ℕ} {A B : Ty} {s : Effect} → ScopedType Γ (fn q A B s) → ScopedType Γ B × ScopedEffect Γ s
   fn-in (w-fn q a b s) = (b, s)
 
-  lim-in : {q r : ℕ} → ScopedType Γ (lim q r) → ScopedName Γ r
+  pub lim-in : {q r : ℕ} → ScopedType Γ (lim q r) → ScopedName Γ r
   lim-in (w-lim q r) = r
 
 -- a job that is read: operands are earlier expressions
