@@ -1,4 +1,4 @@
--- Words written one by one: a verdict, the room of a machine by the counts of its thread; and which lent slice is too short.
+-- Words written one by one: a verdict, the room of a machine by its counts; and which lent slice is too short.
 use mathlib.Core.Path.{_≡_, refl, sym, ap, _∙_}
 use Prim.Native.Nat.{ℕ, _*_, _/_, _<_, _≤_}
 use native.Mathlib.Omega.{arith}
