@@ -37,15 +37,15 @@ pub record SafeRun (bytes words : List ℕ) (r : ℕ) (a a' : List ℕ) : Type 0
   pub written : a' ≡ resultWords results ++ drop (2 * length words) a
 
 pub accepted-run : (bytes words : List ℕ) → Bytes bytes → {c : Checked} {w x : Tables} {i s : ℕ} → CheckTo bytes c w x → c .verdict ≡ verdicts.Accepted i s
-    → {r : ℕ} {u y : JobTables} {a a' k k' : List ℕ} → Runs bytes r words u y a a' k k' → short u ≡ false → roomFor words a ≡ true → SafeRun bytes words r a a'
+    → {r : ℕ} (u : JobTables) {y : JobTables} {a a' k k' : List ℕ} → Runs bytes r words u y a a' k k' → short u ≡ false → roomFor words a ≡ true → SafeRun bytes words r a a'
 unfolding openedWith openedTables numberOf
-accepted-run bytes words by {c} {w} {x} {i} {s} to v {r} {u} {y} {a} {a'} h l room =
+accepted-run bytes words by {c} {w} {x} {i} {s} to v {r} u {y} {a} {a'} h l room =
     let its = accepting bytes by c w x i s to v in
     let J = its .job in
     let loads : loading bytes ≡ read J = accepted-loads bytes J (its .verdict) (its .is) in
     let opens : openedWith (roomFor words a) u bytes ≡ started (startOf (sourceOf J)) = ap (λ (b : Bool). openedWith b u bytes) room ∙ start-is u bytes J l loads in
     let holds : y ≡ tablesAfterLoad u bytes = h .tables ∙ ap (λ (b : Bool). openedTables b u bytes) room in
-    let code : codeIn (y .heads) (y .slots) ≡ exprOf J = fun-ext (loaded-code bytes J by (its .is) loads l holds) in
+    let code : codeIn (y .heads) (y .slots) ≡ exprOf J = fun-ext (loaded-code bytes J by (its .is) loads u l holds) in
     record {
       job = J;
       is = its .is;

@@ -92,10 +92,10 @@ unfolding startWith startLoaded
 start-is w bytes J h i = ap startLoaded (long-load w bytes h ∙ i)
 
 -- and its tables hold its expressions
-pub loaded-code : (bytes : List ℕ) (J : Job) → Bytes bytes → reading bytes ≡ read J → loading bytes ≡ read J → {w y : JobTables} → short w ≡ false → y ≡ tablesAfterLoad w bytes
+pub loaded-code : (bytes : List ℕ) (J : Job) → Bytes bytes → reading bytes ≡ read J → loading bytes ≡ read J → (w : JobTables) {y : JobTables} → short w ≡ false → y ≡ tablesAfterLoad w bytes
     → (k : ℕ) → codeIn (y .heads) (y .slots) k ≡ exprOf J k
 unfolding holding filledWith
-loaded-code bytes J by i l {w} h e k =
+loaded-code bytes J by i l w h e k =
     rw (e ∙ long-after w bytes h ∙ ap (λ (R : Read). holding R w) l) (code-back J (read-ok bytes J i) (job-fits bytes J by i) _ _ k)
 
 -- a start that says so had tables long enough
@@ -152,7 +152,7 @@ module _ (bytes : List ℕ) (by : Bytes bytes) {r : Checked} {w x : Tables} {i s
       accepted-starts h (ap (λ (y : Tables). short (y .job)) t ∙ still-long (its .job) w (b .0))
 
   start-code : {o : Opened} {u y : JobTables} → Starts bytes o u y → o .told ≡ told.Started → (k : ℕ) → codeIn (y .heads) (y .slots) k ≡ exprOf (its .job) k
-  start-code h e k = loaded-code bytes (its .job) by (its .is) its-loads (was-long h e) (h .tables) k
+  start-code {u = u} h e k = loaded-code bytes (its .job) by (its .is) its-loads u (was-long h e) (h .tables) k
 
   -- every opening has the job's start and its expressions
   opened : {m : Machine} {heads slots : List ℕ} → Opening bytes r x m heads slots → (seen m ≡ startOf (sourceOf (its .job))) × ((k : ℕ) → codeIn heads slots k ≡ exprOf (its .job) k)

@@ -16,7 +16,7 @@ returns c = sym (ap countsIn (c .before .a .given .1))
 
 returns-2 : tie.Need-returns-2
 unfolding countsIn
-returns-2 c = search needs
+returns-2 c = sym (ap countsIn (c .enum-told .given .1))
 
 pub counts-spec : {M : Type 1} → statement M
 counts-spec =
