@@ -1,14 +1,13 @@
 -- Laws of lists written over others, and of lists of calls.
-use mathlib.Core.Path.{_≡_, refl, sym, ap, _∙_, subst}
-use Prim.Native.Nat.{ℕ, zero, suc, _+_, _-_, _*_, _≤_, _<_}
+use mathlib.Core.Path.{_≡_, refl, sym, ap, _∙_}
+use Prim.Native.Nat.{ℕ, zero, suc, _-_, _*_, _≤_, _<_}
 use native.Mathlib.Omega.{arith}
-use mathlib.Core.List.{List, [], _∷_, _++_, map}
-use lib.ListN.{length, drop, set, getD}
+use mathlib.Core.List.{List, [], _∷_, _++_}
+use lib.ListN.{length, drop, set}
 use lib.Seq.{sets, set-out}
 use Rattle.semantics.specs.Machine.{Machine}
-use Rattle.semantics.specs.Calls.{Call, one-step, run-of, Ran, calls, call}
-use Rattle.syntax.specs.Commands.{Cmd}
-use Rattle.calls.specs.Words.{callOf, callsIn, answerNo, resultWords, lastOf, over}
+use Rattle.semantics.specs.Calls.{Steps, one-step, run-of, calls, call}
+use Rattle.calls.specs.Words.{callOf, callsIn, resultWords, over}
 
 pub sets-cons : (x : ℕ) (l : List ℕ) (i : ℕ) (vs : List ℕ) → sets (x ∷ l) (suc i) vs ≡ x ∷ sets l i vs
 sets-cons x l i [] = refl
@@ -40,10 +39,10 @@ over-length (o ∷ os) [] = refl
 over-length (o ∷ os) (n ∷ ns) = ap suc (over-length os ns)
 
 -- two words a call
-pub result-length : {T : Type 0} (code : ℕ → Cmd T) (ws : List ℕ) (m : Machine) → length (resultWords (calls code (callsIn ws) m)) ≡ 2 * length ws
+pub result-length : (K : Steps) (ws : List ℕ) (m : Machine) → length (resultWords (calls K (callsIn ws) m)) ≡ 2 * length ws
 unfolding callsIn calls resultWords
-result-length code [] m = refl
-result-length code (w ∷ ws) m = let h = result-length code ws (call code (callOf w) m .machine) in omega (arith, h)
+result-length K [] m = refl
+result-length K (w ∷ ws) m = let h = result-length K ws (call K (callOf w) m .machine) in omega (arith, h)
 
 pub call-run : (w : ℕ) → 0 < w → callOf w ≡ run-of (w - 1)
 unfolding callOf

@@ -1,9 +1,8 @@
 -- Calls and what they give, as numbers.
 use Prim.Native.Nat.{ℕ, zero, suc}
-use mathlib.Core.List.{List, [], _∷_, map}
-use Rattle.syntax.specs.Commands.{Cmd}
+use mathlib.Core.List.{List, [], _∷_}
 use Rattle.semantics.specs.Machine.{Machine}
-use Rattle.semantics.specs.Calls.{Call, one-step, run-of, Answer, taken, finished, spent, noroom, stuck, denied, Ran, call}
+use Rattle.semantics.specs.Calls.{Steps, Call, one-step, run-of, Answer, taken, finished, spent, noroom, stuck, denied, Ran, call}
 
 -- 0 is a step, n + 1 a run of n steps
 unfoldable pub callOf : ℕ → Call
@@ -28,9 +27,9 @@ resultWords [] = []
 resultWords (r ∷ l) = answerNo (r .answer) ∷ r .count ∷ resultWords l
 
 -- the machine that the last of the calls gives
-unfoldable pub lastOf : {T : Type 0} → (ℕ → Cmd T) → List Call → Machine → Machine
-lastOf code [] m = m
-lastOf code (c ∷ cs) m = lastOf code cs (call code c m .machine)
+unfoldable pub lastOf : Steps → List Call → Machine → Machine
+lastOf K [] m = m
+lastOf K (c ∷ cs) m = lastOf K cs (call K c m .machine)
 
 -- the second list over the first, as far as the first goes; what it does not reach stays
 unfoldable pub over : List ℕ → List ℕ → List ℕ

@@ -4,7 +4,7 @@ use machine::Machine;
 use machine::Outcome;
 ghost use mathlib.Core.Path.{_≡_};
 ghost use Rattle.syntax.specs.Words.{codeIn};
-ghost use Rattle.semantics.specs.Calls.{call};
+ghost use Rattle.semantics.specs.Calls.{stepsOf, call};
 ghost use Rattle.machine.specs.Meaning.{answerIn};
 ghost use Rattle.machine.specs.View.{seen, ranIn};
 ghost use Rattle.calls.specs.Words.{callOf, answerNo};
@@ -26,7 +26,7 @@ pub fn number(a: Answer) -> u64
 
 // The call of number w: 0 is a step, n + 1 a run of n.
 pub fn make(m: Machine, heads: &[u64], slots: &[u16], w: u64) -> Outcome
-    ensures { λ r. ⌜ ranIn r ≡ call (codeIn (now (heads .entry)) (now (slots .entry))) (callOf w) (seen m) ⌝ }
+    ensures { λ r. ⌜ ranIn r ≡ call (stepsOf (codeIn (now (heads .entry)) (now (slots .entry)))) (callOf w) (seen m) ⌝ }
 {
     if w == 0 {
         return m.step(heads, slots);
@@ -64,7 +64,7 @@ pub fn make_calls(
     calls: &[u64],
     answers: &mut [u64],
 ) -> Machine
-    ensures { λ r. ⌜ Made (codeIn (now (heads .entry)) (now (slots .entry))) (now (calls .entry)) (seen m) (now (answers .entry)) (now (answers .exit)) (seen r) ⌝ }
+    ensures { λ r. ⌜ Made (stepsOf (codeIn (now (heads .entry)) (now (slots .entry)))) (now (calls .entry)) (seen m) (now (answers .entry)) (now (answers .exit)) (seen r) ⌝ }
 {
     let mut last = m;
     let mut at: usize = 0;

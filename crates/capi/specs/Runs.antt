@@ -2,27 +2,18 @@
 use mathlib.Core.Path.{_≡_}
 use Prim.Native.Nat.{ℕ, _*_}
 use mathlib.Core.Bool.{Bool, true, false}
-use mathlib.Core.List.{List, [], _∷_, _++_}
+use mathlib.Core.List.{List, _++_}
 use lib.ListN.{length, set, drop}
-use Rattle.syntax.specs.Commands.{Cmd}
 use Rattle.syntax.specs.Words.{codeIn}
 use Rattle.syntax.specs.Reading.{Refusal}
 use Rattle.semantics.specs.Machine.{Machine as Clean}
-use Rattle.semantics.specs.Calls.{calls}
-use Rattle.semantics.specs.Starting.{Started, started, unstarted, JobTables, startWith, tablesAfterStart}
-use Rattle.store.specs.Tables.{capped}
-use Rattle.machine.specs.declared.Thread.{Thread}
+use Rattle.syntax.specs.Loading.{JobTables, tablesAfterLoad}
+use Rattle.semantics.specs.Calls.{Steps, stepsOf, calls}
+use Rattle.semantics.specs.Starting.{Started, started, unstarted, startWith}
 use Rattle.calls.specs.Words.{callsIn, resultWords, lastOf, over}
 use Rattle.calls.specs.Made.{Made}
+use Rattle.results.specs.Told.{roomWords}
 use Rattle.session.specs.Session.{roomFor}
-
--- the cells, keys, pairs, functions, frames and bindings that a machine uses
-unfoldable pub roomWords : Clean → List ℕ
-roomWords m = length (m .store .cells) ∷ length (m .store .keys) ∷ length (m .store .pairs) ∷ length (m .store .functions) ∷ length (m .thread .frames) ∷ length (m .store .bindings) ∷ []
-
--- the same by the counts of a thread
-unfoldable pub countWords : Thread → List ℕ
-countWords t = capped (t .cells) 256 ∷ capped (t .keys) 128 ∷ capped (t .pairs) 512 ∷ capped (t .functions) 512 ∷ capped (t .frames) 256 ∷ capped (t .bindings) 1024 ∷ []
 
 -- 0 if there is no refusal
 unfoldable pub numberOf : Started → ℕ
@@ -35,19 +26,19 @@ openedWith true w s = startWith w s
 openedWith false w s = unstarted (record { number = 1; place = 0 })
 
 unfoldable pub openedTables : Bool → JobTables → List ℕ → JobTables
-openedTables true w s = tablesAfterStart w s
+openedTables true w s = tablesAfterLoad w s
 openedTables false w s = w
 
 -- the calls `words` on machine m: a and a' are the answers before and after, k and k' the rooms
-pub record Goes (code : ℕ → Cmd ℕ) (words : List ℕ) (m : Clean) (a a' k k' : List ℕ) : Type 0 where
+pub record Goes (K : Steps) (words : List ℕ) (m : Clean) (a a' k k' : List ℕ) : Type 0 where
   pub last : Clean
-  pub made : Made code words m a a' last
+  pub made : Made K words m a a' last
   pub rooms : k' ≡ over k (roomWords last)
 
 -- the same with all answers written
-pub record Ran (code : ℕ → Cmd ℕ) (words : List ℕ) (m : Clean) (a a' k k' : List ℕ) : Type 0 where
-  pub answers : a' ≡ resultWords (calls code (callsIn words) m) ++ drop (2 * length words) a
-  pub rooms : k' ≡ over k (roomWords (lastOf code (callsIn words) m))
+pub record Ran (K : Steps) (words : List ℕ) (m : Clean) (a a' k k' : List ℕ) : Type 0 where
+  pub answers : a' ≡ resultWords (calls K (callsIn words) m) ++ drop (2 * length words) a
+  pub rooms : k' ≡ over k (roomWords (lastOf K (callsIn words) m))
 
 -- a refusal writes its place and makes no call
 pub record Stops (q : Refusal) (a a' k k' : List ℕ) : Type 0 where
@@ -58,5 +49,5 @@ pub record Stops (q : Refusal) (a a' k k' : List ℕ) : Type 0 where
 pub record Runs (bytes : List ℕ) (r : ℕ) (words : List ℕ) (w x : JobTables) (a a' k k' : List ℕ) : Type 0 where
   pub tables : x ≡ openedTables (roomFor words a) w bytes
   pub number : r ≡ numberOf (openedWith (roomFor words a) w bytes)
-  pub goes : (m : Clean) → openedWith (roomFor words a) w bytes ≡ started m → Ran (codeIn (x .heads) (x .slots)) words m a a' k k'
+  pub goes : (m : Clean) → openedWith (roomFor words a) w bytes ≡ started m → Ran (stepsOf (codeIn (x .heads) (x .slots))) words m a a' k k'
   pub stops : (q : Refusal) → openedWith (roomFor words a) w bytes ≡ unstarted q → Stops q a a' k k'

@@ -1,18 +1,18 @@
 -- A session for C and Rust: a job is checked and, if it is accepted, started and called. `SessionTo` has what that gives, demand 3 among it.
 use mathlib.Core.Path.{_≡_}
-use Prim.Native.Nat.{ℕ, _*_}
-use mathlib.Core.Bool.{Bool, true, false}
+use Prim.Native.Nat.{ℕ}
+use mathlib.Core.Bool.{true, false}
 use mathlib.Core.List.{List, _++_}
-use lib.ListN.{length, drop}
-use lib.Dec.{ltb}
-use Rattle.order.specs.Bools.{_or_}
+use lib.ListN.{drop}
+use denote.Ref.{now}
 use Rattle.typing.specs.Tables.{Tables}
 use Rattle.machine.specs.View.{seen}
 use Rattle.calls.specs.Words.{over}
+use Rattle.job.specs.Lent.{Table}
 use Rattle.session.specs.declared.Held.{Held}
 use Rattle.session.specs.Session.{SessionTo}
-use Rattle.capi.specs.Checks.{numberFor, outWords}
-use Rattle.capi.specs.Results.{valueWords, cellWords}
+use Rattle.results.specs.Told.{numberFor, outWords, cell-words, lentShort}
+use Rattle.results.specs.Values.{valueWords, cellWords}
 
 -- the slices for what a session gives: answers, value, cells, and what is told of the verdict
 pub record Lent : Type 0 where
@@ -24,9 +24,12 @@ pub record Lent : Type 0 where
 abbrev pub lent : List ℕ → List ℕ → List ℕ → List ℕ → Lent
 lent a v c o = record { answers = a; value = v; cells = c; out = o }
 
--- one of them is too short
-unfoldable pub lentShort : List ℕ → List ℕ → List ℕ → List ℕ → List ℕ → Bool
-lentShort words a v c o = ltb (length a) (2 * length words) or ltb (length v) 2 or ltb (length c) 512 or ltb (length o) 2
+-- the same as parameters of a contract, before the call and after it
+abbrev pub lentBefore : Table → Table → Table → Table → Lent
+lentBefore a v c o = lent (now (a .entry)) (now (v .entry)) (now (c .entry)) (now (o .entry))
+
+abbrev pub lentAfter : Table → Table → Table → Table → Lent
+lentAfter a v c o = lent (now (a .exit)) (now (v .exit)) (now (c .exit)) (now (o .exit))
 
 -- what is told of a session that ended, as far as there are places
 pub record Reported (h : Held) (r : ℕ) (v v' c c' o o' : List ℕ) : Type 0 where
@@ -41,7 +44,7 @@ pub record Ended (bytes words : List ℕ) (r : ℕ) (w x : Tables) (l k : Lent) 
   pub to : SessionTo bytes words held w x (l .answers) (k .answers)
   pub number : r ≡ numberFor (held .verdict)
   pub value : k .value ≡ valueWords (seen (held .machine)) ++ drop 2 (l .value)
-  pub cells : k .cells ≡ cellWords (seen (held .machine)) ++ drop 512 (l .cells)
+  pub cells : k .cells ≡ cellWords (seen (held .machine)) ++ drop cell-words (l .cells)
   pub out : k .out ≡ outWords (held .verdict) ++ drop 2 (l .out)
 
 -- 1, and nothing is written

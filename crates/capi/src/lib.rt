@@ -1,77 +1,15 @@
 // The check and the machine for C and Rust: plain numbers and slices.
-mod result;
-
-use checker::Verdict;
 use machine::Machine;
-use machine::Thread;
 use session::Held;
 use start::Told;
-ghost use mathlib.Core.Path.{_≡_};
-ghost use lib.ListN.{set};
 ghost use Rattle.syntax.specs.Words.{codeIn};
-ghost use Rattle.store.specs.Tables.{capped};
+ghost use Rattle.semantics.specs.Calls.{stepsOf};
 ghost use Rattle.machine.specs.View.{seen};
-ghost use Rattle.calls.specs.Words.{over};
-ghost use Rattle.start.specs.Starts.{jobTables};
-ghost use Rattle.checker.specs.Answer.{tables};
-ghost use Rattle.capi.specs.Checks.{numberFor, outWords, Checks};
-ghost use Rattle.capi.specs.Runs.{countWords, Goes, Runs};
-ghost use Rattle.capi.specs.Sessions.{lentShort, lent, Reported, Sessions};
-
-fn wide8(n: u8) -> u64
-    ensures { λ r. ⌜ r ≡ n ⌝ }
-{
-    n as u64
-}
-
-fn wide16(n: u16) -> u64
-    ensures { λ r. ⌜ r ≡ n ⌝ }
-{
-    n as u64
-}
-
-fn wide(p: usize) -> u64
-    ensures { λ r. ⌜ r ≡ p ⌝ }
-{
-    p as u64
-}
-
-// x at place i, if there is one.
-fn put(s: &mut [u64], i: usize, x: u64)
-    ensures { λ _. ⌜ now (s .exit) ≡ set (now (s .entry)) i x ⌝ }
-{
-    if i < s.len() {
-        s[i] = x;
-    }
-}
-
-// n, and never more than there are places.
-fn in_use(n: u64, most: u64) -> u64
-    ensures { λ r. ⌜ r ≡ capped n most ⌝ }
-{
-    if n < most {
-        return n;
-    }
-    most
-}
-
-// How much of each kind is in use, as far as there are places to write it.
-fn count(t: Thread, rooms: &mut [u64])
-    ensures { λ _. ⌜ now (rooms .exit) ≡ over (now (rooms .entry)) (countWords t) ⌝ }
-{
-    let cells = in_use(t.cells, 256);
-    let keys = in_use(t.keys, 128);
-    let pairs = in_use(t.pairs, 512);
-    let functions = in_use(t.functions, 512);
-    let frames = in_use(t.frames, 256);
-    let bindings = in_use(t.bindings, 1024);
-    put(rooms, 0, cells);
-    put(rooms, 1, keys);
-    put(rooms, 2, pairs);
-    put(rooms, 3, functions);
-    put(rooms, 4, frames);
-    put(rooms, 5, bindings);
-}
+ghost use Rattle.load.specs.Lent.{jobBefore, jobAfter};
+ghost use Rattle.checker.specs.Lent.{before, after};
+ghost use Rattle.capi.specs.Checks.{Checks};
+ghost use Rattle.capi.specs.Runs.{Goes, Runs};
+ghost use Rattle.capi.specs.Sessions.{lentBefore, lentAfter, Reported, Sessions};
 
 // The calls on a machine, and the room that the last machine uses.
 fn go(
@@ -82,11 +20,15 @@ fn go(
     answers: &mut [u64],
     rooms: &mut [u64],
 )
-    ensures { λ _. ⌜ Goes (codeIn (now (heads .entry)) (now (slots .entry))) (now (calls .entry)) (seen m) (now (answers .entry)) (now (answers .exit)) (now (rooms .entry)) (now (rooms .exit)) ⌝ }
+    ensures { λ _. ⌜
+        Goes (stepsOf (codeIn (now (heads .entry)) (now (slots .entry)))) (now (calls .entry)) (seen m)
+        (now (answers .entry)) (now (answers .exit)) (now (rooms .entry)) (now (rooms .exit))
+        ⌝ }
 {
     let last = calls::make_calls(m, heads, slots, calls, answers);
     let t = last.thread;
-    count(t, rooms);
+    let u = last.used;
+    results::count(t, u, rooms);
 }
 
 // Starts the job and makes the calls, without a check: 0 says that the job is started, and is no verdict on it. Only of a job that
@@ -106,11 +48,14 @@ pub extern "C" fn jobdesk_run(
     answers: &mut [u64],
     rooms: &mut [u64],
 ) -> u64
-    ensures { λ r. ⌜ Runs (now (job .entry)) r (now (calls .entry)) (jobTables (now (names .entry)) (now (types .entry)) (now (sets .entry)) (now (values .entry)) (now (heads .entry)) (now (slots .entry))) (jobTables (now (names .exit)) (now (types .exit)) (now (sets .exit)) (now (values .exit)) (now (heads .exit)) (now (slots .exit))) (now (answers .entry)) (now (answers .exit)) (now (rooms .entry)) (now (rooms .exit)) ⌝ }
+    ensures { λ r. ⌜
+        Runs (now (job .entry)) r (now (calls .entry))
+        (jobBefore names types sets values heads slots) (jobAfter names types sets values heads slots)
+        (now (answers .entry)) (now (answers .exit)) (now (rooms .entry)) (now (rooms .exit))
+        ⌝ }
 {
     if answers.len() / 2 < calls.len() {
-        put(rooms, 0, 0);
-        return 1;
+        return results::refuse(1, 0, rooms);
     }
     let o = start::start(job, names, types, sets, values, heads, slots);
     let told = o.told;
@@ -120,29 +65,7 @@ pub extern "C" fn jobdesk_run(
             go(m, heads, slots, calls, answers, rooms);
             0
         }
-        Told::Refused(n, p) => {
-            put(rooms, 0, wide(p));
-            wide8(n)
-        }
-    }
-}
-
-// The number of a verdict; what else it says is written.
-fn tell(v: Verdict, out: &mut [u64]) -> u64
-    ensures number { λ r. ⌜ r ≡ numberFor v ⌝ }
-    ensures written { λ _. ⌜ now (out .exit) ≡ over (now (out .entry)) (outWords v) ⌝ }
-{
-    match v {
-        Verdict::Accepted(i, s) => {
-            put(out, 0, wide16(i));
-            put(out, 1, s);
-            0
-        }
-        Verdict::Refused(n, p) => {
-            put(out, 0, wide(p));
-            put(out, 1, 0);
-            wide8(n)
-        }
+        Told::Refused(n, p) => results::refuse(n, p, rooms),
     }
 }
 
@@ -161,7 +84,12 @@ pub extern "C" fn jobdesk_check(
     effects: &mut [u64],
     out: &mut [u64],
 ) -> u64
-    ensures { λ r. ⌜ Checks (now (job .entry)) r (tables (now (names .entry)) (now (types .entry)) (now (sets .entry)) (now (values .entry)) (now (heads .entry)) (now (slots .entry)) (now (entries .entry)) (now (effects .entry))) (tables (now (names .exit)) (now (types .exit)) (now (sets .exit)) (now (values .exit)) (now (heads .exit)) (now (slots .exit)) (now (entries .exit)) (now (effects .exit))) (now (out .entry)) (now (out .exit)) ⌝ }
+    ensures { λ r. ⌜
+        Checks (now (job .entry)) r
+        (before names types sets values heads slots entries effects)
+        (after names types sets values heads slots entries effects)
+        (now (out .entry)) (now (out .exit))
+        ⌝ }
 {
     let c = checker::check(
         job,
@@ -175,39 +103,19 @@ pub extern "C" fn jobdesk_check(
         effects,
     );
     let v = c.verdict;
-    tell(v, out)
-}
-
-// Whether a slice that is lent to a session is too short: two words a call, two for the value, two for each of 256 cells, two for what is told.
-fn is_short<'a>(
-    calls: &'a [u64],
-    answers: &'a [u64],
-    value: &'a [u64],
-    cells: &'a [u64],
-    out: &'a [u64],
-) -> bool
-    ensures { λ r. ⌜ r ≡ lentShort (now (calls .entry)) (now (answers .entry)) (now (value .entry)) (now (cells .entry)) (now (out .entry)) ⌝ }
-{
-    if answers.len() / 2 < calls.len() {
-        return true;
-    }
-    if value.len() < 2 {
-        return true;
-    }
-    if cells.len() < 512 {
-        return true;
-    }
-    out.len() < 2
+    results::tell(v, out)
 }
 
 // What a session ended with.
 fn finish(h: Held, value: &mut [u64], cells: &mut [u64], out: &mut [u64]) -> u64
-    ensures { λ r. ⌜ Reported h r (now (value .entry)) (now (value .exit)) (now (cells .entry)) (now (cells .exit)) (now (out .entry)) (now (out .exit)) ⌝ }
+    ensures { λ r. ⌜
+        Reported h r (now (value .entry)) (now (value .exit)) (now (cells .entry)) (now (cells .exit)) (now (out .entry)) (now (out .exit))
+        ⌝ }
 {
     let m = h.machine;
     let v = h.verdict;
-    result::hand_over(m, value, cells);
-    tell(v, out)
+    results::hand_over(m, value, cells);
+    results::tell(v, out)
 }
 
 // Checks the job and, where it is accepted, starts it and makes the calls, each on the machine that the last one gave. Returns 0 where the job is
@@ -232,9 +140,14 @@ pub extern "C" fn jobdesk_session(
     cells: &mut [u64],
     out: &mut [u64],
 ) -> u64
-    ensures { λ r. ⌜ Sessions (now (job .entry)) (now (calls .entry)) r (tables (now (names .entry)) (now (types .entry)) (now (sets .entry)) (now (values .entry)) (now (heads .entry)) (now (slots .entry)) (now (entries .entry)) (now (effects .entry))) (tables (now (names .exit)) (now (types .exit)) (now (sets .exit)) (now (values .exit)) (now (heads .exit)) (now (slots .exit)) (now (entries .exit)) (now (effects .exit))) (lent (now (answers .entry)) (now (value .entry)) (now (cells .entry)) (now (out .entry))) (lent (now (answers .exit)) (now (value .exit)) (now (cells .exit)) (now (out .exit))) ⌝ }
+    ensures { λ r. ⌜
+        Sessions (now (job .entry)) (now (calls .entry)) r
+        (before names types sets values heads slots entries effects)
+        (after names types sets values heads slots entries effects)
+        (lentBefore answers value cells out) (lentAfter answers value cells out)
+        ⌝ }
 {
-    if is_short(calls, answers, value, cells, out) {
+    if results::is_short(calls, answers, value, cells, out) {
         return 1;
     }
     let h = session::session(

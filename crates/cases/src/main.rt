@@ -1,5 +1,7 @@
 // Runs recorded cases: standard input, of which 65,536 bytes are read, holds jobs and what another
 // implementation prints for each. Standard output says how many of these answers are the desk's.
+use format::TEXT_BYTES;
+use libc::STDIN_FILENO;
 use libc::STDOUT_FILENO;
 ghost use mathlib.Core.Path.{_≡_};
 ghost use Rattle.output.specs.Lines.{printed};
@@ -15,8 +17,8 @@ struct Tally {
 fn job_length(file: &[u8]) -> u16
     ensures { λ r. ⌜ r ≡ jobLength (now (file .entry)) ⌝ }
 {
-    let low = store::at8(file, 0);
-    let high = store::at8(file, 1);
+    let low = table::at8(file, 0);
+    let high = table::at8(file, 1);
     (low as u16) + (high as u16) * 256
 }
 
@@ -25,7 +27,7 @@ fn answer_length(file: &[u8]) -> u8
     ensures { λ r. ⌜ r ≡ answerLength (now (file .entry)) ⌝ }
 {
     let n = job_length(file) as usize;
-    store::at8(file, n + 2)
+    table::at8(file, n + 2)
 }
 
 // How many bytes the first case takes.
@@ -66,7 +68,7 @@ fn prints<'a>(job: &'a [u8], answer: &'a [u8]) -> bool
     let text = print::print(job);
     let bytes = text.bytes;
     let n = text.len;
-    if n < 128 {
+    if n < TEXT_BYTES {
         return check::same(&bytes[..n], answer);
     }
     check::same(&bytes, answer)
@@ -116,7 +118,7 @@ fn write(word: &[u8], n: usize) {
 
 fn main() {
     let mut file = [0u8; 65536];
-    let n = io::read_full(0, &mut file);
+    let n = io::read_full(STDIN_FILENO, &mut file);
     let t = count(&file[..n]);
     write(b"agree ", t.agree);
     write(b"differ ", t.differ);

@@ -1,14 +1,17 @@
 -- What the answers of the check stand for: the verdict by number and place, or by the tree of the job's type and its effect, and the tables afterwards.
 use mathlib.Core.Path.{_≡_}
 use Prim.Native.Nat.{ℕ, suc}
-use mathlib.Core.Bool.{false}
+use mathlib.Core.Bool.{false, cond}
 use mathlib.Core.List.{List}
-use lib.ListN.{length, replicate, getD}
+use lib.ListN.{length, getD}
+use lib.Dec.{eqb}
+use Rattle.order.specs.Effects.{ofWord}
 use Rattle.syntax.specs.Types.{Ty, treeIn, tree}
 use Rattle.syntax.specs.Job.{Job}
 use Rattle.syntax.specs.Reading.{Read, refused, read, reading}
-use Rattle.syntax.specs.Tree.{past}
-use Rattle.syntax.specs.Words.{filled, nameWords, typeWords, setWords, valueWords, headWords, slotWords, entryIn}
+use Rattle.syntax.specs.Tree.{predecessor}
+use Rattle.syntax.specs.Words.{entryIn}
+use Rattle.syntax.specs.Loading.{zeros, filledWith, loading}
 use Rattle.syntax.specs.WordLaws.{Bytes}
 use Rattle.typing.specs.Verdict as rules
 use Rattle.typing.specs.Tables.{Tables, short, tablesAfter, verdictWith}
@@ -18,12 +21,13 @@ use Rattle.typing.specs.NumberedVerdict.{lastEntry, lastEffect, filledFrom}
 use Rattle.elaborate.specs.OpsLaws.{jobOps}
 use Rattle.job.specs.declared.Shape.{Shape}
 use Rattle.job.specs.Answer.{shapeOf}
+use Rattle.load.specs.Loads.{jobTables}
 use Rattle.checker.specs.declared.Verdict.{Verdict}
 use Rattle.checker.specs.declared.Verdict.the-variants.{Accepted, Refused}
 use Rattle.checker.specs.declared.Checked.{Checked}
 
 abbrev pub tables : List ℕ → List ℕ → List ℕ → List ℕ → List ℕ → List ℕ → List ℕ → List ℕ → Tables
-tables n t s v h p o e = record { names = n; types = t; sets = s; values = v; heads = h; slots = p; entries = o; effects = e }
+tables n t s v h p o e = record { job = jobTables n t s v h p; entries = o; effects = e }
 
 -- the tree of entry i of the type table and its sets
 unfoldable pub treeOf : List ℕ → List ℕ → ℕ → Ty
@@ -31,7 +35,7 @@ treeOf types sets i = treeIn (suc i) (entryIn types sets) i
 
 -- the verdict that an answer stands for, by the type table afterwards and its sets
 unfoldable pub verdictIn : List ℕ → List ℕ → Verdict → rules.Verdict
-verdictIn types sets (Accepted i s) = rules.accept (treeOf types sets i) s
+verdictIn types sets (Accepted i s) = rules.accept (treeOf types sets i) (ofWord s)
 verdictIn types sets (Refused n p) = rules.refuse (record { number = n; place = p })
 
 abbrev pub noShape : Shape
@@ -51,32 +55,34 @@ shapeFor (rules.refuse n) r = noShape
 
 -- the entry of the last of n expressions
 unfoldable pub lastIn : List ℕ → ℕ → ℕ
-lastIn entries n = getD entries (past n) 0
+lastIn entries n = getD entries (predecessor n) 0
 
 -- `check`: the verdict, the tables afterwards, and the counts of an accepted job; the entry that an acceptance names is that of the last expression
 pub record CheckTo (bytes : List ℕ) (r : Checked) (w x : Tables) : Type 0 where
-  pub verdict : verdictIn (x .types) (x .sets) (r .verdict) ≡ verdictWith w bytes
+  pub verdict : verdictIn (x .job .types) (x .job .sets) (r .verdict) ≡ verdictWith w bytes
   pub tables : x ≡ tablesAfter w bytes
   pub shape : r .shape ≡ shapeFor (verdictWith w bytes) (reading bytes)
   pub entry : (i s : ℕ) → r .verdict ≡ Accepted i s → i ≡ lastIn (x .entries) (r .shape .cmds)
 
--- the tables as reading leaves them for the job J, with no entries and effects yet
+-- the tables as loading leaves them for the job J
 pub record Given (bytes : List ℕ) (J : Job) (g : Shape) (w : Tables) : Type 0 where
   pub bytes-are : Bytes bytes
-  pub is-read : reading bytes ≡ read J
+  pub is-loaded : loading bytes ≡ read J
   pub shape : g ≡ shapeOf J
-  pub names : w .names ≡ filled (length (w .names)) 0 (nameWords J)
-  pub types : w .types ≡ filled (length (w .types)) 0 (typeWords (J .types))
-  pub sets : w .sets ≡ filled (length (w .sets)) 0 (setWords (J .types))
-  pub values : w .values ≡ filled (length (w .values)) 0 (valueWords J)
-  pub heads : w .heads ≡ filled (length (w .heads)) 0 (headWords J)
-  pub slots : w .slots ≡ filled (length (w .slots)) 0 (slotWords J)
-  pub entries : w .entries ≡ replicate (length (w .entries)) 0
-  pub effects : w .effects ≡ replicate (length (w .effects)) 0
+  pub job : w .job ≡ filledWith (J .types) J (w .job)
   pub long : short w ≡ false
+
+-- no expression has an entry or an effect yet
+pub record Untyped (w : Tables) : Type 0 where
+  pub entries : w .entries ≡ zeros (w .entries)
+  pub effects : w .effects ≡ zeros (w .effects)
+
+-- what a table of expressions holds after the load is refused with the number n: 1 writes nothing
+unfoldable pub unlessOne : ℕ → List ℕ → List ℕ
+unlessOne n l = cond (eqb n 1) l (zeros l)
 
 -- the answer on such tables, and where it is an acceptance the tables afterwards
 pub data Judged (bytes : List ℕ) (J : Job) : Verdict → Tables → Type 0 where
-  accepted : (k : ℕ) (σ : Sofar) (x : Tables) (i s : ℕ) → numbering (jobOps k J) J ≡ whole σ → Inv J (length (J .cmds)) σ → x ≡ filledFrom J σ x → i ≡ lastEntry J σ → s ≡ lastEffect J σ
-      → rules.verdictOf bytes ≡ rules.accept (tree (σ .entries) i) s → Judged bytes J (Accepted i s) x
+  accepted : (k : ℕ) (σ : Sofar) (x : Tables) (i s : ℕ) → numbering (jobOps k J) J ≡ whole σ → Inv J (length (J .cmds)) σ → x ≡ filledFrom J σ x → i ≡ lastEntry J σ → ofWord s ≡ lastEffect J σ
+      → rules.verdictOf bytes ≡ rules.accept (tree (σ .entries) i) (ofWord s) → Judged bytes J (Accepted i s) x
   refused-by : (n p : ℕ) (x : Tables) → rules.verdictOf bytes ≡ rules.refuse (record { number = n; place = p }) → Judged bytes J (Refused n p) x

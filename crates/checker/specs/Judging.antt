@@ -1,83 +1,67 @@
 -- From what the parts of the check answer to the verdict of the rules and the tables.
 use mathlib.Core.Path.{_≡_, refl, sym, ap, _∙_, subst}
-use Prim.Native.Nat.{ℕ, suc, _%_, _≤_}
+use Prim.Native.Nat.{ℕ, suc, _%_, _≤_, _<_}
 use native.Mathlib.Omega.{arith}
 use mathlib.Core.Bool.{Bool, true, false, cond}
 use mathlib.Core.List.{List, [], map}
-use mathlib.Core.Option.{none, some}
-use lib.ListN.{length, getD, replicate, length-map}
-use lib.Dec.{ltb}
-use borrow.Author.Tests.{ltb-false, le-leb}
-use Rattle.order.specs.Bools.{_or_}
+use mathlib.Core.Option.{none}
+use lib.ListN.{length, getD, replicate, length-map, length-replicate}
+use lib.Dec.{ltb, eqb}
+use borrow.Author.Tests.{ltb-false, lt-ltb, le-ltb, ne-eqb}
+use Rattle.order.specs.Bools.{_or_, or-l, or-r}
 use Rattle.syntax.specs.Types.{Ty, treeIn, tree}
 use Rattle.syntax.specs.Job.{Job, sourceOf}
-use Rattle.syntax.specs.Reading.{Refusal, Read, refused, read, reading}
+use Rattle.syntax.specs.Reading.{Read, refused, read, refusedAt, reading, most-expressions}
 use Rattle.syntax.specs.ReadLaws.{JobOk, read-ok, or-none}
-use Rattle.syntax.specs.Tree.{past, treeRefusal}
-use Rattle.syntax.specs.Words.{filled, nameWords, typeWord, setWord, typeWords, setWords, valueWords, headWords, slotWords}
-use Rattle.syntax.specs.WordLaws.{Bytes, JobFits, job-fits, filled-at, filled-none, filled-length}
+use Rattle.syntax.specs.Tree.{predecessor, treeRefusal}
+use Rattle.order.specs.Effects.{Effect, ofWord}
+use Rattle.syntax.specs.Words.{filled, nameWords, typeWord, setWord, typeWords, setWords, valueWords, headWords, slotWords, effectWords}
+use Rattle.syntax.specs.WordLaws.{Bytes, JobFits, job-fits, filled-at, effect-back, filled-none, filled-length}
+use Rattle.syntax.specs.Loading.{JobTables, zeros, filledWith, loading, holding}
+use Rattle.syntax.specs.Loading as loads
+use Rattle.syntax.specs.LoadLaws as lengths
+use Rattle.syntax.specs.LoadLaws.{loaded, short-load, short-after, long-load, long-after, filled-same}
 use Rattle.typing.specs.Verdict as rules
+use Rattle.typing.specs.RefusalLaws.{load-number, verdict-load}
 use Rattle.typing.specs.Least.{types}
-use Rattle.typing.specs.Tables.{Tables, most-entries, short, zeros, cleared, effectOf, layoutFor, filledBy, filledRead, keptOn, tablesAfter, verdictWith}
+use Rattle.typing.specs.Tables.{Tables, short, cleared, effectOf, layoutFor, filledBy, keptOn, tablesAfter, verdictWith}
 use Rattle.typing.specs.Numbered.{Sofar, Whole, whole, halted, numbering}
 use Rattle.typing.specs.NumberedLaws.{Inv, Fits, inv-fits}
 use Rattle.typing.specs.NumberedWords.{words-back}
-use Rattle.typing.specs.NumberedVerdict.{lastOf, lastEntry, lastEffect, filledFrom, verdict-refused, verdict-tree, verdict-halted, verdict-beyond, verdict-within, tables-accepted, tables-refused, tables-short}
-use Rattle.names.specs.Ancestors.{namesIn, ancestorsBy, effBelowBy}
+use Rattle.typing.specs.NumberedVerdict.{lastOf, lastEntry, lastEffect, filledFrom, verdict-halted, verdict-beyond, verdict-within, tables-accepted, tables-refused, tables-short}
+use Rattle.names.specs.Ancestors.{namesIn, ancestorsBy, effBelowBy, effectsBy}
 use Rattle.elaborate.specs.declared.Passed.{Passed}
 use Rattle.elaborate.specs.declared.Passed.the-variants as passed
 use Rattle.elaborate.specs.Pass.{Out, Ended, numberedBy}
 use Rattle.elaborate.specs.OpsLaws.{jobOps, agree, names-held}
 use Rattle.elaborate.specs.Right.{Reached, r-whole, r-halted, numbered-right}
+use Rattle.table.specs.declared.Refusal.{Refusal as Refused-with}
 use Rattle.job.specs.declared.Shape.{Shape}
 use Rattle.job.specs.declared.Answer.{Answer}
 use Rattle.job.specs.declared.Answer.the-variants as answers
-use Rattle.table.specs.declared.Refusal as job-refusal
-use Rattle.job.specs.Answer.{shapeOf, answerOf, tableOf, longEnough, longTables, afterOf, ReadTo}
-use Rattle.tree.specs.Holds.{Holds}
-use Rattle.tree.specs.Filled.{filled-holds}
+use Rattle.job.specs.Answer.{shapeOf}
+use Rattle.load.specs.Loads.{LoadTo}
+use Rattle.load.specs.Cases.{refused-by, job-loaded}
 use Rattle.checker.specs.declared.Verdict.{Verdict}
 use Rattle.checker.specs.declared.Verdict.the-variants.{Accepted, Refused}
 use Rattle.checker.specs.declared.Checked.{Checked}
-use Rattle.checker.specs.Answer.{tables, treeOf, verdictIn, noShape, refusedBy, shapeRead, shapeFor, lastIn, CheckTo, Given, Judged, accepted, refused-by}
+use Rattle.checker.specs.Answer as judged
+use Rattle.checker.specs.Answer.{tables, treeOf, verdictIn, noShape, refusedBy, shapeRead, shapeFor, lastIn, CheckTo, Given, Untyped, unlessOne, Judged, accepted}
 
 -- Lengths
 
 -- each table is as long as its limit
 pub record Long (w : Tables) : Type 0 where
-  pub names : 64 ≤ length (w .names)
-  pub types : most-entries ≤ length (w .types)
-  pub sets : most-entries ≤ length (w .sets)
-  pub values : 64 ≤ length (w .values)
-  pub heads : 512 ≤ length (w .heads)
-  pub slots : 2560 ≤ length (w .slots)
-  pub entries : 512 ≤ length (w .entries)
-  pub effects : 512 ≤ length (w .effects)
+  pub job : lengths.Long (w .job)
+  pub entries : most-expressions ≤ length (w .entries)
+  pub effects : most-expressions ≤ length (w .effects)
 
 pub long-is : (w : Tables) → short w ≡ false → Long w
 unfolding short
 long-is w h =
     let a = or-none _ _ h in
     let b = or-none _ _ (a .0) in
-    let c = or-none _ _ (b .0) in
-    let d = or-none _ _ (c .0) in
-    let e = or-none _ _ (d .0) in
-    let f = or-none _ _ (e .0) in
-    let g = or-none _ _ (f .0) in
-    record {
-      names = ltb-false _ _ (g .0);
-      types = ltb-false _ _ (g .1);
-      sets = ltb-false _ _ (f .1);
-      values = ltb-false _ _ (e .1);
-      heads = ltb-false _ _ (d .1);
-      slots = ltb-false _ _ (c .1);
-      entries = ltb-false _ _ (b .1);
-      effects = ltb-false _ _ (a .1);
-    }
-
-long-by : (w : Tables) → Long w → longTables (w .names) (w .types) (w .sets) (w .values) (w .heads) (w .slots) ≡ true
-unfolding longEnough
-long-by w l = simp (le-leb _ _ (l .names), le-leb _ _ (l .types), le-leb _ _ (l .sets), le-leb _ _ (l .values), le-leb _ _ (l .heads), le-leb _ _ (l .slots))
+    record { job = lengths.long-is (w .job) (b .0); entries = ltb-false _ _ (b .1); effects = ltb-false _ _ (a .1) }
 
 tree-is : (σ : Sofar) → Fits σ → (n m i : ℕ) → treeOf (filled n 0 (typeWords (σ .entries))) (filled m 0 (setWords (σ .entries))) i ≡ tree (σ .entries) i
 unfolding treeOf tree
@@ -86,32 +70,49 @@ tree-is σ g n m i = λ k. treeIn (suc i) (λ x. words-back σ g n m x k) i
 -- A job that is read and a tree in scope
 
 module _ {bytes : List ℕ} {J : Job} {g : Shape} {w : Tables} (given : Given bytes J g w) where
-  pub job-ok : JobOk J
-  job-ok = read-ok bytes J (given .is-read)
+  is-read : reading bytes ≡ read J
+  is-read = loaded bytes J (given .is-loaded) .0
+
+  scoped : treeRefusal (sourceOf J) ≡ none
+  scoped = loaded bytes J (given .is-loaded) .1
+
+  job-ok : JobOk J
+  job-ok = read-ok bytes J is-read
 
   fits : JobFits J
-  fits = job-fits bytes J (given .bytes-are) (given .is-read)
+  fits = job-fits bytes J (given .bytes-are) is-read
 
   long : Long w
   long = long-is w (given .long)
 
-  -- the tree checks on these tables
-  pub held : Holds J (w .heads) (w .slots) (g .cmds) (w .names) (g .names) (w .types) (w .sets) (g .types) (g .values)
-  unfolding shapeOf
-  held =
-      let h = filled-holds J fits (length (w .heads)) (length (w .slots)) (length (w .names)) (length (w .types)) (length (w .sets)) in
-      let q : shapeOf J ≡ g = sym (given .shape) in
-      subst (λ (x : List ℕ × List ℕ × List ℕ × List ℕ × List ℕ × Shape). Holds J (x .0) (x .1) (x .5 .cmds) (x .2) (x .5 .names) (x .3) (x .4) (x .5 .types) (x .5 .values))
-      (λ i. (sym (given .heads) i, sym (given .slots) i, sym (given .names) i, sym (given .types) i, sym (given .sets) i, q i))
-      h
+  names-is : w .job .names ≡ filled (length (w .job .names)) 0 (nameWords J)
+  unfolding filledWith
+  names-is = ap (λ (x : JobTables). x .names) (given .job)
 
-  pub tree-refuses : {n p : ℕ} → treeRefusal (sourceOf J) ≡ some (record { number = n; place = p }) → rules.verdictOf bytes ≡ rules.refuse (record { number = n; place = p })
-  tree-refuses t = verdict-tree (jobOps 0) (λ K k. agree 0 k) bytes J (given .is-read) _ t
+  types-is : w .job .types ≡ filled (length (w .job .types)) 0 (typeWords (J .types))
+  unfolding filledWith
+  types-is = ap (λ (x : JobTables). x .types) (given .job)
 
-  module _ (scoped : treeRefusal (sourceOf J) ≡ none) {anc : List ℕ} (anc-is : anc ≡ ancestorsBy (namesIn (w .names) (g .names))) {nt nv nc : ℕ} (nt-is : nt ≡ g .types % 65536) (nv-is : nv ≡ g .values % 65536) (nc-is : nc ≡ g .cmds % 65536) where
-    names-are : namesIn (w .names) (g .names) ≡ J .names
+  sets-is : w .job .sets ≡ filled (length (w .job .sets)) 0 (setWords (J .types))
+  unfolding filledWith
+  sets-is = ap (λ (x : JobTables). x .sets) (given .job)
+
+  values-is : w .job .values ≡ filled (length (w .job .values)) 0 (valueWords J)
+  unfolding filledWith
+  values-is = ap (λ (x : JobTables). x .values) (given .job)
+
+  heads-is : w .job .heads ≡ filled (length (w .job .heads)) 0 (headWords J)
+  unfolding filledWith
+  heads-is = ap (λ (x : JobTables). x .heads) (given .job)
+
+  slots-is : w .job .slots ≡ filled (length (w .job .slots)) 0 (slotWords J)
+  unfolding filledWith
+  slots-is = ap (λ (x : JobTables). x .slots) (given .job)
+
+  module _ (none-yet : Untyped w) {anc : List ℕ} (anc-is : anc ≡ ancestorsBy (namesIn (w .job .names) (g .names))) {nt nv nc : ℕ} (nt-is : nt ≡ g .types % 65536) (nv-is : nv ≡ g .values % 65536) (nc-is : nc ≡ g .cmds % 65536) where
+    names-are : namesIn (w .job .names) (g .names) ≡ J .names
     unfolding shapeOf
-    names-are = (λ i. namesIn (given .names i) (given .shape i .names)) ∙ names-held (length (w .names)) job-ok
+    names-are = (λ i. namesIn (names-is i) (given .shape i .names)) ∙ names-held (length (w .job .names)) job-ok
 
     anc-by : ancestorsBy (J .names) ≡ anc
     anc-by = sym (anc-is ∙ ap ancestorsBy names-are)
@@ -128,22 +129,23 @@ module _ {bytes : List ℕ} {J : Job} {g : Shape} {w : Tables} (given : Given by
     unfolding shapeOf
     cmds-count = let z : length (J .cmds) % 65536 ≡ length (J .cmds) = omega (arith, job-ok .few-cmds) in sym (nc-is ∙ (λ i. given .shape i .cmds % 65536) ∙ z)
 
-    reached : Reached J (length (w .types)) (length (w .sets)) (length (w .entries)) (length (w .effects))
-        (numberedBy anc (w .names) (w .values) (w .heads) (w .slots) nt nv nc (w .types) (w .sets) (w .entries) (w .effects)) (numbering (jobOps (length (w .names)) J) J)
+    reached : Reached J (length (w .job .types)) (length (w .job .sets)) (length (w .entries)) (length (w .effects))
+        (numberedBy anc (w .job .names) (w .job .values) (w .job .heads) (w .job .slots) nt nv nc (w .job .types) (w .job .sets) (w .entries) (w .effects)) (numbering (jobOps (length (w .job .names)) J) J)
+    unfolding zeros
     reached =
-        let o : filled (length (w .entries)) 0 [] ≡ w .entries = filled-none (length (w .entries)) ∙ sym (given .entries) in
-        let e : filled (length (w .effects)) 0 [] ≡ w .effects = filled-none (length (w .effects)) ∙ sym (given .effects) in
-        subst (λ (x : Out). Reached J (length (w .types)) (length (w .sets)) (length (w .entries)) (length (w .effects)) x (numbering (jobOps (length (w .names)) J) J))
-        (λ i. numberedBy (anc-by i) (sym (given .names) i) (sym (given .values) i) (sym (given .heads) i) (sym (given .slots) i) (types-count i) (values-count i) (cmds-count i)
-        (sym (given .types) i) (sym (given .sets) i) (o i) (e i))
-        (numbered-right job-ok fits scoped (length (w .names)) (length (w .types)) (length (w .sets)) (length (w .entries)) (length (w .effects)) (length (w .values)) (length (w .heads)) (length (w .slots))
-        (long .types) (long .sets) (long .entries) (long .effects))
+        let o : filled (length (w .entries)) 0 [] ≡ w .entries = filled-none (length (w .entries)) ∙ sym (none-yet .entries) in
+        let e : filled (length (w .effects)) 0 [] ≡ w .effects = filled-none (length (w .effects)) ∙ sym (none-yet .effects) in
+        subst (λ (x : Out). Reached J (length (w .job .types)) (length (w .job .sets)) (length (w .entries)) (length (w .effects)) x (numbering (jobOps (length (w .job .names)) J) J))
+        (λ i. numberedBy (anc-by i) (sym names-is i) (sym values-is i) (sym heads-is i) (sym slots-is i) (types-count i) (values-count i) (cmds-count i)
+        (sym types-is i) (sym sets-is i) (o i) (e i))
+        (numbered-right job-ok fits scoped (length (w .job .names)) (length (w .job .types)) (length (w .job .sets)) (length (w .entries)) (length (w .effects)) (length (w .job .values)) (length (w .job .heads)) (length (w .job .slots))
+        (long .job .types) (long .job .sets) (long .entries) (long .effects))
 
-    module _ {a : Passed} {ts ss os es : List ℕ} (after : Ended (numberedBy anc (w .names) (w .values) (w .heads) (w .slots) nt nv nc (w .types) (w .sets) (w .entries) (w .effects)) a ts ss os es) where
+    module _ {a : Passed} {ts ss os es : List ℕ} (after : Ended (numberedBy anc (w .job .names) (w .job .values) (w .job .heads) (w .job .slots) nt nv nc (w .job .types) (w .job .sets) (w .entries) (w .effects)) a ts ss os es) where
       abbrev left : Tables
-      left = tables (w .names) ts ss (w .values) (w .heads) (w .slots) os es
+      left = tables (w .job .names) ts ss (w .job .values) (w .job .heads) (w .job .slots) os es
 
-      halted-is : {o : Out} {x : Whole} {n e : ℕ} → Reached J (length (w .types)) (length (w .sets)) (length (w .entries)) (length (w .effects)) o x → Ended o a ts ss os es → a ≡ passed.Halted n e
+      halted-is : {o : Out} {x : Whole} {n e : ℕ} → Reached J (length (w .job .types)) (length (w .job .sets)) (length (w .entries)) (length (w .effects)) o x → Ended o a ts ss os es → a ≡ passed.Halted n e
           → x ≡ halted (record { number = n; place = e })
       halted-is (r-whole σ v) z q = absurd (let y : _≡_ {A = ℕ} 0 1 = cc (z .answer) in omega arith)
       halted-is (r-halted m f u) z q =
@@ -161,120 +163,92 @@ module _ {bytes : List ℕ} {J : Job} {g : Shape} {w : Tables} (given : Given by
       -- 11 to 13
       pub typed-halted : {n e : ℕ} → a ≡ passed.Halted n e → Judged bytes J (Refused n e) left
       typed-halted {n} {e} q =
-          refused-by n e left (verdict-halted (jobOps (length (w .names))) (λ K k. agree (length (w .names)) k) bytes J (given .is-read) _ scoped (halted-is reached after q))
+          judged.refused-by n e left (verdict-halted (jobOps (length (w .job .names))) (λ K k. agree (length (w .job .names)) k) bytes J (is-read) _ scoped (halted-is reached after q))
 
       -- the state that the typing came to
       record Came (σ : Sofar) (x : Whole) : Type 0 where
         pub is-whole : x ≡ whole σ
         pub state : Inv J (length (J .cmds)) σ
-        pub types : ts ≡ filled (length (w .types)) 0 (typeWords (σ .entries))
-        pub sets : ss ≡ filled (length (w .sets)) 0 (setWords (σ .entries))
+        pub types : ts ≡ filled (length (w .job .types)) 0 (typeWords (σ .entries))
+        pub sets : ss ≡ filled (length (w .job .sets)) 0 (setWords (σ .entries))
         pub entries : os ≡ filled (length (w .entries)) 0 (σ .of)
-        pub effects : es ≡ filled (length (w .effects)) 0 (σ .effects)
+        pub effects : es ≡ filled (length (w .effects)) 0 (effectWords (σ .effects))
 
-      whole-is : {o : Out} {x : Whole} → Reached J (length (w .types)) (length (w .sets)) (length (w .entries)) (length (w .effects)) o x → Ended o a ts ss os es → a ≡ passed.Whole → (σ : Sofar) × Came σ x
+      whole-is : {o : Out} {x : Whole} → Reached J (length (w .job .types)) (length (w .job .sets)) (length (w .entries)) (length (w .effects)) o x → Ended o a ts ss os es → a ≡ passed.Whole → (σ : Sofar) × Came σ x
       whole-is (r-whole σ v) z q = (σ, record { is-whole = refl; state = v; types = z .types; sets = z .sets; entries = z .entries; effects = z .effects })
       whole-is (r-halted m f u) z q = absurd (let y : _≡_ {A = ℕ} 0 1 = cc (z .answer) in omega arith)
 
-      module _ (q : a ≡ passed.Whole) {e s : ℕ} (e-is : e ≡ past (g .cmds)) (s-is : s ≡ getD es e 0) {b : Bool} (b-is : b ≡ effBelowBy anc s (g .rights)) where
+      module _ (q : a ≡ passed.Whole) {e s : ℕ} (e-is : e ≡ predecessor (g .cmds)) (s-is : s ≡ getD es e 0) {b : Bool} (b-is : b ≡ effBelowBy anc s (g .rights)) where
         abbrev σ : Sofar
         σ = whole-is reached after q .0
 
-        came : Came σ (numbering (jobOps (length (w .names)) J) J)
+        came : Came σ (numbering (jobOps (length (w .job .names)) J) J)
         came = whole-is reached after q .1
 
         last-is : e ≡ lastOf J
         unfolding shapeOf lastOf
-        last-is = e-is ∙ (λ i. past (given .shape i .cmds))
+        last-is = e-is ∙ (λ i. predecessor (given .shape i .cmds))
 
-        effect-is : s ≡ lastEffect J σ
-        effect-is = s-is ∙ (λ i. getD (came .effects i) (last-is i) 0) ∙ filled-at (length (w .effects)) (σ .effects) (lastOf J)
+        effect-is : ofWord s ≡ lastEffect J σ
+        effect-is = ap ofWord (s-is ∙ (λ i. getD (came .effects i) (last-is i) 0)) ∙ effect-back (length (w .effects)) (σ .effects) (lastOf J)
 
-        below-is : jobOps (length (w .names)) J .effBelow (lastEffect J σ) (J .rights) ≡ b
+        below-is : jobOps (length (w .job .names)) J .effBelow (lastEffect J σ) (J .rights) ≡ b
         unfolding jobOps shapeOf
-        below-is = sym (b-is ∙ (λ i. effBelowBy (sym anc-by i) (effect-is i) (given .shape i .rights)))
+        below-is = sym (b-is ∙ (λ i. effectsBy (sym anc-by i) (effect-is i) (ofWord (given .shape i .rights))))
 
         -- 14
         pub typed-beyond : b ≡ false → Judged bytes J (Refused 14 e) left
         typed-beyond f =
-            refused-by 14 e left
-            (verdict-beyond (jobOps (length (w .names))) (λ K k. agree (length (w .names)) k) bytes J (given .is-read) σ scoped (came .is-whole) (below-is ∙ f)
+            judged.refused-by 14 e left
+            (verdict-beyond (jobOps (length (w .job .names))) (λ K k. agree (length (w .job .names)) k) bytes J (is-read) σ scoped (came .is-whole) (below-is ∙ f)
             ∙ (λ i. rules.refuse (record { number = 14; place = sym last-is i })))
 
         pub typed-within : b ≡ true → {t : ℕ} → t ≡ getD os e 0 → Judged bytes J (Accepted t s) left
-        unfolding filledFrom
+        unfolding filledFrom filledWith
         typed-within f {t} t-is =
             let r : t ≡ lastEntry J σ = t-is ∙ (λ i. getD (came .entries i) (last-is i) 0) ∙ filled-at (length (w .entries)) (σ .of) (lastOf J) in
             let c : Fits σ = inv-fits job-ok (omega arith) (came .state) in
-            let lt : length ts ≡ length (w .types) = ap length (came .types) ∙ filled-length (length (w .types)) (typeWords (σ .entries)) (omega (arith, c .few, long .types, length-map (σ .entries) typeWord)) in
-            let ls : length ss ≡ length (w .sets) = ap length (came .sets) ∙ filled-length (length (w .sets)) (setWords (σ .entries)) (omega (arith, c .few, long .sets, length-map (σ .entries) setWord)) in
+            let lt : length ts ≡ length (w .job .types) = ap length (came .types) ∙ filled-length (length (w .job .types)) (typeWords (σ .entries)) (omega (arith, c .few, long .job .types, length-map (σ .entries) typeWord)) in
+            let ls : length ss ≡ length (w .job .sets) = ap length (came .sets) ∙ filled-length (length (w .job .sets)) (setWords (σ .entries)) (omega (arith, c .few, long .job .sets, length-map (σ .entries) setWord)) in
             let lo : length os ≡ length (w .entries) = ap length (came .entries) ∙ filled-length (length (w .entries)) (σ .of) (omega (arith, came .state .count-of, long .entries, job-ok .few-cmds)) in
-            let le : length es ≡ length (w .effects) = ap length (came .effects) ∙ filled-length (length (w .effects)) (σ .effects) (omega (arith, came .state .count-effects, long .effects, job-ok .few-cmds)) in
+            let le : length es ≡ length (w .effects) = ap length (came .effects) ∙ filled-length (length (w .effects)) (effectWords (σ .effects)) (omega (arith, length-map (σ .effects) (λ (s : Effect). s .set), came .state .count-effects, long .effects, job-ok .few-cmds)) in
             let kt : ts ≡ filled (length ts) 0 (typeWords (σ .entries)) = came .types ∙ (λ i. filled (sym lt i) 0 (typeWords (σ .entries))) in
             let ks : ss ≡ filled (length ss) 0 (setWords (σ .entries)) = came .sets ∙ (λ i. filled (sym ls i) 0 (setWords (σ .entries))) in
             let ko : os ≡ filled (length os) 0 (σ .of) = came .entries ∙ (λ i. filled (sym lo i) 0 (σ .of)) in
-            let ke : es ≡ filled (length es) 0 (σ .effects) = came .effects ∙ (λ i. filled (sym le i) 0 (σ .effects)) in
-            accepted (length (w .names)) σ left t s (came .is-whole) (came .state)
-            (λ i. tables (given .names i) (kt i) (ks i) (given .values i) (given .heads i) (given .slots i) (ko i) (ke i)) r effect-is
-            (verdict-within (jobOps (length (w .names))) (λ K k. agree (length (w .names)) k) bytes J (given .is-read) σ scoped (came .is-whole) (below-is ∙ f)
+            let ke : es ≡ filled (length es) 0 (effectWords (σ .effects)) = came .effects ∙ (λ i. filled (sym le i) 0 (effectWords (σ .effects))) in
+            accepted (length (w .job .names)) σ left t s (came .is-whole) (came .state)
+            (λ i. tables (names-is i) (kt i) (ks i) (values-is i) (heads-is i) (slots-is i) (ko i) (ke i)) r effect-is
+            (verdict-within (jobOps (length (w .job .names))) (λ K k. agree (length (w .job .names)) k) bytes J (is-read) σ scoped (came .is-whole) (below-is ∙ f)
             ∙ (λ i. rules.accept (tree (σ .entries) (sym r i)) (sym effect-is i)))
-
--- Reading
-
-module _ {bytes : List ℕ} {r : Answer} {w : Tables} (l : Long w) {n t s v h p : List ℕ} (to : ReadTo bytes r (w .names) (w .types) (w .sets) (w .values) (w .heads) (w .slots) n t s v h p) where
-  answer-is : r ≡ answerOf (reading bytes)
-  answer-is = to .answer ∙ ap (λ (b : Bool). cond b (answerOf (reading bytes)) (Rattle.job.specs.Answer.refusedBy 1 0)) (long-by w l)
-
-  after-is : (words : Job → List ℕ) (x y : List ℕ) → y ≡ afterOf (longTables (w .names) (w .types) (w .sets) (w .values) (w .heads) (w .slots)) words (reading bytes) x → y ≡ tableOf words (reading bytes) (length x)
-  unfolding afterOf
-  after-is words x y e = e ∙ ap (λ (b : Bool). cond b (tableOf words (reading bytes) (length x)) x) (long-by w l)
-
-  refused-words : (words : Job → List ℕ) (x y : List ℕ) (q : Refusal) → reading bytes ≡ refused q → y ≡ tableOf words (reading bytes) (length x) → y ≡ replicate (length x) 0
-  unfolding tableOf
-  refused-words words x y q z e = e ∙ ap (λ (o : Read). tableOf words o (length x)) z
-
-  read-words : (words : Job → List ℕ) (x y : List ℕ) (J : Job) → reading bytes ≡ read J → y ≡ tableOf words (reading bytes) (length x) → length y ≡ length x → y ≡ filled (length y) 0 (words J)
-  unfolding tableOf
-  read-words words x y J z e k = e ∙ ap (λ (o : Read). tableOf words o (length x)) z ∙ ap (λ (i : ℕ). filled i 0 (words J)) (sym k)
 
 -- Tables of the same lengths
 
 pub record Lengths (w x : Tables) : Type 0 where
-  pub names : length (w .names) ≡ length (x .names)
-  pub types : length (w .types) ≡ length (x .types)
-  pub sets : length (w .sets) ≡ length (x .sets)
-  pub values : length (w .values) ≡ length (x .values)
-  pub heads : length (w .heads) ≡ length (x .heads)
-  pub slots : length (w .slots) ≡ length (x .slots)
+  pub job : lengths.Lengths (w .job) (x .job)
   pub entries : length (w .entries) ≡ length (x .entries)
   pub effects : length (w .effects) ≡ length (x .effects)
 
 cleared-same : (w x : Tables) → Lengths w x → cleared w ≡ cleared x
 unfolding cleared zeros
-cleared-same w x l =
-    λ i.
-    tables (replicate (l .names i) 0) (replicate (l .types i) 0) (replicate (l .sets i) 0) (replicate (l .values i) 0) (replicate (l .heads i) 0) (replicate (l .slots i) 0) (replicate (l .entries i) 0) (replicate (l .effects i) 0)
+cleared-same w x l = λ i. record { job = lengths.cleared-same (l .job) i; entries = replicate (l .entries i) 0; effects = replicate (l .effects i) 0 }
 
 from-same : (J : Job) (σ : Sofar) (w x : Tables) → Lengths w x → filledFrom J σ w ≡ filledFrom J σ x
 unfolding filledFrom
-from-same J σ w x l =
-    λ i.
-    tables (filled (l .names i) 0 (nameWords J)) (filled (l .types i) 0 (typeWords (σ .entries))) (filled (l .sets i) 0 (setWords (σ .entries))) (filled (l .values i) 0 (valueWords J)) (filled (l .heads i) 0 (headWords J))
-    (filled (l .slots i) 0 (slotWords J)) (filled (l .entries i) 0 (σ .of)) (filled (l .effects i) 0 (σ .effects))
+from-same J σ w x l = λ i. record { job = filled-same (l .job) (σ .entries) J i; entries = filled (l .entries i) 0 (σ .of); effects = filled (l .effects i) 0 (effectWords (σ .effects)) }
 
 short-same : (w x : Tables) → Lengths w x → short w ≡ short x
 unfolding short
-short-same w x l =
-    λ i.
-    ltb (l .names i) 64 or ltb (l .types i) most-entries or ltb (l .sets i) most-entries or ltb (l .values i) 64 or ltb (l .heads i) 512 or ltb (l .slots i) 2560 or ltb (l .entries i) 512 or ltb (l .effects i) 512
+short-same w x l = λ i. lengths.short-same (l .job) i or ltb (l .entries i) most-expressions or ltb (l .effects i) most-expressions
 
 kept-same : (v : rules.Verdict) (r : Read) (w x : Tables) → Lengths w x → keptOn v r w ≡ keptOn v r x
-unfolding keptOn filledRead filledBy
+unfolding keptOn filledBy
 kept-same (rules.accept T e) (refused u) w x l = cleared-same w x l
 kept-same (rules.accept T e) (read J) w x l =
-    λ i.
-    tables (filled (l .names i) 0 (nameWords J)) (filled (l .types i) 0 (typeWords (layoutFor J .entries))) (filled (l .sets i) 0 (setWords (layoutFor J .entries))) (filled (l .values i) 0 (valueWords J)) (filled (l .heads i) 0 (headWords J))
-    (filled (l .slots i) 0 (slotWords J)) (filled (l .entries i) 0 (layoutFor J .of)) (filled (l .effects i) 0 (map effectOf (types (sourceOf J))))
+    λ i. record {
+      job = filled-same (l .job) (layoutFor J .entries) J i;
+      entries = filled (l .entries i) 0 (layoutFor J .of);
+      effects = filled (l .effects i) 0 (effectWords (map effectOf (types (sourceOf J))));
+    }
 kept-same (rules.refuse n) r w x l = cleared-same w x l
 
 -- The answers of the check
@@ -302,8 +276,12 @@ check-on {bytes} {r} {w} {x} {y} l h c =
 refused-not : {X : Type 0} {n p i s : ℕ} → Refused n p ≡ Accepted i s → X
 refused-not e = absurd (let z : _≡_ {A = ℕ} 0 1 = cc in omega arith)
 
+-- the same tables
+same : {w : Tables} → Lengths w w
+same = record { job = record { names = refl; types = refl; sets = refl; values = refl; heads = refl; slots = refl }; entries = refl; effects = refl }
+
 -- 1
-pub short-to : (bytes : List ℕ) (w : Tables) → short w ≡ true → CheckTo bytes (refusedBy 1 0) w w
+short-to : (bytes : List ℕ) (w : Tables) → short w ≡ true → CheckTo bytes (refusedBy 1 0) w w
 unfolding verdictIn verdictWith shapeFor
 short-to bytes w h =
     record {
@@ -313,8 +291,11 @@ short-to bytes w h =
       entry = λ i s e. refused-not e;
     }
 
+pub short-told : {bytes : List ℕ} {r : Checked} {w : Tables} → r ≡ refusedBy 1 0 → short w ≡ true → CheckTo bytes r w w
+short-told {bytes} {r} {w} e h = subst (λ (c : Checked). CheckTo bytes c w w) (sym e) (short-to bytes w h)
+
 -- every other refusal
-pub refused-to : {bytes : List ℕ} {w x y : Tables} {n p : ℕ} → Lengths w x → short w ≡ false → rules.verdictOf bytes ≡ rules.refuse (record { number = n; place = p }) → y ≡ cleared x → CheckTo bytes (refusedBy n p) w y
+refused-to : {bytes : List ℕ} {w x y : Tables} {n p : ℕ} → Lengths w x → short w ≡ false → rules.verdictOf bytes ≡ rules.refuse (record { number = n; place = p }) → y ≡ cleared x → CheckTo bytes (refusedBy n p) w y
 unfolding verdictIn shapeFor
 refused-to {bytes} {w} {x} {y} {n} {p} l h v c =
     let z : verdictWith w bytes ≡ rules.refuse (record { number = n; place = p }) = with-long w bytes h ∙ v in
@@ -325,9 +306,9 @@ refused-to {bytes} {w} {x} {y} {n} {p} l h v c =
       entry = λ i s e. refused-not e;
     }
 
-pub judged-refused : {bytes : List ℕ} {J : Job} {v : Verdict} {x : Tables} {n p : ℕ} → Judged bytes J v x → v ≡ Refused n p → rules.verdictOf bytes ≡ rules.refuse (record { number = n; place = p })
+judged-refused : {bytes : List ℕ} {J : Job} {v : Verdict} {x : Tables} {n p : ℕ} → Judged bytes J v x → v ≡ Refused n p → rules.verdictOf bytes ≡ rules.refuse (record { number = n; place = p })
 judged-refused (accepted k σ x i s a b c d e f) q = absurd (let z : _≡_ {A = ℕ} 0 1 = cc in omega arith)
-judged-refused (refused-by m o x f) q = f ∙ (λ i. rules.refuse (record { number = number (q i); place = place (q i) }))
+judged-refused (judged.refused-by m o x f) q = f ∙ (λ i. rules.refuse (record { number = number (q i); place = place (q i) }))
   where
     number : Verdict → ℕ
     number (Accepted i s) = 0
@@ -340,12 +321,12 @@ judged-refused (refused-by m o x f) q = f ∙ (λ i. rules.refuse (record { numb
 -- the entry of the last expression stands in the table
 last-entry : (J : Job) (σ : Sofar) (g : Shape) (l : List ℕ) (k : ℕ) → g ≡ shapeOf J → l ≡ filled k 0 (σ .of) → lastEntry J σ ≡ lastIn l (g .cmds)
 unfolding lastIn lastOf shapeOf
-last-entry J σ g l k m n = rw (m, n) (sym (filled-at k (σ .of) (past (length (J .cmds)))))
+last-entry J σ g l k m n = rw (m, n) (sym (filled-at k (σ .of) (predecessor (length (J .cmds)))))
 
 -- an acceptance
-pub accepted-to : {bytes : List ℕ} {J : Job} {v : Verdict} {g : Shape} {w x : Tables} {t u : ℕ} → reading bytes ≡ read J → g ≡ shapeOf J → Lengths w x → short w ≡ false → Judged bytes J v x → v ≡ Accepted t u
+accepted-to : {bytes : List ℕ} {J : Job} {v : Verdict} {g : Shape} {w x : Tables} {t u : ℕ} → reading bytes ≡ read J → g ≡ shapeOf J → Lengths w x → short w ≡ false → Judged bytes J v x → v ≡ Accepted t u
     → CheckTo bytes (record { verdict = Accepted t u; shape = g }) w x
-accepted-to q m l h (refused-by n p x f) z = absurd (let y : _≡_ {A = ℕ} 0 1 = cc in omega arith)
+accepted-to q m l h (judged.refused-by n p x f) z = absurd (let y : _≡_ {A = ℕ} 0 1 = cc in omega arith)
 accepted-to {bytes} {J} {g = g} {w} q m l h (accepted k σ x i s a b c d e f) z =
     subst (λ (y : Verdict). CheckTo bytes (record { verdict = y; shape = g }) w x) z
     (record {
@@ -359,72 +340,119 @@ accepted-to {bytes} {J} {g = g} {w} q m l h (accepted k σ x i s a b c d e f) z 
     number (Accepted j o) = j
     number (Refused j o) = 0
 
-    whole-verdict : verdictWith w bytes ≡ rules.accept (tree (σ .entries) i) s
+    whole-verdict : verdictWith w bytes ≡ rules.accept (tree (σ .entries) i) (ofWord s)
     whole-verdict = with-long w bytes h ∙ f
 
-    trees : rules.accept (treeOf (x .types) (x .sets) i) s ≡ rules.accept (tree (σ .entries) i) s
+    trees : rules.accept (treeOf (x .job .types) (x .job .sets) i) (ofWord s) ≡ rules.accept (tree (σ .entries) i) (ofWord s)
     trees =
-        let n : x .types ≡ filled (length (x .types)) 0 (typeWords (σ .entries)) = unfold filledFrom in ap (λ (y : Tables). y .types) c in
-        let o : x .sets ≡ filled (length (x .sets)) 0 (setWords (σ .entries)) = unfold filledFrom in ap (λ (y : Tables). y .sets) c in
-        (λ j. rules.accept (treeOf (n j) (o j) i) s) ∙ ap (λ (T : Ty). rules.accept T s) (tree-is σ (inv-fits (read-ok bytes J q) (omega arith) b) (length (x .types)) (length (x .sets)) i)
+        let n : x .types ≡ filled (length (x .job .types)) 0 (typeWords (σ .entries)) = unfold filledFrom filledWith in ap (λ (y : Tables). y .job .types) c in
+        let o : x .sets ≡ filled (length (x .job .sets)) 0 (setWords (σ .entries)) = unfold filledFrom filledWith in ap (λ (y : Tables). y .job .sets) c in
+        (λ j. rules.accept (treeOf (n j) (o j) i) (ofWord s)) ∙ ap (λ (T : Ty). rules.accept T (ofWord s)) (tree-is σ (inv-fits (read-ok bytes J q) (omega arith) b) (length (x .job .types)) (length (x .job .sets)) i)
 
--- Reading, then the rest
+-- A job that is loaded: its entries and effects are cleared, and its expressions are typed
 
-module _ {bytes : List ℕ} {r : Answer} {w : Tables} (long : short w ≡ false) {n t s v h p o e : List ℕ} (to : ReadTo bytes r (w .names) (w .types) (w .sets) (w .values) (w .heads) (w .slots) n t s v h p)
-    (o-is : o ≡ replicate (length (w .entries)) 0) (e-is : e ≡ replicate (length (w .effects)) 0) where
-  l : Long w
-  l = long-is w long
+module _ {bytes : List ℕ} {J : Job} {g : Shape} {w : Tables} {o e : List ℕ} (o-is : o ≡ zeros (w .entries)) (e-is : e ≡ zeros (w .effects)) (given : Given bytes J g w) where
+  abbrev w' : Tables
+  w' = record { job = w .job; entries = o; effects = e }
 
-  pub read-refused : (k : job-refusal.Refusal) → r ≡ answers.Refused k → CheckTo bytes (refusedBy (k .number) (k .place)) w (tables n t s v h p o e)
-  unfolding answerOf cleared zeros
-  read-refused m q = at (reading bytes) refl (answer-is l to)
+  as-long : Lengths w w'
+  unfolding zeros
+  as-long =
+      record {
+        job = record { names = refl; types = refl; sets = refl; values = refl; heads = refl; slots = refl };
+        entries = sym (ap length o-is ∙ length-replicate (length (w .entries)) 0);
+        effects = sym (ap length e-is ∙ length-replicate (length (w .effects)) 0);
+      }
+
+  given-clear : Given bytes J g w'
+  given-clear =
+      record { bytes-are = given .bytes-are; is-loaded = given .is-loaded; shape = given .shape; job = given .job; long = sym (short-same w w' as-long) ∙ given .long }
+
+  untyped : Untyped w'
+  unfolding zeros
+  untyped = record { entries = o-is ∙ ap (λ (n : ℕ). replicate n 0) (as-long .entries); effects = e-is ∙ ap (λ (n : ℕ). replicate n 0) (as-long .effects) }
+
+  module _ {v : Verdict} {x : Tables} (j : Given bytes J g w' → Untyped w' → Judged bytes J v x) (l : Lengths w' x) where
+    judged-to : Judged bytes J v x
+    judged-to = j given-clear untyped
+
+    long-clear : short w' ≡ false
+    long-clear = given-clear .long
+
+    pub settled : {t u : ℕ} → v ≡ Accepted t u → CheckTo bytes (record { verdict = Accepted t u; shape = g }) w x
+    settled q = check-on as-long (given .long) (accepted-to (is-read given) (given .shape) l long-clear judged-to q)
+
+    pub settled-refused : {c : Checked} {n p : ℕ} {y : Tables} → v ≡ Refused n p → c ≡ refusedBy n p → y ≡ cleared x → CheckTo bytes c w y
+    settled-refused {y = y} q d z =
+        subst (λ (c : Checked). CheckTo bytes c w y) (sym d) (check-on as-long (given .long) (refused-to l long-clear (judged-refused judged-to q) z))
+
+-- Loading, then the rest
+
+pub short-entries : (w : Tables) → length (w .entries) < most-expressions → short w ≡ true
+unfolding short
+short-entries w h = or-l _ _ (or-r (loads.short (w .job)) _ (lt-ltb _ _ h))
+
+pub short-effects : (w : Tables) → length (w .effects) < most-expressions → short w ≡ true
+unfolding short
+short-effects w h = or-r _ _ (lt-ltb _ _ h)
+
+-- whether all are long enough is then decided by the load
+decided : (w : Tables) → most-expressions ≤ length (w .entries) → most-expressions ≤ length (w .effects) → short w ≡ loads.short (w .job)
+unfolding short _or_
+decided w h k = (λ i. loads.short (w .job) or le-ltb _ most-expressions h i or le-ltb _ most-expressions k i) ∙ at (loads.short (w .job))
+  where
+    at : (b : Bool) → (b or false or false) ≡ b
+    at true = refl
+    at false = refl
+
+module _ {bytes : List ℕ} {r : Answer} {w : Tables} (ho : most-expressions ≤ length (w .entries)) (he : most-expressions ≤ length (w .effects)) {x : JobTables} (to : LoadTo bytes r (w .job) x) where
+  load-out : {o e : List ℕ} (k : Refused-with) → r ≡ answers.Refused k → o ≡ unlessOne (k .number) (w .entries) → e ≡ unlessOne (k .number) (w .effects)
+      → CheckTo bytes (refusedBy (k .number) (k .place)) w (record { job = x; entries = o; effects = e })
+  unfolding unlessOne cleared holding
+  load-out {o} {e} k q oi ei = at (loads.short (w .job)) refl
     where
-      number : Answer → ℕ
-      number (answers.Job g) = 0
-      number (answers.Refused y) = y .number
+      number : Read → ℕ
+      number (refused y) = y .number
+      number (read J) = 0
 
-      place : Answer → ℕ
-      place (answers.Job g) = 0
-      place (answers.Refused y) = y .place
+      place : Read → ℕ
+      place (refused y) = y .place
+      place (read J) = 0
 
-      at : (x : Read) → reading bytes ≡ x → r ≡ answerOf x → CheckTo bytes (refusedBy (m .number) (m .place)) w (tables n t s v h p o e)
-      at (read J) y z = absurd (let c : _≡_ {A = ℕ} 0 1 = cc in omega arith)
-      at (refused u) y z =
-          let k : answerOf (refused u) ≡ answers.Refused m = sym z ∙ q in
-          refused-to {x = w} (record { names = refl; types = refl; sets = refl; values = refl; heads = refl; slots = refl; entries = refl; effects = refl }) long
-          (verdict-refused (jobOps 0) (λ K j. agree 0 j) bytes u y ∙ (λ i. rules.refuse (record { number = number (k i); place = place (k i) })))
-          (λ i.
-          tables (refused-words l to nameWords (w .names) n u y (after-is l to nameWords (w .names) n (to .names)) i)
-          (refused-words l to (λ J. typeWords (J .types)) (w .types) t u y (after-is l to (λ J. typeWords (J .types)) (w .types) t (to .types)) i)
-          (refused-words l to (λ J. setWords (J .types)) (w .sets) s u y (after-is l to (λ J. setWords (J .types)) (w .sets) s (to .sets)) i)
-          (refused-words l to valueWords (w .values) v u y (after-is l to valueWords (w .values) v (to .values)) i)
-          (refused-words l to headWords (w .heads) h u y (after-is l to headWords (w .heads) h (to .heads)) i)
-          (refused-words l to slotWords (w .slots) p u y (after-is l to slotWords (w .slots) p (to .slots)) i) (o-is i) (e-is i))
+      at : (b : Bool) → loads.short (w .job) ≡ b → CheckTo bytes (refusedBy (k .number) (k .place)) w (record { job = x; entries = o; effects = e })
+      at true l =
+          let z : refusedAt 1 0 ≡ refusedAt (k .number) (k .place) = sym (short-load (w .job) bytes l) ∙ refused-by to k q in
+          let n : 1 ≡ k .number = ap number z in
+          let d : o ≡ w .entries = oi ∙ sym (ap (λ (m : ℕ). unlessOne m (w .entries)) n) in
+          let f : e ≡ w .effects = ei ∙ sym (ap (λ (m : ℕ). unlessOne m (w .effects)) n) in
+          let t : x ≡ w .job = to .tables ∙ short-after (w .job) bytes l in
+          subst (λ (y : ℕ × ℕ × Tables). CheckTo bytes (refusedBy (y .0) (y .1)) w (y .2))
+          (λ i. (n i, ap place z i, record { job = sym t i; entries = sym d i; effects = sym f i }))
+          (short-to bytes w (decided w ho he ∙ l))
+      at false l =
+          let z : loading bytes ≡ refusedAt (k .number) (k .place) = sym (long-load (w .job) bytes l) ∙ refused-by to k q in
+          let n : eqb (k .number) 1 ≡ false = ne-eqb (k .number) 1 (λ j. absurd (omega (arith, load-number bytes _ z .0))) in
+          let d : o ≡ zeros (w .entries) = oi ∙ ap (λ (b : Bool). cond b (w .entries) (zeros (w .entries))) n in
+          let f : e ≡ zeros (w .effects) = ei ∙ ap (λ (b : Bool). cond b (w .effects) (zeros (w .effects))) n in
+          let t : x ≡ loads.cleared (w .job) = to .tables ∙ long-after (w .job) bytes l ∙ ap (λ (R : Read). holding R (w .job)) z in
+          refused-to {x = w} same (decided w ho he ∙ l) (verdict-load bytes _ z) (λ i. record { job = t i; entries = d i; effects = f i })
 
-  pub read-settled : {g : Shape} {c : Checked} {y : Tables} → Bytes bytes → r ≡ answers.Job g → Lengths w (tables n t s v h p o e)
-      → ((J : Job) → Given bytes J g (tables n t s v h p o e) → CheckTo bytes c (tables n t s v h p o e) y) → CheckTo bytes c w y
-  read-settled {g} {c} {y} b q m f = at (reading bytes) refl (answer-is l to)
-    where
-      shape : Answer → Shape
-      shape (answers.Job k) = k
-      shape (answers.Refused k) = noShape
+  pub load-refused : {c : Checked} {o e : List ℕ} (k : Refused-with) → r ≡ answers.Refused k → c ≡ refusedBy (k .number) (k .place) → o ≡ unlessOne (k .number) (w .entries) → e ≡ unlessOne (k .number) (w .effects)
+      → CheckTo bytes c w (record { job = x; entries = o; effects = e })
+  load-refused {o = o} {e} k q d oi ei = subst (λ (c : Checked). CheckTo bytes c w (record { job = x; entries = o; effects = e })) (sym d) (load-out k q oi ei)
 
-      at : (x : Read) → reading bytes ≡ x → r ≡ answerOf x → CheckTo bytes c w y
-      at (refused u) z k = unfold answerOf in absurd (let d : _≡_ {A = ℕ} 0 1 = cc in omega arith)
-      at (read J) z k =
-          check-on m long
-          (f J
-          (record {
-            bytes-are = b;
-            is-read = z;
-            shape = unfold answerOf in ap shape (sym q ∙ k);
-            names = read-words l to nameWords (w .names) n J z (after-is l to nameWords (w .names) n (to .names)) (sym (m .names));
-            types = read-words l to (λ K. typeWords (K .types)) (w .types) t J z (after-is l to (λ K. typeWords (K .types)) (w .types) t (to .types)) (sym (m .types));
-            sets = read-words l to (λ K. setWords (K .types)) (w .sets) s J z (after-is l to (λ K. setWords (K .types)) (w .sets) s (to .sets)) (sym (m .sets));
-            values = read-words l to valueWords (w .values) v J z (after-is l to valueWords (w .values) v (to .values)) (sym (m .values));
-            heads = read-words l to headWords (w .heads) h J z (after-is l to headWords (w .heads) h (to .heads)) (sym (m .heads));
-            slots = read-words l to slotWords (w .slots) p J z (after-is l to slotWords (w .slots) p (to .slots)) (sym (m .slots));
-            entries = o-is ∙ ap (λ (i : ℕ). replicate i 0) (m .entries);
-            effects = e-is ∙ ap (λ (i : ℕ). replicate i 0) (m .effects);
-            long = sym (short-same w (tables n t s v h p o e) m) ∙ long;
-          }))
+  pub load-settled : {g : Shape} {c : Checked} {y : Tables} → Bytes bytes → r ≡ answers.Job g → lengths.Lengths (w .job) x
+      → ((J : Job) → Given bytes J g (record { job = x; entries = w .entries; effects = w .effects }) → CheckTo bytes c (record { job = x; entries = w .entries; effects = w .effects }) y) → CheckTo bytes c w y
+  load-settled {g} {c} {y} b q m f =
+      let z = job-loaded to q in
+      let long : short w ≡ false = decided w ho he ∙ z .long in
+      let l : Lengths w (record { job = x; entries = w .entries; effects = w .effects }) = record { job = m; entries = refl; effects = refl } in
+      check-on l long
+      (f (z .job)
+      (record {
+        bytes-are = b;
+        is-loaded = z .is;
+        shape = z .shape;
+        job = z .tables ∙ filled-same m (z .job .types) (z .job);
+        long = sym (short-same w _ l) ∙ long;
+      }))

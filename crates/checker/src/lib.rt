@@ -1,18 +1,21 @@
-// The check of a job: reading, the tree of its expressions, their types, and the rights; with the tables that it leaves.
+// The check of a job: it is loaded, its expressions are typed, and its effect is held against its rights; with the tables that it leaves.
 use elaborate::Passed;
+use job::Answer;
 use job::Shape;
-use job::clear16;
-use job::clear64;
-use names::at16;
-use names::at64;
+use table::MOST_EXPRESSIONS;
+use table::Refusal;
+use table::at16;
+use table::at64;
+use table::clear16;
+use table::clear64;
 ghost use mathlib.Core.Path.{_≡_};
 ghost use mathlib.Core.List.{List};
-ghost use mathlib.Core.Option.{none};
 ghost use Prim.Native.Nat.{ℕ, _%_};
-ghost use Rattle.syntax.specs.Job.{Job, sourceOf};
-ghost use Rattle.syntax.specs.Tree.{past, treeRefusal};
-ghost use Rattle.typing.specs.Tables.{short, cleared};
-ghost use Rattle.checker.specs.Answer.{tables, refusedBy, noShape, Given, Judged, CheckTo};
+ghost use Rattle.syntax.specs.Job.{Job};
+ghost use Rattle.syntax.specs.Tree.{predecessor};
+ghost use Rattle.typing.specs.Tables.{cleared};
+ghost use Rattle.checker.specs.Answer.{refusedBy, noShape, Given, Untyped, unlessOne, Judged, CheckTo};
+ghost use Rattle.checker.specs.Lent.{before, after, typedAfter};
 
 // Accepted, with the entry of the job's type and its effect; or refused, with the number and the place.
 pub enum Verdict {
@@ -48,46 +51,9 @@ fn refused(n: u8, p: usize) -> Checked
     }
 }
 
-// Whether a lent table is shorter than its limit.
-fn is_short<'a>(
-    names: &'a [u16],
-    types: &'a [u64],
-    sets: &'a [u64],
-    values: &'a [u64],
-    heads: &'a [u64],
-    slots: &'a [u16],
-    entries: &'a [u16],
-    effects: &'a [u64],
-) -> bool
-    ensures { λ r. ⌜ r ≡ short (tables (now (names .entry)) (now (types .entry)) (now (sets .entry)) (now (values .entry)) (now (heads .entry)) (now (slots .entry)) (now (entries .entry)) (now (effects .entry))) ⌝ }
-{
-    if names.len() < 64 {
-        return true;
-    }
-    if types.len() < 2304 {
-        return true;
-    }
-    if sets.len() < 2304 {
-        return true;
-    }
-    if values.len() < 64 {
-        return true;
-    }
-    if heads.len() < 512 {
-        return true;
-    }
-    if slots.len() < 2560 {
-        return true;
-    }
-    if entries.len() < 512 {
-        return true;
-    }
-    effects.len() < 512
-}
-
 // The last of n.
 fn last(n: usize) -> usize
-    ensures { λ r. ⌜ r ≡ past n ⌝ }
+    ensures { λ r. ⌜ r ≡ predecessor n ⌝ }
 {
     if n == 0 {
         return 0;
@@ -113,7 +79,12 @@ fn typed<'a>(
     entries: &mut [u16],
     effects: &mut [u64],
 ) -> Verdict
-    ensures { λ r. ⌜ ((bytes : List ℕ) (J : Job) → Given bytes J g (tables (now (names .entry)) (now (types .entry)) (now (sets .entry)) (now (values .entry)) (now (heads .entry)) (now (slots .entry)) (now (entries .entry)) (now (effects .entry))) → treeRefusal (sourceOf J) ≡ none → Judged bytes J r (tables (now (names .entry)) (now (types .exit)) (now (sets .exit)) (now (values .entry)) (now (heads .entry)) (now (slots .entry)) (now (entries .exit)) (now (effects .exit)))) ⌝ }
+    ensures { λ r. ⌜
+        ((bytes : List ℕ) (J : Job)
+        → Given bytes J g (before names types sets values heads slots entries effects)
+        → Untyped (before names types sets values heads slots entries effects)
+        → Judged bytes J r (typedAfter names types sets values heads slots entries effects))
+        ⌝ }
 {
     let anc = names::ancestors(names, g.names);
     match elaborate::number_all(
@@ -142,46 +113,6 @@ fn typed<'a>(
     }
 }
 
-// A job that is read: 8 to 10, then 11 to 13, then 14.
-fn judge<'a>(
-    g: Shape,
-    names: &'a [u16],
-    values: &'a [u64],
-    heads: &'a [u64],
-    slots: &'a [u16],
-    types: &mut [u64],
-    sets: &mut [u64],
-    entries: &mut [u16],
-    effects: &mut [u64],
-) -> Verdict
-    ensures { λ r. ⌜ ((bytes : List ℕ) (J : Job) → Given bytes J g (tables (now (names .entry)) (now (types .entry)) (now (sets .entry)) (now (values .entry)) (now (heads .entry)) (now (slots .entry)) (now (entries .entry)) (now (effects .entry))) → Judged bytes J r (tables (now (names .entry)) (now (types .exit)) (now (sets .exit)) (now (values .entry)) (now (heads .entry)) (now (slots .entry)) (now (entries .exit)) (now (effects .exit)))) ⌝ }
-{
-    match tree::tree(
-        heads,
-        slots,
-        g.cmds,
-        names,
-        g.names,
-        types,
-        sets,
-        g.types,
-        g.values,
-    ) {
-        tree::Answer::Refused(n, e) => return Verdict::Refused(n, e.0 as usize),
-        tree::Answer::Tree => return typed(
-            g,
-            names,
-            values,
-            heads,
-            slots,
-            types,
-            sets,
-            entries,
-            effects,
-        ),
-    }
-}
-
 // Every table zero to its end.
 fn clear_all(
     names: &mut [u16],
@@ -193,19 +124,31 @@ fn clear_all(
     entries: &mut [u16],
     effects: &mut [u64],
 )
-    ensures { λ _. ⌜ tables (now (names .exit)) (now (types .exit)) (now (sets .exit)) (now (values .exit)) (now (heads .exit)) (now (slots .exit)) (now (entries .exit)) (now (effects .exit)) ≡ cleared (tables (now (names .entry)) (now (types .entry)) (now (sets .entry)) (now (values .entry)) (now (heads .entry)) (now (slots .entry)) (now (entries .entry)) (now (effects .entry))) ⌝ }
+    ensures { λ _. ⌜
+        after names types sets values heads slots entries effects
+        ≡ cleared (before names types sets values heads slots entries effects)
+        ⌝ }
 {
-    clear16(names);
-    clear64(types);
-    clear64(sets);
-    clear64(values);
-    clear64(heads);
-    clear16(slots);
+    job::clear_all(names, types, sets, values, heads, slots);
     clear16(entries);
     clear64(effects);
 }
 
-// A job that is read: its verdict, and the tables that it leaves.
+// A job that is not loaded: 1 leaves the tables of entries and effects as they were, every other refusal clears them.
+fn unloaded(r: Refusal, entries: &mut [u16], effects: &mut [u64]) -> Checked
+    ensures answer { λ c. ⌜ c ≡ refusedBy (r .number) (r .place) ⌝ }
+    ensures entries { λ _. ⌜ now (entries .exit) ≡ unlessOne (r .number) (now (entries .entry)) ⌝ }
+    ensures effects { λ _. ⌜ now (effects .exit) ≡ unlessOne (r .number) (now (effects .entry)) ⌝ }
+{
+    if r.number == 1 {
+        return refused(r.number, r.place);
+    }
+    clear16(entries);
+    clear64(effects);
+    refused(r.number, r.place)
+}
+
+// A job that is loaded: its verdict, and the tables that it leaves.
 fn settle(
     g: Shape,
     names: &mut [u16],
@@ -217,9 +160,17 @@ fn settle(
     entries: &mut [u16],
     effects: &mut [u64],
 ) -> Checked
-    ensures { λ r. ⌜ ((bytes : List ℕ) (J : Job) → Given bytes J g (tables (now (names .entry)) (now (types .entry)) (now (sets .entry)) (now (values .entry)) (now (heads .entry)) (now (slots .entry)) (now (entries .entry)) (now (effects .entry))) → CheckTo bytes r (tables (now (names .entry)) (now (types .entry)) (now (sets .entry)) (now (values .entry)) (now (heads .entry)) (now (slots .entry)) (now (entries .entry)) (now (effects .entry))) (tables (now (names .exit)) (now (types .exit)) (now (sets .exit)) (now (values .exit)) (now (heads .exit)) (now (slots .exit)) (now (entries .exit)) (now (effects .exit)))) ⌝ }
+    ensures { λ r. ⌜
+        ((bytes : List ℕ) (J : Job)
+        → Given bytes J g (before names types sets values heads slots entries effects)
+        → CheckTo bytes r
+        (before names types sets values heads slots entries effects)
+        (after names types sets values heads slots entries effects))
+        ⌝ }
 {
-    match judge(
+    clear16(entries);
+    clear64(effects);
+    match typed(
         g,
         names,
         values,
@@ -254,16 +205,21 @@ pub fn check(
     entries: &mut [u16],
     effects: &mut [u64],
 ) -> Checked
-    ensures { λ r. ⌜ CheckTo (now (job .entry)) r (tables (now (names .entry)) (now (types .entry)) (now (sets .entry)) (now (values .entry)) (now (heads .entry)) (now (slots .entry)) (now (entries .entry)) (now (effects .entry))) (tables (now (names .exit)) (now (types .exit)) (now (sets .exit)) (now (values .exit)) (now (heads .exit)) (now (slots .exit)) (now (entries .exit)) (now (effects .exit))) ⌝ }
+    ensures { λ r. ⌜
+        CheckTo (now (job .entry)) r
+        (before names types sets values heads slots entries effects)
+        (after names types sets values heads slots entries effects)
+        ⌝ }
 {
-    if is_short(names, types, sets, values, heads, slots, entries, effects) {
+    if entries.len() < MOST_EXPRESSIONS {
         return refused(1, 0);
     }
-    job::clear16(entries);
-    job::clear64(effects);
-    match job::read(job, names, types, sets, values, heads, slots) {
-        job::Answer::Refused(r) => return refused(r.number, r.place),
-        job::Answer::Job(g) => return settle(
+    if effects.len() < MOST_EXPRESSIONS {
+        return refused(1, 0);
+    }
+    match load::load(job, names, types, sets, values, heads, slots) {
+        Answer::Refused(r) => return unloaded(r, entries, effects),
+        Answer::Job(g) => return settle(
             g,
             names,
             types,

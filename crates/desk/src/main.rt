@@ -4,6 +4,7 @@ use format::Text;
 use libc::STDERR_FILENO;
 use libc::STDIN_FILENO;
 use libc::STDOUT_FILENO;
+use print::MOST_BYTES;
 ghost use mathlib.Core.Path.{_≡_};
 ghost use mathlib.Core.Bool.{cond};
 ghost use mathlib.Core.List.{[]};
@@ -81,7 +82,7 @@ fn write(bytes: &[u8], n: usize) -> bool {
 }
 
 fn main() {
-    let mut job = [0u8; 16384];
+    let mut job = [0u8; MOST_BYTES];
     let input = read_all(&mut job);
     let n = input.length;
     let text = reply(&job[..n], input.whole);

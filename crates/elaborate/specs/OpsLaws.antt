@@ -1,6 +1,6 @@
 -- The operations by the tables of a job that was read are those of the order.
 use mathlib.Core.Path.{_≡_, sym, ap, _∙_}
-use Prim.Native.Nat.{ℕ, suc, _+_, _-_, _%_, _^_, _≤_, _<_}
+use Prim.Native.Nat.{ℕ, suc, _+_, _-_, _%_, _≤_, _<_}
 use native.Mathlib.Omega.{arith}
 use mathlib.Core.Bool.{true}
 use mathlib.Core.List.{List}
@@ -10,7 +10,8 @@ use lib.Dec.{eqb}
 use Rattle.order.specs.OrderLaws.{Proper}
 use Rattle.order.specs.Sets.{bit}
 use Rattle.order.specs.SetLaws.{bit-lt}
-use Rattle.order.specs.Effects.{Effect}
+use Rattle.order.specs.Effects.{Effect, ofWord, effBelow, touch, reduce, drop, raise}
+use Rattle.order.specs.EffectLaws.{Within}
 use Rattle.syntax.specs.Job.{Job, Name, uppers, upOf, sourceOf}
 use Rattle.syntax.specs.Words.{nameWords, filled}
 use Rattle.syntax.specs.ReadLaws.{JobOk}
@@ -58,18 +59,18 @@ module _ (k : ℕ) {J : Job} (j : JobOk J) where
       (ap (λ (n : ℕ). isUpper (getElem? (uppers (J .names)) n) u) (sym y) ∙ ap (λ (o : Option ℕ). isUpper o u) (upper-at (J .names) (r - 2) _ e)
       ∙ ap (λ (n : ℕ). eqb u (getD (filled k 0 (nameWords J)) n 0 % 256)) z)
 
-  within : (s : Effect) → s < 2 ^ length (uppers (J .names)) → (n : ℕ) → bit s n ≡ true → n < length (uppers (J .names))
-  within s h n e = bit-lt (length (uppers (J .names))) s n e h
+  within : (s : Effect) → Within (length (uppers (J .names))) s → (n : ℕ) → bit (s .set) n ≡ true → n < length (uppers (J .names))
+  within s h n e = bit-lt (length (uppers (J .names))) (s .set) n e h
 
   pub agree : Agree (upOf (sourceOf J)) (jobOps k J)
-  unfolding sourceOf jobOps
+  unfolding sourceOf jobOps effBelow touch reduce drop raise
   agree =
       record {
         over = λ r u h l m. over r u h l;
         below = λ a b h l. below-by proper few-up table a b;
-        effBelow = λ s t h l. eff-below-by proper few-up table s t (within s h);
-        touch = λ q s h l. touch-by q s (omega (arith, few-up));
-        reduce = λ s h. reduce-by proper few-up table s (within s h);
-        drop = λ r s h l. drop-by proper few-up table r s;
-        raise = λ r u s h l m. raise-by r u s (omega (arith, few-up)) (omega (arith, few-up));
+        effBelow = λ s t h l. eff-below-by proper few-up table (s .set) (t .set) (within s h);
+        touch = λ q s h l. ap ofWord (touch-by q (s .set) (omega (arith, few-up)));
+        reduce = λ s h. ap ofWord (reduce-by proper few-up table (s .set) (within s h));
+        drop = λ r s h l. ap ofWord (drop-by proper few-up table r (s .set));
+        raise = λ r u s h l m. ap ofWord (raise-by r u (s .set) (omega (arith, few-up)) (omega (arith, few-up)));
       }

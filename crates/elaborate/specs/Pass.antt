@@ -3,6 +3,7 @@ use mathlib.Core.Path.{_≡_}
 use Prim.Native.Nat.{ℕ, zero, suc, _+_, _%_}
 use mathlib.Core.List.{List}
 use lib.ListN.{getD, set, replicate}
+use Rattle.order.specs.Effects.{ofWord}
 use Rattle.syntax.specs.Words.{typeWord, setWord, codeIn, entryIn}
 use Rattle.typing.specs.Numbered.{Result, makes, points, wrong, resultAt}
 use Rattle.types.specs.Known.{Known}
@@ -32,8 +33,8 @@ nextOf (wrong k) n = Stop k
 -- the result of expression e is written
 unfoldable pub settled : Result → ℕ → Work → Work
 settled (makes x s) e w =
-    work (w .count + 1) (set (w .types) (w .count) (typeWord x)) (set (w .sets) (w .count) (setWord x)) (set (w .entries) e (w .count % 65536)) (set (w .effects) e s)
-settled (points i s) e w = work (w .count) (w .types) (w .sets) (set (w .entries) e i) (set (w .effects) e s)
+    work (w .count + 1) (set (w .types) (w .count) (typeWord x)) (set (w .sets) (w .count) (setWord x)) (set (w .entries) e (w .count % 65536)) (set (w .effects) e (s .set))
+settled (points i s) e w = work (w .count) (w .types) (w .sets) (set (w .entries) e i) (set (w .effects) e (s .set))
 settled (wrong k) e w = w
 
 -- so it is after `settle`
@@ -66,7 +67,7 @@ module _ (anc names vars heads slots : List ℕ) where
   -- the result of expression e, by the tables
   unfoldable pub resultBy : ℕ → Work → Result
   resultBy e w =
-      resultAt (opsBy anc names) (λ v. getD vars v 0) (entryIn (w .types) (w .sets)) (λ a. getD (w .entries) a 0) (λ a. getD (w .effects) a 0) (codeIn heads slots e)
+      resultAt (opsBy anc names) (λ v. getD vars v 0) (entryIn (w .types) (w .sets)) (λ a. getD (w .entries) a 0) (λ a. ofWord (getD (w .effects) a 0)) (codeIn heads slots e)
 
   -- n expressions from e on
   unfoldable pub typedFrom : ℕ → ℕ → Work → Out

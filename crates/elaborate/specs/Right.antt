@@ -5,6 +5,7 @@ use native.Mathlib.Omega.{arith}
 use mathlib.Core.List.{List, [], _∷_, _++_, map, List·Memᴰ, List·Memᴰ·head, List·Memᴰ·tail, List·Memᴰ·not-nil}
 use mathlib.Core.Option.{none}
 use lib.ListN.{length, getD, getElem?, set, replicate, drop, length-append, length-map, length-replicate}
+use Rattle.order.specs.Effects.{Effect, pure}
 use Rattle.syntax.specs.Types.{Ty, TypeEntry}
 use Rattle.syntax.specs.Commands.{Cmd, c-fn, c-newkey, mapCmd}
 use Rattle.syntax.specs.Operands.{nth, bindsVar}
@@ -17,10 +18,10 @@ use Rattle.syntax.specs.Context.{var-twice}
 use Rattle.syntax.specs.TreeExactly.{tree-ok}
 use Rattle.syntax.specs.Types.{tree}
 use Rattle.syntax.specs.RowLaws as rows
-use Rattle.syntax.specs.Words.{filled, nameWords, typeWord, setWord, typeWords, setWords, valueWords, headWords, slotWords, codeIn}
-use Rattle.syntax.specs.WordLaws.{JobFits, zeros-at, filled-at, filled-set, values-back, code-back}
+use Rattle.syntax.specs.Words.{filled, nameWords, typeWord, setWord, typeWords, setWords, valueWords, headWords, slotWords, effectWords, codeIn}
+use Rattle.syntax.specs.WordLaws.{JobFits, zeros-at, filled-at, effect-back, filled-set, values-back, code-back}
 use Rattle.typing.specs.Layout.{newKeys, keyEntries, boundVars, hostVars, varEntry}
-use Rattle.typing.specs.Tables.{most-entries}
+use Rattle.syntax.specs.Loading.{most-entries}
 use Rattle.typing.specs.Numbered.{Result, makes, points, wrong, resultAt, Sofar, settle, numberAt, next, Whole, whole, halted, onto, numberAll, startOf, numbering}
 use Rattle.typing.specs.NumberedTables.{keys-length}
 use Rattle.typing.specs.NumberedLaws.{Inv, Fits, inv-start, inv-next, inv-fits, inv-room, number-turn, number-end}
@@ -83,14 +84,14 @@ module _ {J : Job} (j : JobOk J) (scoped : treeRefusal (sourceOf J) ≡ none) wh
 
 -- the tables that a state of the typing stands for, by their lengths
 abbrev pub workOf : ℕ → ℕ → ℕ → ℕ → Sofar → Work
-workOf kt ks ko ke σ = work (length (σ .entries)) (filled kt 0 (typeWords (σ .entries))) (filled ks 0 (setWords (σ .entries))) (filled ko 0 (σ .of)) (filled ke 0 (σ .effects))
+workOf kt ks ko ke σ = work (length (σ .entries)) (filled kt 0 (typeWords (σ .entries))) (filled ks 0 (setWords (σ .entries))) (filled ko 0 (σ .of)) (filled ke 0 (effectWords (σ .effects)))
 
 -- what a pass and the typing come to
 pub data Reached (J : Job) (kt ks ko ke : ℕ) : Out → Whole → Type 0 where
   r-whole : (σ : Sofar) → Inv J (length (J .cmds)) σ → Reached J kt ks ko ke (out passed.Whole (workOf kt ks ko ke σ)) (whole σ)
   r-halted : (n e : ℕ) (w : Work) → Reached J kt ks ko ke (out (passed.Halted n e) w) (halted (record { number = n; place = e }))
 
-words-more : (f : TypeEntry → ℕ) (k : ℕ) (T : List TypeEntry) (x : TypeEntry) → length T < k → set (filled k 0 (map f T)) (length T) (f x) ≡ filled k 0 (map f (T ++ (x ∷ [])))
+words-more : {A : Type 0} (f : A → ℕ) (k : ℕ) (T : List A) (x : A) → length T < k → set (filled k 0 (map f T)) (length T) (f x) ≡ filled k 0 (map f (T ++ (x ∷ [])))
 words-more f k T x h = filled-set k (map f T) (length T) (f x) (omega (arith, length-map T f)) (sym (length-map T f)) ∙ ap (filled k 0) (sym (map-snoc f T x))
 
 module _ {J : Job} (j : JobOk J) (f : JobFits J) (scoped : treeRefusal (sourceOf J) ≡ none) (kn kt ks ko ke kv kh kp : ℕ)
@@ -147,16 +148,20 @@ module _ {J : Job} (j : JobOk J) (f : JobFits J) (scoped : treeRefusal (sourceOf
 
   module _ (vs : List ℕ) (var : (v : ℕ) → getD vs v 0 ≡ varEntry J v) where
     abbrev result : ℕ → Sofar → Result
-    result e σ = resultAt (jobOps kn J) (varEntry J) (getElem? (σ .entries)) (λ a. getD (σ .of) a 0) (λ a. getD (σ .effects) a 0) (nth (J .cmds) e)
+    result e σ = resultAt (jobOps kn J) (varEntry J) (getElem? (σ .entries)) (λ a. getD (σ .of) a 0) (λ a. getD (σ .effects) a pure) (nth (J .cmds) e)
 
     same-result : (e : ℕ) (σ : Sofar) → e ≤ length (J .cmds) → Inv J e σ
         → resultBy (ancestorsBy (J .names)) (filled kn 0 (nameWords J)) vs (filled kh 0 (headWords J)) (filled kp 0 (slotWords J)) e (workOf kt ks ko ke σ) ≡ result e σ
     unfolding resultBy jobOps
     same-result e σ h v =
         let g : Fits σ = inv-fits j h v in
-        λ i. resultAt (jobOps kn J) (λ x. var x i) (λ x. words-back σ g kt ks x i) (λ a. filled-at ko (σ .of) a i) (λ a. filled-at ke (σ .effects) a i) (code e i)
+        λ i. resultAt (jobOps kn J) (λ x. var x i) (λ x. words-back σ g kt ks x i) (λ a. filled-at ko (σ .of) a i) (λ a. effect-back ke (σ .effects) a i) (code e i)
 
-    makes-more : (e : ℕ) (σ : Sofar) → e < length (J .cmds) → Inv J e σ → (x : TypeEntry) (s : ℕ)
+    effects-more : (e : ℕ) (σ : Sofar) → e < length (J .cmds) → Inv J e σ → (s : Effect) → set (filled ke 0 (effectWords (σ .effects))) e (s .set) ≡ filled ke 0 (effectWords (σ .effects ++ (s ∷ [])))
+    effects-more e σ h v s =
+        ap (λ (n : ℕ). set (filled ke 0 (effectWords (σ .effects))) n (s .set)) (sym (v .count-effects)) ∙ words-more (λ (x : Effect). x .set) ke (σ .effects) s (omega (arith, v .count-effects, j .few-cmds))
+
+    makes-more : (e : ℕ) (σ : Sofar) → e < length (J .cmds) → Inv J e σ → (x : TypeEntry) (s : Effect)
         → settled (makes x s) e (workOf kt ks ko ke σ) ≡ workOf kt ks ko ke (record { entries = σ .entries ++ (x ∷ []); of = σ .of ++ (length (σ .entries) ∷ []); effects = σ .effects ++ (s ∷ []) })
     unfolding settled
     makes-more e σ h v x s =
@@ -164,15 +169,15 @@ module _ {J : Job} (j : JobOk J) (f : JobFits J) (scoped : treeRefusal (sourceOf
         let a : length (σ .entries) + 1 ≡ length (σ .entries ++ (x ∷ [])) = omega (arith, length-append (σ .entries) (x ∷ [])) in
         let b : length (σ .entries) % 65536 ≡ length (σ .entries) = omega arith in
         let c = ap (λ (n : ℕ). set (filled ko 0 (σ .of)) e n) b ∙ filled-set ko (σ .of) e (length (σ .entries)) (omega (arith, v .count-of, j .few-cmds)) (sym (v .count-of)) in
-        let d = filled-set ke (σ .effects) e s (omega (arith, v .count-effects, j .few-cmds)) (sym (v .count-effects)) in
+        let d = effects-more e σ h v s in
         λ i. work (a i) (words-more typeWord kt (σ .entries) x (omega arith) i) (words-more setWord ks (σ .entries) x (omega arith) i) (c i) (d i)
 
-    points-more : (e : ℕ) (σ : Sofar) → e < length (J .cmds) → Inv J e σ → (p s : ℕ)
+    points-more : (e : ℕ) (σ : Sofar) → e < length (J .cmds) → Inv J e σ → (p : ℕ) (s : Effect)
         → settled (points p s) e (workOf kt ks ko ke σ) ≡ workOf kt ks ko ke (record { entries = σ .entries; of = σ .of ++ (p ∷ []); effects = σ .effects ++ (s ∷ []) })
     unfolding settled
     points-more e σ h v p s =
         let c = filled-set ko (σ .of) e p (omega (arith, v .count-of, j .few-cmds)) (sym (v .count-of)) in
-        let d = filled-set ke (σ .effects) e s (omega (arith, v .count-effects, j .few-cmds)) (sym (v .count-effects)) in
+        let d = effects-more e σ h v s in
         λ i. work (length (σ .entries)) (filled kt 0 (typeWords (σ .entries))) (filled ks 0 (setWords (σ .entries))) (c i) (d i)
 
     one : (r : Result) (e : ℕ) (σ : Sofar) → e < length (J .cmds) → Inv J e σ → (go : Work → Out) (on : Sofar → Whole)

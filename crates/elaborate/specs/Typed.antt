@@ -7,9 +7,9 @@ use lib.ListN.{length}
 use Rattle.syntax.specs.Job.{Job, sourceOf}
 use Rattle.syntax.specs.ReadLaws.{JobOk}
 use Rattle.syntax.specs.Tree.{treeRefusal}
-use Rattle.syntax.specs.Words.{filled, nameWords, typeWords, setWords, valueWords, headWords, slotWords}
+use Rattle.syntax.specs.Words.{filled, nameWords, typeWords, setWords, valueWords, headWords, slotWords, effectWords}
 use Rattle.syntax.specs.WordLaws.{JobFits}
-use Rattle.typing.specs.Tables.{most-entries}
+use Rattle.syntax.specs.Loading.{most-entries}
 use Rattle.typing.specs.Numbered.{Whole, whole, halted, numbering}
 use Rattle.names.specs.Ancestors.{ancestorsBy}
 use Rattle.elaborate.specs.declared.Passed.{Passed}
@@ -54,7 +54,7 @@ pub record Held (J : Job) (k : Lengths) (anc names values heads slots : List ℕ
 -- the answer and the tables say what typing by numbers came to
 unfoldable pub Says : Lengths → Passed → List ℕ → List ℕ → List ℕ → List ℕ → Whole → Type 0
 Says k r ts ss os es (whole σ) =
-    (r ≡ passed.Whole) × (ts ≡ filled (k .types) 0 (typeWords (σ .entries))) × (ss ≡ filled (k .sets) 0 (setWords (σ .entries))) × (os ≡ filled (k .entries) 0 (σ .of)) × (es ≡ filled (k .effects) 0 (σ .effects))
+    (r ≡ passed.Whole) × (ts ≡ filled (k .types) 0 (typeWords (σ .entries))) × (ss ≡ filled (k .sets) 0 (setWords (σ .entries))) × (os ≡ filled (k .entries) 0 (σ .of)) × (es ≡ filled (k .effects) 0 (effectWords (σ .effects)))
 Says k r ts ss os es (halted ρ) = r ≡ passed.Halted (ρ .number) (ρ .place)
 
 pub record Typed (anc names values heads slots : List ℕ) (nt nv nc : ℕ) (types sets entries effects : List ℕ) (r : Passed) (ts ss os es : List ℕ) : Type 0 where

@@ -1,22 +1,19 @@
 -- The lines by kind are the desk program's lines, and each line is shorter than 64 bytes, so that two of them have room in a text.
-use Prim.Native.Nat.{ℕ, zero, suc, _+_, _-_, _*_, _^_, _/_, _%_, _<_, _≤_}
-use mathlib.Core.Path.{_≡_, refl, ap, _∙_}
-use mathlib.Core.Bool.{Bool, true, false, cond}
-use mathlib.Core.List.{List, [], _∷_, _++_}
-use native.Mathlib.Nat.{pow-suc}
+use Prim.Native.Nat.{ℕ, _<_, _≤_}
+use mathlib.Core.Path.{_≡_, refl, _∙_}
+use mathlib.Core.List.{List, _++_}
 use native.Mathlib.Omega.{arith}
 use lib.ListN.{length, length-append}
 use lib.Seq.{take-all}
-use lib.Dec.{ltb}
 use Rattle.order.specs.Effects.{Effect}
 use Rattle.syntax.specs.Types.{Ty, num, pair, cell, fn, lim, grant}
-use Rattle.syntax.specs.Reading.{Refusal}
-use Rattle.semantics.specs.Machine.{Kind, k-num, k-pair, k-fn, k-cell, k-lim, k-grant, Value, Control, hand, Machine}
-use Rattle.semantics.specs.Calls.{Answer, finished, spent, noroom}
+use Rattle.semantics.specs.Machine.{Kind, k-num, k-pair, k-fn, k-cell, k-lim, k-grant, Value, hand, Machine}
+use Rattle.semantics.specs.Calls.{finished, spent, noroom}
 use Rattle.format.specs.declared.Sort.{Sort}
 use Rattle.format.specs.declared.Sort.the-variants.{Number, Pair, Cell, Function, Limit, Grant}
-use Rattle.output.specs.Lines.{decimalIn, decimal, hex, hexDigit, space, line, w-refused, w-at, w-accepted, w-done, w-spent, w-no-room, w-number, w-pair, w-cell, w-function, w-limit, w-grant, typeKind, valueKind, handed, refusedLine, acceptedLine, ranLine}
-use Rattle.format.specs.Text.{joined, sortWord, sortWords, typeSort, kindSort, kindNumber, acceptedAs, doneAs, spentAs, noRoomAs}
+use Rattle.output.specs.Lines.{decimal, space, line, w-accepted, w-done, w-spent, w-no-room, w-number, w-pair, w-cell, w-function, w-limit, w-grant, typeKind, valueKind, handed, acceptedLine, ranLine}
+use Rattle.output.specs.LineLaws.{decimal-length, hex-length}
+use Rattle.format.specs.Text.{text-bytes, joined, sortWord, sortWords, typeSort, kindSort, kindNumber, acceptedAs, doneAs, spentAs, noRoomAs}
 
 -- the word of a type's kind
 pub type-word : (T : Ty) → sortWord (typeSort T) ≡ typeKind T
@@ -57,20 +54,6 @@ unfolding noRoomAs ranLine
 no-room-line n m = refl
 
 -- lengths
-pub decimal-length : (f n : ℕ) → length (decimalIn f n) ≤ f
-unfolding decimalIn
-decimal-length zero n = omega arith
-decimal-length (suc f) n = go (ltb n 10) (decimal-length f (n / 10))
-  where
-    go : (b : Bool) → length (decimalIn f (n / 10)) ≤ f → length (cond b ((48 + n) ∷ []) (decimalIn f (n / 10) ++ ((48 + n % 10) ∷ []))) ≤ suc f
-    go true h = omega arith
-    go false h = simp length-append (omega arith)
-
-pub hex-length : (k n : ℕ) → length (hex k n) ≡ k
-unfolding hex
-hex-length zero n = refl
-hex-length (suc k) n = simp (length-append, hex-length k (n / 16)) (omega arith)
-
 pub sort-length : (k : Sort) → length (sortWord k) ≤ 8
 unfolding sortWord w-number w-pair w-cell w-function w-limit w-grant
 sort-length Number = omega arith
@@ -89,10 +72,6 @@ sort-words-length Function n = omega arith
 sort-words-length Limit n = omega arith
 sort-words-length Grant n = omega arith
 
-pub refused-length : (r : Refusal) → length (refusedLine r) < 64
-unfolding refusedLine line space w-refused w-at decimal
-refused-length r = simp length-append (omega (arith, decimal-length 20 (r .number), decimal-length 20 (r .place)))
-
 pub accepted-length : (s : Effect) (k : Sort) → length (acceptedAs s k) < 64
 unfolding acceptedAs line space w-accepted
 accepted-length s k = simp (length-append, hex-length) (omega (arith, sort-length k))
@@ -109,38 +88,10 @@ pub no-room-length : (n : ℕ) → length (noRoomAs n) < 64
 unfolding noRoomAs line space w-no-room decimal
 no-room-length n = simp length-append (omega (arith, decimal-length 20 n))
 
--- the number that decimal digits stand for, read on from v
-unfoldable pub readFrom : ℕ → List ℕ → ℕ
-readFrom v [] = v
-readFrom v (d ∷ s) = readFrom (v * 10 + (d - 48)) s
-
-read-append : (v : ℕ) (a b : List ℕ) → readFrom v (a ++ b) ≡ readFrom (readFrom v a) b
-unfolding readFrom
-read-append v [] b = refl
-read-append v (d ∷ a) b = read-append (v * 10 + (d - 48)) a b
-
-tenth : (n p : ℕ) → n < p * 10 → n / 10 < p
-tenth n p h = omega arith
-
--- a number below 10 ^ f is read back from f digits
-pub decimal-reads : (f n : ℕ) → n < 10 ^ f → readFrom 0 (decimalIn f n) ≡ n
-unfolding decimalIn readFrom
-decimal-reads zero n h = omega arith
-decimal-reads (suc f) n h = go (ltb n 10) (decimal-reads f (n / 10) (tenth n (10 ^ f) (rw pow-suc at h)))
-  where
-    go : (b : Bool) → readFrom 0 (decimalIn f (n / 10)) ≡ n / 10 → readFrom 0 (cond b ((48 + n) ∷ []) (decimalIn f (n / 10) ++ ((48 + n % 10) ∷ []))) ≡ n
-    go true e = omega arith
-    go false e = read-append 0 (decimalIn f (n / 10)) ((48 + n % 10) ∷ []) ∙ rw e (omega arith)
-
--- 20 digits hold every number of 64 bits
-pub decimal-whole : (n : ℕ) → n < 2 ^ 64 → readFrom 0 (decimal n) ≡ n
-unfolding decimal
-decimal-whole n h = decimal-reads 20 n (omega arith)
-
 -- two lines have room
 pub two-fit : (a b : List ℕ) → length a < 64 → length b < 64 → joined a b ≡ a ++ b
 unfolding joined
-two-fit a b h g = take-all 128 (a ++ b) (simp length-append (omega arith))
+two-fit a b h g = take-all text-bytes (a ++ b) (simp length-append (omega arith))
 
 -- what an accepted job prints, with each way its run can end
 module _ (T : Ty) (s : Effect) (n : ℕ) (m : Machine) where

@@ -1,4 +1,4 @@
--- What a text of the desk program holds, and the lines that its functions write.
+-- What a text holds, and the desk program's lines by kind: a number, a pair, ...
 use Prim.Native.Nat.{ℕ}
 use mathlib.Core.List.{List, [], _∷_, _++_}
 use lib.ListN.{take}
@@ -14,9 +14,13 @@ use Rattle.output.specs.Lines.{decimal, hex, space, line, w-accepted, w-done, w
 unfoldable pub textOf : Text → List ℕ
 textOf t = take (t .len) (t .bytes)
 
--- a and then x. A text has room for 128 bytes: what comes after them is left out
+-- the room of a text
+abbrev pub text-bytes : ℕ
+text-bytes = 128
+
+-- a and then x; what comes after the room of a text is left out
 unfoldable pub joined : List ℕ → List ℕ → List ℕ
-joined a x = take 128 (a ++ x)
+joined a x = take text-bytes (a ++ x)
 
 -- the word of a kind
 unfoldable pub sortWord : Sort → List ℕ
@@ -64,7 +68,7 @@ kindNumber (k-grant n) = n
 
 -- the lines, by kind
 unfoldable pub acceptedAs : Effect → Sort → List ℕ
-acceptedAs s k = line (space w-accepted (space (hex 16 s) (sortWord k)))
+acceptedAs s k = line (space w-accepted (space (hex 16 (s .set)) (sortWord k)))
 
 unfoldable pub doneAs : ℕ → Sort → ℕ → List ℕ
 doneAs n k v = line (space w-done (space (decimal n) (sortWords k v)))

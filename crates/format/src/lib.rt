@@ -1,7 +1,8 @@
-// What the desk program prints for a job.
+// The desk program's lines, each from its parts: the number and the place of a refusal, the effect and the kind of an accepted job, the steps and the value of its run.
 ghost use mathlib.Core.Path.{_≡_};
 ghost use mathlib.Core.List.{[], _∷_};
 ghost use Prim.Native.Nat.{_<_};
+ghost use Rattle.order.specs.Effects.{ofWord};
 ghost use Rattle.output.specs.Lines.{decimalIn, hexDigit, hex, refusedLine};
 ghost use Rattle.format.specs.Text.{textOf, joined, sortWord, sortWords, acceptedAs, doneAs, spentAs, noRoomAs};
 
@@ -15,9 +16,12 @@ pub enum Sort {
     Grant,
 }
 
+// The room of a text: two lines.
+pub const TEXT_BYTES: usize = 128;
+
 // The first len of the bytes are written.
 pub struct Text {
-    pub bytes: [u8; 128],
+    pub bytes: [u8; TEXT_BYTES],
     pub len: usize,
 }
 
@@ -26,7 +30,7 @@ pub fn empty() -> Text
     ensures { λ r. ⌜ textOf r ≡ [] ⌝ }
 {
     Text {
-        bytes: [0u8; 128],
+        bytes: [0u8; TEXT_BYTES],
         len: 0,
     }
 }
@@ -37,7 +41,7 @@ impl Text {
         ensures { λ r. ⌜ textOf r ≡ joined (textOf self) (b ∷ []) ⌝ }
     {
         let at = self.len;
-        if at < 128 {
+        if at < TEXT_BYTES {
             self.bytes[at] = b;
             self.len = at + 1;
             return self;
@@ -133,7 +137,7 @@ pub fn refused(number: u8, place: u32) -> Text
 
 // The first line of an accepted job: its effect, and the kind of its type.
 pub fn accepted(effect: u64, sort: Sort) -> Text
-    ensures { λ r. ⌜ textOf r ≡ acceptedAs effect sort ⌝ }
+    ensures { λ r. ⌜ textOf r ≡ acceptedAs (ofWord effect) sort ⌝ }
 {
     let a = empty().put(b"accepted ").hex(16, effect);
     a.push(b' ').word(sort).push(b'\n')
@@ -167,7 +171,7 @@ pub fn both(a: Text, b: Text) -> Text
 {
     let bytes = b.bytes;
     let n = b.len;
-    if n < 128 {
+    if n < TEXT_BYTES {
         return a.put(&bytes[..n]);
     }
     a.put(&bytes)

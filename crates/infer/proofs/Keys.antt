@@ -13,10 +13,10 @@ use lib.Dec.{ltb}
 use borrow.Author.Tests.{lt-ltb, le-ltb, ltb-true, ltb-false}
 use types.Run.{OneOf}
 use denote.Enum.Declared.{tagOf}
-use Rattle.order.specs.Effects.{join}
+use Rattle.order.specs.Effects.{Effect, ofWord}
 use Rattle.syntax.specs.Words.{entryIn}
 use Rattle.typing.specs.Numbered.{Result, points, wrong, needLim, need, keysFrom}
-use Rattle.names.specs.Ancestors.{effBelowBy, touchBy, reduceBy}
+use Rattle.names.specs.Ancestors.{effBelowBy, touchBy, joinBy, reduceBy}
 use Rattle.table.specs.declared.Name.{Name}
 use Rattle.types.specs.declared.Entry.{Entry}
 use Rattle.types.specs.declared.Entry.the-variants.{Limit}
@@ -62,7 +62,7 @@ module _ (anc types sets slots entries effects : List ℕ) (at n : ℕ) where
 
   key-step : (j left rs s : ℕ) → 0 < left → keysBy anc types sets slots entries effects at (slotsFrom slots j left) rs s ≡
       needLim (entryIn types sets (getD entries (getD slots j 0) 0))
-      (λ q r. keysBy anc types sets slots entries effects at (slotsFrom slots (j + 1) (left - 1)) (touchBy r rs) (touchBy q (join (getD effects (getD slots j 0) 0) s)))
+      (λ q r. keysBy anc types sets slots entries effects at (slotsFrom slots (j + 1) (left - 1)) (touchBy r rs) (touchBy q (joinBy (getD effects (getD slots j 0) 0) s)))
   unfolding slotsFrom keysFrom
   key-step j zero rs s h = absurd (omega arith)
   key-step j (suc left) rs s h = simp (add-one, sub-one)
@@ -71,7 +71,7 @@ module _ (anc types sets slots entries effects : List ℕ) (at n : ℕ) where
       (so-far : keysBy anc types sets slots entries effects at (slotsFrom slots at (four n)) 0 0 ≡ keysBy anc types sets slots entries effects at (slotsFrom slots j left) rs s) where
     -- one key more
     pub keys-turn : {x : Operand} {e : Entry} {q r : Name} {ns t u : ℕ} → 0 < left → x ≡ operandAt slots entries effects j → entryOf e ≡ entryIn types sets (x .ty) → e ≡ Limit q r
-        → ns ≡ touchBy (r .0) rs → t ≡ join (x .effect) s → u ≡ touchBy (q .0) t
+        → ns ≡ touchBy (r .0) rs → t ≡ joinBy (x .effect) s → u ≡ touchBy (q .0) t
         → keysBy anc types sets slots entries effects at (slotsFrom slots at (four n)) 0 0 ≡ keysBy anc types sets slots entries effects at (slotsFrom slots (j + 1) (left - 1)) ns u
     keys-turn h xe f g a b d =
         so-far ∙ key-step j left rs s h ∙ is-lim (f ∙ ap (λ (o : Operand). entryIn types sets (o .ty)) xe) g _ ∙ simp (a, d, b, xe)
@@ -84,12 +84,12 @@ module _ (anc types sets slots entries effects : List ℕ) (at n : ℕ) where
     -- all keys are in hand
     done : left ≤ 0 → limitBy anc types sets slots entries effects at n ≡
         need 13 (effBelowBy anc (operandAt slots entries effects (at + 4) .effect) rs)
-        (points (operandAt slots entries effects (at + 4) .ty) (reduceBy anc (join s (operandAt slots entries effects (at + 4) .effect))))
+        (points (operandAt slots entries effects (at + 4) .ty) (ofWord (reduceBy anc (joinBy s (operandAt slots entries effects (at + 4) .effect)))))
     unfolding slotsFrom keysFrom
     done h = let z : left ≡ 0 = omega arith in whole ∙ so-far ∙ rw z
 
     pub keys-in : {y : Operand} {b : Bool} {t u : ℕ} → left ≤ 0 → y ≡ operandAt slots entries effects (at + 4) → b ≡ effBelowBy anc (y .effect) rs → b ≡ true
-        → t ≡ join s (y .effect) → u ≡ reduceBy anc t → points (y .ty) u ≡ limitBy anc types sets slots entries effects at n
+        → t ≡ joinBy s (y .effect) → u ≡ reduceBy anc t → points (y .ty) (ofWord u) ≡ limitBy anc types sets slots entries effects at n
     unfolding need
     keys-in h ye f g a d = sym (done h ∙ simp (d, a, ye, ← (sym g ∙ f ∙ ap (λ (o : Operand). effBelowBy anc (o .effect) rs) ye)))
 
@@ -109,8 +109,8 @@ lim-cong (some (e-lim q r)) f g h = h q r
 lim-cong (some (e-grant q r)) f g h = refl
 
 -- what the keys come to does not depend on names and variables
-pub keys-any : (anc names : List ℕ) (var : ℕ → ℕ) (at : ℕ → Option TypeEntry) (of eff : ℕ → ℕ) (ks : List ℕ) (rs s : ℕ) (f : ℕ → ℕ → Result)
+pub keys-any : (anc names : List ℕ) (var : ℕ → ℕ) (at : ℕ → Option TypeEntry) (of : ℕ → ℕ) (eff : ℕ → Effect) (ks : List ℕ) (rs s : Effect) (f : Effect → Effect → Result)
     → keysFrom (opsBy anc []) (λ v. 0) at of eff ks rs s f ≡ keysFrom (opsBy anc names) var at of eff ks rs s f
 unfolding keysFrom
 keys-any anc names var at of eff [] rs s f = refl
-keys-any anc names var at of eff (a ∷ ks) rs s f = lim-cong (at (of a)) _ _ (λ q r. keys-any anc names var at of eff ks (touchBy r rs) (touchBy q (join (eff a) s)) f)
+keys-any anc names var at of eff (a ∷ ks) rs s f = lim-cong (at (of a)) _ _ (λ q r. keys-any anc names var at of eff ks _ _ f)

@@ -5,7 +5,7 @@ use mathlib.Core.List.{[], _∷_}
 use mathlib.Core.Option.{Option}
 use types.Run.{OneOf, miss}
 use denote.Enum.Declared.{tagOf}
-use Rattle.order.specs.Effects.{Effect}
+use Rattle.order.specs.Effects.{Effect, ofWord}
 use Rattle.syntax.specs.Types.{TypeEntry}
 use Rattle.typing.specs.Numbered.{Result, wrong, needNum, needPair, needCell, needFn, needLim, needGrant, keyIn}
 use Rattle.typing.specs.Layout.{rekeyed}
@@ -80,7 +80,7 @@ not-fn e z h f = at e h ∙ ap (λ (x : Option TypeEntry). needFn x f) z
     at (Grant q r) h = refl
     at Nothing h = refl
 
-pub is-fn : {e : Entry} {o : Option TypeEntry} {q : Name} {a : ℕ} {b : ℕ} {s : ℕ} → entryOf e ≡ o → e ≡ Function q a b s → (f : ℕ → ℕ → ℕ → Effect → Result) → needFn o f ≡ f (q .0) a b s
+pub is-fn : {e : Entry} {o : Option TypeEntry} {q : Name} {a : ℕ} {b : ℕ} {s : ℕ} → entryOf e ≡ o → e ≡ Function q a b s → (f : ℕ → ℕ → ℕ → Effect → Result) → needFn o f ≡ f (q .0) a b (ofWord s)
 unfolding entryOf needFn
 is-fn z h f = ap (λ (x : Option TypeEntry). needFn x f) (sym z) ∙ ap (λ (x : Entry). needFn (entryOf x) f) h
 

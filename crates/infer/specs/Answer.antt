@@ -1,5 +1,6 @@
 -- What an answer of the inference stands for: an expression's type, as a new entry or the number of one, and its effect; or the number of a refusal.
 use mathlib.Core.Option.{Option, none, some}
+use Rattle.order.specs.Effects.{ofWord}
 use Rattle.syntax.specs.Types.{TypeEntry, e-num}
 use Rattle.typing.specs.Numbered.{Result, makes, points, wrong}
 use Rattle.types.specs.Entry.{entryOf}
@@ -12,6 +13,6 @@ made none = e-num 0
 made (some e) = e
 
 unfoldable pub resultIn : Typing → Result
-resultIn (Makes e s) = makes (made (entryOf e)) s
-resultIn (Points i s) = points i s
+resultIn (Makes e s) = makes (made (entryOf e)) (ofWord s)
+resultIn (Points i s) = points i (ofWord s)
 resultIn (Wrong n) = wrong n

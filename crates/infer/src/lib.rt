@@ -17,6 +17,7 @@ ghost use mathlib.Core.Path.{_≡_};
 ghost use Prim.Native.Nat.{ℕ, _≤_, _/_, _%_};
 ghost use lib.ListN.{getD};
 ghost use lib.Dec.{eqb};
+ghost use Rattle.order.specs.Effects.{ofWord};
 ghost use Rattle.syntax.specs.Words.{codeIn, entryIn};
 ghost use Rattle.typing.specs.Layout as layout;
 ghost use Rattle.typing.specs.Numbered.{keyIn, resultAt};
@@ -425,7 +426,7 @@ fn two<'a>(
     requires { ⌜ (at ≤ 327675) × (x ≡ by.operandAt (now slots) (now entries) (now effects) at) × Known (now anc) (now types) (now sets) (now known) ⌝ }
     ensures { λ r. ⌜ ((var : ℕ → ℕ) → resultIn r
         ≡ resultAt (opsBy (now (anc .entry)) (now (names .entry))) var (entryIn (now (types .entry)) (now (sets .entry)))
-        (λ a. getD (now (entries .entry)) a 0) (λ a. getD (now (effects .entry)) a 0) (by.twoIn (now (slots .entry)) w at))
+        (λ a. getD (now (entries .entry)) a 0) (λ a. ofWord (getD (now (effects .entry)) a 0)) (by.twoIn (now (slots .entry)) w at))
         × Known (now (anc .entry)) (now (types .entry)) (now (sets .entry)) (now (known .exit)) ⌝ }
 {
     let y = operand_at(slots, entries, effects, at + 1);
@@ -467,7 +468,7 @@ pub fn result<'a>(
     ensures { λ r. ⌜ (resultIn r
         ≡ resultAt (opsBy (now (anc .entry)) (now (names .entry))) (λ v. getD (now (vars .entry)) v 0)
         (entryIn (now (types .entry)) (now (sets .entry))) (λ a. getD (now (entries .entry)) a 0)
-        (λ a. getD (now (effects .entry)) a 0) (codeIn (now (heads .entry)) (now (slots .entry)) (e .0)))
+        (λ a. ofWord (getD (now (effects .entry)) a 0)) (codeIn (now (heads .entry)) (now (slots .entry)) (e .0)))
         × Known (now (anc .entry)) (now (types .entry)) (now (sets .entry)) (now (known .exit)) ⌝ }
 {
     let i = e.0 as usize;

@@ -11,7 +11,7 @@ use Rattle.order.specs.Bools.{_and_, and-l, and-r}
 use Rattle.order.specs.Sets.{setOf}
 use Rattle.order.specs.Effects as effects
 use Rattle.syntax.specs.Job.{Src}
-use Rattle.syntax.specs.Tree.{root, past}
+use Rattle.syntax.specs.Tree.{root, predecessor}
 use Rattle.semantics.specs.Start.{Named, named, keyNamed, Valued, valued, addValues}
 use Rattle.names.specs.Ancestors.{namesIn}
 use Rattle.store.specs.Meaning.{keysIn}
@@ -55,24 +55,24 @@ module _ (n m k : ℕ) where
       let b = and-l _ _ a in
       (leb-true n 62 (and-l _ _ b), leb-true m 64 (and-r _ _ b), leb-true k 512 (and-r _ _ e))
 
-pub past-none : (n : ℕ) → n ≡ 0 → 0 ≡ past n
-unfolding past
-past-none n e = rw e
+pub predecessor-none : (n : ℕ) → n ≡ 0 → 0 ≡ predecessor n
+unfolding predecessor
+predecessor-none n e = rw e
 
 -- what the passes over names, host values and rights give together
 pub begun :
-    (names : List ℕ) (n : ℕ) (types values : List ℕ) (m rights cmds : ℕ) (of bound : List ℕ) (r : Started) → n ≤ 62 → m ≤ 64 → r .nbindings ≡ r .nkeys - 2 + m → r .root ≡ past cmds →
+    (names : List ℕ) (n : ℕ) (types values : List ℕ) (m rights cmds : ℕ) (of bound : List ℕ) (r : Started) → n ≤ 62 → m ≤ 64 → r .nbindings ≡ r .nkeys - 2 + m → r .root ≡ predecessor cmds →
     NamesEntered (namesIn names n) (r .keys) of bound (r .nkeys) (n + 2) →
     ValuesEntered (keyIn of (n + 2)) types values m (r .nkeys - 2) bound (r .cells) (r .bindings) (r .ncells) →
-    keysIn (r .on) ≡ setOf (map (keyIn of (n + 2)) (effects.names rights)) → Begun (wordSource names n types values m rights cmds) r
+    keysIn (r .on) ≡ setOf (map (keyIn of (n + 2)) (effects.names (effects.ofWord rights))) → Begun (wordSource names n types values m rights cmds) r
 unfolding wordSource named keyNamed valued namedIn valuedIn root
 begun names n types values m rights cmds of bound r hn hm eb er sn sv so =
     record {
       keys = ap (λ (s : Named). s .keys) all;
       cells = ap (λ (s : Valued). s .cells) held;
       bindings = ap (λ (i : ℕ). listOf linkIn (r .bindings) i) eb ∙ ap (λ (s : Valued). s .bindings) held;
-      on = so ∙ ap (λ (f : ℕ → ℕ). setOf (map f (effects.names rights))) key;
-      its-root = er ∙ ap past (sym (length-replicate cmds _));
+      on = so ∙ ap (λ (f : ℕ → ℕ). setOf (map f (effects.names (effects.ofWord rights)))) key;
+      its-root = er ∙ ap predecessor (sym (length-replicate cmds _));
       few-keys = omega (arith, sn .few);
       few-cells = omega (arith, sv .few);
       few-bindings = omega (arith, sn .few);

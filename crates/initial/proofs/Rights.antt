@@ -9,7 +9,7 @@ use lib.Dec.{ltb}
 use lib.Bits.{bitAnd, bitOr, or-zero-l, or-zero-r, or-comm}
 use Rattle.order.specs.Sets.{membersFrom, members, setOf}
 use Rattle.order.specs.SetLaws.{or-assoc}
-use Rattle.order.specs.Effects.{names}
+use Rattle.order.specs.Effects.{ofWord, names}
 use Rattle.names.specs.Ancestors.{lowest, nonzero}
 use Rattle.names.specs.Walk.{members-step, names-members}
 use Rattle.store.specs.Meaning.{keysIn}
@@ -24,8 +24,8 @@ or-swap : (a b c : ℕ) → bitOr a (bitOr b c) ≡ bitOr (bitOr b a) c
 or-swap a b c = sym (or-assoc a b c) ∙ ap (λ x. bitOr x c) (or-comm a b)
 
 module _ (f : ℕ → ℕ) where
-  pub no-key : (s : ℕ) → setOf (map f (names s)) ≡ bitOr (keysIn (record { 0 = 0; 1 = 0 })) (setOf (map f (members (s - s % 2))))
-  unfolding keysIn nonzero
+  pub no-key : (s : ℕ) → setOf (map f (names (ofWord s))) ≡ bitOr (keysIn (record { 0 = 0; 1 = 0 })) (setOf (map f (members (s - s % 2))))
+  unfolding keysIn nonzero names
   no-key s = ap (λ (l : List ℕ). setOf (map f l)) (names-members s) ∙ sym (or-zero-l _)
 
   pub next-key :

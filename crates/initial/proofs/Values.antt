@@ -8,7 +8,7 @@ use native.Mathlib.Numerals.{add-one}
 use borrow.Author.Tests.{ne-eqb}
 use lib.Dec.{eqb}
 use lib.ListN.{getD}
-use Rattle.syntax.specs.Types.{num, cell, lim, grant}
+use Rattle.syntax.specs.Types.{num, lim, grant, byType, onCell, onLim, onGrant}
 use Rattle.semantics.specs.Machine.{Value, unkeyed, k-num, k-cell, k-lim, k-grant, b-var}
 use Rattle.semantics.specs.Start.{bindTo, hostValue, hostCell, Valued, addValues}
 use Rattle.store.specs.Words.{cellIn, linkIn}
@@ -19,19 +19,19 @@ use Rattle.initial.specs.Entries.{headOf, hostOf, valuesFrom, valuedIn, 
 -- a host value by the command byte of its type
 module _ (key : ℕ → ℕ) (w c : ℕ) where
   pub value-cell : w % 256 ≡ 0x12 → hostValue key (headOf w) c ≡ record { key = key (w / 256 % 256); kind = k-cell c }
-  unfolding headOf hostValue
+  unfolding headOf hostValue onCell onLim onGrant byType
   value-cell e = simp e
 
   pub value-lim : w % 256 ≡ 0x14 → hostValue key (headOf w) c ≡ record { key = key (w / 256 % 256); kind = k-lim (key (w / 65536 % 256)) }
-  unfolding headOf hostValue
+  unfolding headOf hostValue onCell onLim onGrant byType
   value-lim e = simp e
 
   pub value-grant : w % 256 ≡ 0x15 → hostValue key (headOf w) c ≡ record { key = key (w / 256 % 256); kind = k-grant (key (w / 65536 % 256)) }
-  unfolding headOf hostValue
+  unfolding headOf hostValue onCell onLim onGrant byType
   value-grant e = simp e
 
   pub value-none : (w % 256 ≡ 0x12 → ⊥) → (w % 256 ≡ 0x14 → ⊥) → (w % 256 ≡ 0x15 → ⊥) → hostValue key (headOf w) c ≡ unkeyed (k-num 0)
-  unfolding headOf hostValue
+  unfolding headOf hostValue onCell onLim onGrant byType
   value-none x y z = simp (ne-eqb _ _ x, ne-eqb _ _ y, ne-eqb _ _ z)
 
 -- a key in 8 bits
@@ -40,11 +40,11 @@ low-key k h = omega arith
 
 -- the cell that it takes
 cell-some : (w n : ℕ) → w % 256 ≡ 0x12 → hostCell (headOf w) n ≡ unkeyed (k-num n) ∷ []
-unfolding headOf hostCell
+unfolding headOf hostCell onCell byType
 cell-some w n e = simp e
 
 cell-none : (w n : ℕ) → (w % 256 ≡ 0x12 → ⊥) → hostCell (headOf w) n ≡ []
-unfolding headOf hostCell
+unfolding headOf hostCell onCell byType
 cell-none w n e = simp (ne-eqb _ _ e) (at (eqb (w % 256) 0x14) (eqb (w % 256) 0x15))
   where
     at : (a b : Bool) → hostCell (cond a (lim (w / 256 % 256) (w / 65536 % 256)) (cond b (grant (w / 256 % 256) (w / 65536 % 256)) (num 0))) n ≡ []

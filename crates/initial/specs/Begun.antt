@@ -23,7 +23,7 @@ use Rattle.initial.specs.declared.Started.{Started}
 -- what the start looks at in a job, by its words: its names, its host values, its rights, and how many expressions it has; which they are is not looked at
 unfoldable pub wordSource : List ℕ → ℕ → List ℕ → List ℕ → ℕ → ℕ → ℕ → Src
 wordSource names nnames types values nvalues rights cmds =
-    record { names = namesIn names nnames; values = valuesFrom types values 0 nvalues; rights = rights; cmds = replicate cmds c-top }
+    record { names = namesIn names nnames; values = valuesFrom types values 0 nvalues; rights = effects.ofWord rights; cmds = replicate cmds c-top }
 
 -- counts that a job can have
 unfoldable pub isJob : ℕ → ℕ → ℕ → Bool

@@ -6,9 +6,9 @@ use mathlib.Core.List.{[], _∷_}
 use lib.Dec.{eqb}
 use Rattle.order.specs.Bools.{_or_}
 use Rattle.order.specs.Sets.{members, membersFrom, keep, setOf, some-of}
-use Rattle.order.specs.Effects.{names}
+use Rattle.order.specs.Effects.{pure, setNames, names}
 use Rattle.syntax.specs.Job.{Src}
-use Rattle.syntax.specs.Tree.{root, past}
+use Rattle.syntax.specs.Tree.{root, predecessor}
 use Rattle.semantics.specs.Machine.{enter, Machine}
 use Rattle.semantics.specs.Keys.{enabled}
 use Rattle.semantics.specs.Start.{startOf, named, keyNamed, valued, addNames, addValues}
@@ -16,7 +16,7 @@ use Rattle.semantics.specs.Starting.{Started, started, unstarted}
 
 -- no names, no host values, no rights, no expressions
 unfoldable pub noJob : Src
-noJob = record { names = []; values = []; rights = 0; cmds = [] }
+noJob = record { names = []; values = []; rights = pure; cmds = [] }
 
 -- there are the keys 0 and 1, as in every machine
 unfoldable pub emptyMachine : Machine
@@ -33,7 +33,7 @@ machineOf (unstarted q) = emptyMachine
 
 -- it is the start of no job
 pub empty-is : startOf noJob ≡ emptyMachine
-unfolding noJob emptyMachine startOf named keyNamed valued addNames addValues root past setOf names keep members membersFrom
+unfolding noJob emptyMachine startOf named keyNamed valued addNames addValues root predecessor setOf setNames names keep members membersFrom
 empty-is = refl
 
 -- key 0 alone is enabled, as always

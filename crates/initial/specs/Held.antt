@@ -13,10 +13,10 @@ use Rattle.order.specs.Bools.{_and_, and-l, and-r}
 use Rattle.order.specs.OrderLaws.{getElem?-lt}
 use Rattle.order.specs.Sets.{setOf}
 use Rattle.order.specs.Effects as effects
-use Rattle.syntax.specs.Types.{Ty, num, pair, cell, fn, lim, grant, TypeEntry, e-num, e-pair, e-cell, e-fn, e-lim, e-grant, entryTree, treeIn, tree}
+use Rattle.syntax.specs.Types.{Ty, num, pair, cell, fn, lim, grant, TypeEntry, e-num, e-pair, e-cell, e-fn, e-lim, e-grant, entryTree, treeIn, tree, byType, onNum, onCell, onGrant, onLim}
 use Rattle.syntax.specs.Commands.{Cmd, c-top, mapCmd}
 use Rattle.syntax.specs.Job.{Name, HostValue, Job, Src, valueOf, sourceOf}
-use Rattle.syntax.specs.Tree.{root, past}
+use Rattle.syntax.specs.Tree.{root, predecessor}
 use Rattle.syntax.specs.Words.{nameWord, typeWord, valueWord, nameWords, typeWords, valueWords, filled}
 use Rattle.syntax.specs.Reading.{declared, partsOk, typeOk, unkeyedNumber, hostTypeOk, hostValueOk}
 use Rattle.syntax.specs.ReadLaws.{JobOk, built-at}
@@ -34,7 +34,7 @@ use Rattle.initial.specs.Begun.{wordSource, isJob, sourceIn}
 pub record Holds (J : Job) (names : List ℕ) (nnames : ℕ) (types values : List ℕ) (nvalues rights : ℕ) : Type 0 where
   pub all-names : nnames ≡ length (J .names)
   pub all-values : nvalues ≡ length (J .values)
-  pub its-rights : rights ≡ J .rights
+  pub its-rights : effects.ofWord rights ≡ J .rights
   pub name : (i : ℕ) (d : Name) → getElem? (J .names) i ≡ some d → getD names (2 + i) 0 ≡ nameWord d
   pub type : (i : ℕ) (e : TypeEntry) → getElem? (J .types) i ≡ some e → getD types i 0 ≡ typeWord e
   pub value : (i : ℕ) (h : HostValue ℕ) → getElem? (J .values) i ≡ some h → getD values i 0 ≡ valueWord h
@@ -64,7 +64,7 @@ module _ (q a : ℕ) (hq : q < 256) (ha : a < 256) where
   head-grant = simp (byte 0x15 (omega arith), first 0x15 (omega arith), second 0x15 (omega arith))
 
 unkeyed-num : (A : Ty) → unkeyedNumber A ≡ true → A ≡ num 0
-unfolding unkeyedNumber
+unfolding unkeyedNumber onNum byType
 unkeyed-num (num p) h = ap num (eqb-true p 0 h)
 unkeyed-num (pair p A B) h = absurd (false≢true h)
 unkeyed-num (cell p A) h = absurd (false≢true h)
@@ -76,7 +76,7 @@ unkeyed-num (grant p r) h = absurd (false≢true h)
 head-of :
     (ds : List Name) (i n : ℕ) (f : ℕ → Ty) (o : Option TypeEntry) (w : ℕ) → length ds ≤ 62 → i ≤ 256 → ((e : TypeEntry) → o ≡ some e → partsOk ds i e ≡ true) →
     ((e : TypeEntry) → o ≡ some e → w ≡ typeWord e) → hostTypeOk ds (entryTree o f) n ≡ true → headOf w ≡ entryTree o f
-unfolding entryTree hostTypeOk partsOk declared
+unfolding entryTree hostTypeOk partsOk declared onCell byType onLim onGrant
 head-of ds i n f none w few le p g h = absurd (false≢true h)
 head-of ds i n f (some (e-num q)) w few le p g h = absurd (false≢true h)
 head-of ds i n f (some (e-pair q a b)) w few le p g h = absurd (false≢true h)
@@ -137,12 +137,12 @@ same-start : (S R : Src) → S .names ≡ R .names → S .values ≡ R .values �
 unfolding startOf named keyNamed valued root
 same-start S R a b c d = λ i. starts (a i) (b i) (c i) (d i)
   where
-    starts : List Name → List (HostValue Ty) → ℕ → ℕ → Machine
+    starts : List Name → List (HostValue Ty) → effects.Effect → ℕ → Machine
     starts ns vs rs k =
         let N = addNames ns (record { keys = 0 ∷ 1 ∷ []; of = 0 ∷ 1 ∷ []; bindings = [] }) in
         let W = addValues (λ n. getD (N .of) n 0) 0 vs (record { cells = []; bindings = N .bindings }) in
         record {
-          thread = record { control = enter (past k); env = length (W .bindings); on = setOf (map (λ n. getD (N .of) n 0) (effects.names rs)); frames = [] };
+          thread = record { control = enter (predecessor k); env = length (W .bindings); on = setOf (map (λ n. getD (N .of) n 0) (effects.names rs)); frames = [] };
           store = record { cells = W .cells; keys = N .keys; pairs = []; functions = []; bindings = W .bindings };
         }
 
@@ -168,7 +168,7 @@ module _ {J : Job} (j : JobOk J) {names : List ℕ} {nnames : ℕ} {types values
   held-start = ap (λ (b : Bool). startOf (cond b (wordSource names nnames types values nvalues rights cmds) noJob)) is-job ∙ same-words
 
 -- filled tables hold the job
-pub filled-holds : (J : Job) → JobFits J → (n t v : ℕ) → Holds J (filled n 0 (nameWords J)) (length (J .names)) (filled t 0 (typeWords (J .types))) (filled v 0 (valueWords J)) (length (J .values)) (J .rights)
+pub filled-holds : (J : Job) → JobFits J → (n t v : ℕ) → Holds J (filled n 0 (nameWords J)) (length (J .names)) (filled t 0 (typeWords (J .types))) (filled v 0 (valueWords J)) (length (J .values)) (J .rights .set)
 filled-holds J j n t v =
     record {
       all-names = refl;

@@ -4,19 +4,19 @@ ghost use mathlib.Core.List.{map};
 ghost use Prim.Native.Nat.{_<_, _≤_, _+_};
 ghost use Rattle.order.specs.Sets.{setOf};
 ghost use Rattle.order.specs.Effects as effects;
-ghost use Rattle.syntax.specs.Tree.{past};
+ghost use Rattle.syntax.specs.Tree.{predecessor};
 ghost use Rattle.semantics.specs.Machine.{unkeyed, k-num};
 ghost use Rattle.semantics.specs.Start.{hostValue};
 ghost use Rattle.names.specs.Ancestors.{namesIn};
 ghost use Rattle.store.specs.Meaning.{keysIn, valueIn};
 ghost use Rattle.store.specs.Words.{upIn, cellIn};
-ghost use Rattle.store.specs.Tables.{Stored, Wrote};
+ghost use Rattle.store.specs.Tables.{Wrote};
 ghost use Rattle.initial.specs.Entries.{keyIn, headOf, NameEntered, NamesEntered, ValueEntered, ValuesEntered, Within};
 ghost use Rattle.initial.specs.Begun.{wordSource, isJob, sourceIn, Begun};
-use store::Key;
 use store::Keys;
 use store::Kind;
 use store::Value;
+use table::Key;
 
 pub struct Started {
     pub keys: [u8; 128],
@@ -34,7 +34,7 @@ fn key_of(of: &[u8; 64], n: usize, q: usize) -> u8
     ensures { λ r. ⌜ r ≡ keyIn (now (of .entry)) n q ⌝ }
 {
     if q < n {
-        return store::at8(of, q);
+        return table::at8(of, q);
     }
     0
 }
@@ -197,7 +197,7 @@ fn enter_values(
 // The keys of the names that the rights have.
 fn enabled_keys(of: &[u8; 64], n: usize, nkeys: u16, rights: u64) -> Keys
     requires { ⌜ Within (keyIn (now of) n) nkeys ⌝ }
-    ensures { λ r. ⌜ keysIn r ≡ setOf (map (keyIn (now (of .entry)) n) (effects.names rights)) ⌝ }
+    ensures { λ r. ⌜ keysIn r ≡ setOf (map (keyIn (now (of .entry)) n) (effects.names (effects.ofWord rights))) ⌝ }
 {
     let mut on = Keys(0, 0);
     let mut rest = rights - rights % 2;
@@ -213,7 +213,7 @@ fn enabled_keys(of: &[u8; 64], n: usize, nkeys: u16, rights: u64) -> Keys
 // The last of so many expressions.
 fn last(cmds: usize) -> u16
     requires { ⌜ cmds ≤ 512 ⌝ }
-    ensures { λ r. ⌜ r ≡ past cmds ⌝ }
+    ensures { λ r. ⌜ r ≡ predecessor cmds ⌝ }
 {
     if cmds == 0 {
         return 0;

@@ -10,14 +10,13 @@ use lib.Dec.{eqb, ltb, leb}
 use borrow.Author.Tests.{ne-eqb, ltb-false}
 use Rattle.order.specs.Bools.{_and_, _or_}
 use Rattle.order.specs.OrderLaws.{Proper}
-use Rattle.order.specs.Sets.{all-of}
-use Rattle.order.specs.Effects.{Effect}
+use Rattle.order.specs.Effects.{Effect, ofWord}
 use Rattle.syntax.specs.Types.{TypeEntry, tree, depth}
-use Rattle.syntax.specs.Commands.{Cmd, c-lim, Op, o-host, o-local, o-number, o-pair, o-cell, o-function, o-limit, o-grant, o-value, o-rights, o-end, opOf, operands, width, sectionOf, fields}
+use Rattle.syntax.specs.Commands.{Cmd, c-lim, Op, form, allowed, o-host, o-local, o-number, o-pair, o-cell, o-function, o-limit, o-grant, o-value, o-rights, o-end, opOf, operands, width, sectionOf, fields}
 use Rattle.syntax.specs.Commands.{x-number, x-top, x-variable, x-pair, x-part, x-function, x-apply, x-cell, x-assign, x-read, x-sum, x-test, x-limit, x-grant, x-newkey, x-associate}
 use Rattle.syntax.specs.Job.{Name, HostValue, Job, uppers}
 use Rattle.syntax.specs.Words.{nameWord, typeWord, filled, slots}
-use Rattle.syntax.specs.Reading.{State, declared, hostName, nameOk, typeOk, hostValueOk, setOk, rightsOk, cmdOk, Written, w-name, w-type, w-value, w-rights, w-cmd, w-end, unwritten, partOf, sumOf, limitOf, written, given, enter, misplaced, full}
+use Rattle.syntax.specs.Reading.{State, declared, hostName, nameOk, typeOk, hostValueOk, setOk, rightsOk, cmdOk, Written, w-name, w-type, w-value, w-rights, w-cmd, w-end, unwritten, means, written, given, enter, misplaced, full}
 use Rattle.syntax.specs.Reading.{Step, refuse, proceed, finish, settle, command}
 use Rattle.syntax.specs.ReadLaws.{TypesOk, Wrote, wrote-name, wrote-type, wrote-value, wrote-rights, wrote-cmd, wrote-end, wrote-none, wrote}
 use Rattle.names.specs.Ancestors.{namesIn, declaredOf, ancestorsBy, setOkBy}
@@ -59,7 +58,7 @@ pub record Kept (J : Job) (names types depths : List ℕ) : Type 0 where
   pub deep : (i : ℕ) → i < length (J .types) → getD depths i 0 ≡ depth (tree (J .types) i)
 
 module _ (J : Job) (names types depths : List ℕ) (k : Kept J names types depths) (s : List ℕ) where
-  sets : (x : ℕ) → setOkBy (ancestorsBy (namesIn names (length (J .names)))) (length (J .names)) x ≡ setOk (J .names) x
+  sets : (x : ℕ) → setOkBy (ancestorsBy (namesIn names (length (J .names)))) (length (J .names)) x ≡ setOk (J .names) (ofWord x)
   sets x = ap (λ (l : List Name). setOkBy (ancestorsBy l) (length (J .names)) x) (k .back) ∙ set-ok-by (J .names) (k .proper) (k .few) (ancestors-by (J .names) (k .proper) (k .few)) x
 
   law-o-host : nameEntry (byteOf o-host) s names (length (J .names)) ≡ judgedW (written o-host (fieldsFrom (operands o-host) s 1)) J
@@ -119,46 +118,49 @@ places (w-cmd k) = length (slots k)
 places w-end = 5
 places unwritten = 5
 
-if-places : (b : Bool) (k : Cmd ℕ) (w : Written) → length (slots k) ≡ 5 → places w ≡ 5 → places (cond b (w-cmd k) w) ≡ 5
-unfolding places
-if-places true k w h g = h
-if-places false k w h g = g
-
 limit-places : (c : ℕ) (ks : List ℕ) (b : ℕ) → length (slots (c-lim (take c (take 4 ks)) b)) ≡ 5
 unfolding slots filled
 limit-places c ks b =
     let h : length (take c (take 4 ks)) ≤ 4 = simp (length-take) (omega arith) in
     simp (length-append, length-replicate) (omega arith)
 
+five-means : (o : Op) (l : List ℕ) → places (means o l) ≡ 5
+unfolding means places slots filled
+five-means o-host l = refl
+five-means o-local l = refl
+five-means o-number l = refl
+five-means o-pair l = refl
+five-means o-cell l = refl
+five-means o-function l = refl
+five-means o-limit l = refl
+five-means o-grant l = refl
+five-means o-value l = refl
+five-means o-rights l = refl
+five-means x-number l = refl
+five-means x-top l = refl
+five-means x-variable l = refl
+five-means x-pair l = refl
+five-means x-part l = refl
+five-means x-function l = refl
+five-means x-apply l = refl
+five-means x-cell l = refl
+five-means x-assign l = refl
+five-means x-read l = refl
+five-means x-sum l = refl
+five-means x-test l = refl
+five-means x-limit l = limit-places (getD l 0 0) (drop 1 l) (getD l 5 0)
+five-means x-grant l = refl
+five-means x-newkey l = refl
+five-means x-associate l = refl
+five-means o-end l = refl
+
 pub five-places : (o : Op) (l : List ℕ) → places (written o l) ≡ 5
-unfolding written places slots filled partOf sumOf limitOf
-five-places o-host l = refl
-five-places o-local l = refl
-five-places o-number l = refl
-five-places o-pair l = refl
-five-places o-cell l = refl
-five-places o-function l = refl
-five-places o-limit l = refl
-five-places o-grant l = refl
-five-places o-value l = refl
-five-places o-rights l = refl
-five-places x-number l = refl
-five-places x-top l = refl
-five-places x-variable l = refl
-five-places x-pair l = refl
-five-places x-part l = if-places (eqb (getD l 1 0) 1) _ _ refl (if-places (eqb (getD l 1 0) 2) _ _ refl refl)
-five-places x-function l = refl
-five-places x-apply l = refl
-five-places x-cell l = refl
-five-places x-assign l = refl
-five-places x-read l = refl
-five-places x-sum l = if-places (eqb (getD l 0 0) 0) _ _ refl (if-places (eqb (getD l 0 0) 1) _ _ refl refl)
-five-places x-test l = refl
-five-places x-limit l = if-places (leb (getD l 0 0) 4 and all-of (λ e. eqb e 0xFFFF) (drop (getD l 0 0) (take 4 (drop 1 l)))) (c-lim (take (getD l 0 0) (take 4 (drop 1 l))) (getD l 5 0)) unwritten (limit-places (getD l 0 0) (drop 1 l) (getD l 5 0)) refl
-five-places x-grant l = refl
-five-places x-newkey l = refl
-five-places x-associate l = refl
-five-places o-end l = refl
+unfolding written places
+five-places o l = at (allowed (form o .roles) l)
+  where
+    at : (b : Bool) → places (cond b (means o l) unwritten) ≡ 5
+    at true = five-means o l
+    at false = refl
 
 -- what is entered
 pub data Adds : Written → Type 0 where

@@ -60,7 +60,7 @@ unfoldable pub entryW : Written → Job → Entry
 entryW (w-name d) J = Named (nameWord d)
 entryW (w-type e) J = Typed (typeWord e) (setWord e) (newDepth J e)
 entryW (w-value h) J = Valued (valueWord h)
-entryW (w-rights s) J = Rights s
+entryW (w-rights s) J = Rights (s .set)
 entryW (w-cmd k) J = Formed (wordsOf k)
 entryW w-end J = Last
 entryW unwritten J = Refuse 6

@@ -15,7 +15,8 @@ use Rattle.syntax.specs.Commands.{x-number, x-top, x-variable, x-pair, x-part, 
 use Rattle.syntax.specs.Operands.{plain, inner, children, typesOf, usesVar, bindsVar, bindsName}
 use Rattle.syntax.specs.Job.{Job}
 use Rattle.syntax.specs.Words.{headWord, slots, filled}
-use Rattle.syntax.specs.Reading.{Written, w-cmd, unwritten, partOf, sumOf, limitOf, written, localName, cmdOk}
+use Rattle.syntax.specs.Reading.{Written, w-cmd, unwritten, written, localName, cmdOk}
+use Rattle.syntax.specs.WrittenLaws.{partOf, sumOf, limitOf, written-part, written-sum, written-limit}
 use Rattle.job.specs.Bytes.{fieldAt, digitOf, rowOf, offsetOf, kindOf, slotOf, leadOf, formOf, slotOk, slotsOk, keyOk, limitOk}
 use Rattle.job.specs.Entries.{eitherOf, bindsOk, newKeyOk, leadOk, placesOk, formEntry}
 use Rattle.job.specs.declared.Entry.{Entry}
@@ -210,8 +211,8 @@ module _ (s : List ℕ) (J : Job) where
   none-three false l r = refl
 
   pub law-x-part : formEntry (byteOf x-part) s (J .names) (shapeOf J) ≡ judgedW (written x-part (fieldsFrom (operands x-part) s 1)) J
-  unfolding digitOf rowOf formEntry placesOk slotsOk slotOk kindOf formOf slotOf offsetOf leadOf leadOk byteOf written operands fieldsFrom judgedW okW entryW cmdOk children plain inner typesOf usesVar bindsVar bindsName all-of wordsOf headWord slots filled shapeOf partOf eitherOf
-  law-x-part = at (eqb i 1) refl (eqb i 2) refl
+  unfolding digitOf rowOf formEntry placesOk slotsOk slotOk kindOf formOf slotOf offsetOf leadOf leadOk byteOf operands fieldsFrom judgedW okW entryW cmdOk children plain inner typesOf usesVar bindsVar bindsName all-of wordsOf headWord slots filled shapeOf partOf eitherOf
+  law-x-part = at (eqb i 1) refl (eqb i 2) refl ∙ sym (ap (λ w. judgedW w J) (written-part (fieldsFrom (operands x-part) s 1)))
     where
       i : ℕ
       i = fieldAt 1 s 3
@@ -232,8 +233,8 @@ module _ (s : List ℕ) (J : Job) where
       at false p false q = none-two k (Refuse 6)
 
   pub law-x-sum : formEntry (byteOf x-sum) s (J .names) (shapeOf J) ≡ judgedW (written x-sum (fieldsFrom (operands x-sum) s 1)) J
-  unfolding digitOf rowOf formEntry placesOk slotsOk slotOk kindOf formOf slotOf offsetOf leadOf leadOk byteOf written operands fieldsFrom judgedW okW entryW cmdOk children plain inner typesOf usesVar bindsVar bindsName all-of wordsOf headWord slots filled shapeOf sumOf eitherOf
-  law-x-sum = at (eqb i 0) refl (eqb i 1) refl
+  unfolding digitOf rowOf formEntry placesOk slotsOk slotOk kindOf formOf slotOf offsetOf leadOf leadOk byteOf operands fieldsFrom judgedW okW entryW cmdOk children plain inner typesOf usesVar bindsVar bindsName all-of wordsOf headWord slots filled shapeOf sumOf eitherOf
+  law-x-sum = at (eqb i 0) refl (eqb i 1) refl ∙ sym (ap (λ w. judgedW w J) (written-sum (fieldsFrom (operands x-sum) s 1)))
     where
       i : ℕ
       i = fieldAt 1 s 1
@@ -264,8 +265,8 @@ module _ (s : List ℕ) (J : Job) where
   form-same h e p q r t = rw (p, q, r, t)
 
   pub law-x-limit : formEntry (byteOf x-limit) s (J .names) (shapeOf J) ≡ judgedW (written x-limit (fieldsFrom (operands x-limit) s 1)) J
-  unfolding digitOf rowOf formEntry placesOk slotsOk slotOk kindOf formOf slotOf offsetOf leadOf leadOk byteOf written operands fieldsFrom judgedW okW entryW cmdOk children plain inner typesOf usesVar bindsVar bindsName all-of wordsOf headWord slots filled shapeOf limitOf limitOk keyOk _and_
-  law-x-limit = at (fieldAt 1 s 1) (leb (fieldAt 1 s 1) 4) refl
+  unfolding digitOf rowOf formEntry placesOk slotsOk slotOk kindOf formOf slotOf offsetOf leadOf leadOk byteOf operands fieldsFrom judgedW okW entryW cmdOk children plain inner typesOf usesVar bindsVar bindsName all-of wordsOf headWord slots filled shapeOf limitOf limitOk keyOk _and_
+  law-x-limit = at (fieldAt 1 s 1) (leb (fieldAt 1 s 1) 4) refl ∙ sym (ap (λ w. judgedW w J) (written-limit (fieldsFrom (operands x-limit) s 1)))
     where
       k : ℕ → ℕ
       k o = fieldAt 2 s o

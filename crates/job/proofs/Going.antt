@@ -11,6 +11,7 @@ use lib.Seq.{getD-set-same, getD-set-other}
 use lib.Dec.{ltb, leb}
 use borrow.Author.Tests.{leb-true, ltb-true, ltb-false, eq-eqb, ne-eqb}
 use Rattle.order.specs.OrderLaws.{length-snoc}
+use Rattle.order.specs.Effects.{ofWord}
 use Rattle.syntax.specs.Types.{TypeEntry, tree, depth}
 use Rattle.syntax.specs.TypeLaws.{tree-kept}
 use Rattle.syntax.specs.Commands.{Cmd, Op, opOf, width, sectionOf}
@@ -146,7 +147,7 @@ module _ (J : Job) (g g' : Shape) (d n t s v h p d' n' t' s' v' h' p' : List ℕ
       record {
         shape =
             w' ∙ ap (λ (k : Shape). shapeAfter (Named (nameWord x)) k) (a .shape)
-            ∙ ap (λ (k : ℕ). record { names = k; types = length (J .types); values = length (J .values); cmds = length (J .cmds); rights = J .rights }) (add-one (length (J .names)) ∙ sym y);
+            ∙ ap (λ (k : ℕ). record { names = k; types = length (J .types); values = length (J .values); cmds = length (J .cmds); rights = J .rights .set }) (add-one (length (J .names)) ∙ sym y);
         holds =
             record {
               names = stored kn (nameWords J) (nameWords (extended (w-name x) J)) (g .names + 2) (nameWord x) (a .holds .names) (q .names) (omega (arith, long .names)) (omega arith) (ap (λ (m : List ℕ). 0 ∷ 0 ∷ m) (map-snoc nameWord (J .names) x));
@@ -172,7 +173,7 @@ module _ (J : Job) (g g' : Shape) (d n t s v h p d' n' t' s' v' h' p' : List ℕ
       record {
         shape =
             w' ∙ ap (λ (k : Shape). shapeAfter (Typed (typeWord x) (setWord x) (newDepth J x)) k) (a .shape)
-            ∙ ap (λ (k : ℕ). record { names = length (J .names); types = k; values = length (J .values); cmds = length (J .cmds); rights = J .rights }) (add-one (length (J .types)) ∙ sym y);
+            ∙ ap (λ (k : ℕ). record { names = length (J .names); types = k; values = length (J .values); cmds = length (J .cmds); rights = J .rights .set }) (add-one (length (J .types)) ∙ sym y);
         holds =
             record {
               names = q .names ∙ a .holds .names;
@@ -207,7 +208,7 @@ module _ (J : Job) (g g' : Shape) (d n t s v h p d' n' t' s' v' h' p' : List ℕ
       record {
         shape =
             w' ∙ ap (λ (k : Shape). shapeAfter (Valued (valueWord x)) k) (a .shape)
-            ∙ ap (λ (k : ℕ). record { names = length (J .names); types = length (J .types); values = k; cmds = length (J .cmds); rights = J .rights }) (add-one (length (J .values)) ∙ sym y);
+            ∙ ap (λ (k : ℕ). record { names = length (J .names); types = length (J .types); values = k; cmds = length (J .cmds); rights = J .rights .set }) (add-one (length (J .values)) ∙ sym y);
         holds =
             record {
               names = q .names ∙ a .holds .names;
@@ -222,7 +223,7 @@ module _ (J : Job) (g g' : Shape) (d n t s v h p d' n' t' s' v' h' p' : List ℕ
         five = a .five;
       }
 
-  extend-rights : (x : ℕ) → g' ≡ shapeAfter (Rights x) g → Put (Rights x) g d n t s v h p d' n' t' s' v' h' p' → Tables (extended (w-rights x) J) g' d' n' t' s' v' h' p' kn kt ks kv kh kp
+  extend-rights : (x : ℕ) → g' ≡ shapeAfter (Rights x) g → Put (Rights x) g d n t s v h p d' n' t' s' v' h' p' → Tables (extended (w-rights (ofWord x)) J) g' d' n' t' s' v' h' p' kn kt ks kv kh kp
   unfolding extended shapeOf shapeAfter namesAfter typesAfter setsAfter depthsAfter valuesAfter headsAfter slotsAfter
   extend-rights x w' q =
       record {
@@ -251,7 +252,7 @@ module _ (J : Job) (g g' : Shape) (d n t s v h p d' n' t' s' v' h' p' : List ℕ
       record {
         shape =
             w' ∙ ap (λ (k : Shape). shapeAfter (Formed (wordsOf x)) k) (a .shape)
-            ∙ ap (λ (k : ℕ). record { names = length (J .names); types = length (J .types); values = length (J .values); cmds = k; rights = J .rights }) (add-one (length (J .cmds)) ∙ sym y);
+            ∙ ap (λ (k : ℕ). record { names = length (J .names); types = length (J .types); values = length (J .values); cmds = k; rights = J .rights .set }) (add-one (length (J .cmds)) ∙ sym y);
         holds =
             record {
               names = q .names ∙ a .holds .names;
@@ -275,7 +276,7 @@ module _ (J : Job) (g g' : Shape) (d n t s v h p d' n' t' s' v' h' p' : List ℕ
   extend-tables x (adds-name y) ok sec o w' q = extend-name y (o .few-names) w' q
   extend-tables x (adds-type y) ok sec o w' q = extend-type y ok (o .few-types) w' q
   extend-tables x (adds-value y) ok sec o w' q = extend-value y (o .few-values) w' q
-  extend-tables x (adds-rights y) ok sec o w' q = extend-rights y w' q
+  extend-tables x (adds-rights y) ok sec o w' q = extend-rights (y .set) w' q
   extend-tables x (adds-cmd y l) ok sec o w' q = extend-cmd y l (o .few-cmds) w' q
 
 -- One command

@@ -1,6 +1,6 @@
 -- Facts on bytes and lists that the readers and the stores rest on.
-use mathlib.Core.Path.{_≡_, refl, sym, ap, _∙_}
-use Prim.Native.Nat.{ℕ, _+_, _-_, _*_, _≤_, _<_}
+use mathlib.Core.Path.{_≡_, sym, ap, _∙_}
+use Prim.Native.Nat.{ℕ, _+_, _-_, _*_, _<_}
 use native.Mathlib.Omega.{arith}
 use mathlib.Core.List.{List, [], _∷_}
 use lib.ListN.{length, getD, take, drop, length-drop, drop-of-length-le}
@@ -50,10 +50,6 @@ drop-past n l h = sym (drop-of-length-le l {i = n} (omega arith))
 
 pub part-width : (at w : ℕ) → at + w - at ≡ w
 part-width at w = omega arith
-
-pub first-none : (s : List ℕ) → length s ≤ 0 → 0 ≡ getD s 0 0
-first-none [] h = refl
-first-none (a ∷ s) h = absurd (omega arith)
 
 -- nothing is left after a command whose operands are missing
 pub rest-short : (s : List ℕ) (b w : ℕ) → b ≡ getD s 0 0 → w ≡ widthByte b → length s < w + 1 → [] ≡ restOf s

@@ -2,7 +2,7 @@
 use mathlib.Core.Path.{_≡_, refl, sym, ap, ap₂, _∙_}
 use Prim.Native.Nat.{ℕ, zero, suc, _+_, _≤_, _<_}
 use native.Mathlib.Omega.{arith}
-use mathlib.Core.Bool.{Bool, true, false, cond, false≢true}
+use mathlib.Core.Bool.{Bool, true, false, cond}
 use mathlib.Core.List.{List, [], _∷_}
 use mathlib.Core.Option.{none, some, Option·none-ne-some, Option·some-injective}
 use lib.ListN.{length, take, drop}
@@ -10,7 +10,7 @@ use lib.Seq.{drop-drop}
 use lib.Dec.{eqb, ltb, leb}
 use borrow.Author.Tests.{eqb-true, le-leb, leb-true, leb-false, lt-leb}
 use Rattle.order.specs.Bools.{_and_, _or_}
-use Rattle.syntax.specs.Commands.{Op, o-host, o-local, o-number, o-pair, o-cell, o-function, o-limit, o-grant, o-value, o-rights, o-end, form, Coded, commands, findOp, opOf, total, width, sectionOf, little, fields}
+use Rattle.syntax.specs.Commands.{Op, o-host, o-local, o-number, o-pair, o-cell, o-function, o-limit, o-grant, o-value, o-rights, o-end, form, commands, findOp, opOf, total, width, sectionOf, little, fields}
 use Rattle.syntax.specs.Commands.{x-number, x-top, x-variable, x-pair, x-part, x-function, x-apply, x-cell, x-assign, x-read, x-sum, x-test, x-limit, x-grant, x-newkey, x-associate}
 use Rattle.syntax.specs.Job.{Job}
 use Rattle.syntax.specs.Reading.{State, misplaced, full}
@@ -21,25 +21,19 @@ unfoldable pub byteOf : Op → ℕ
 unfolding form
 byteOf o = form o .byte
 
-rightly : List Coded → Bool
-rightly [] = true
-rightly (c ∷ l) = cond (eqb (byteOf (c .op)) (c .byte)) (rightly l) false
-
-found : (l : List Coded) (b : ℕ) (o : Op) → rightly l ≡ true → findOp l b ≡ some o → b ≡ byteOf o
-unfolding findOp rightly
-found [] b o r e = absurd (Option·none-ne-some o e)
-found (c ∷ l) b o r e = at (eqb (byteOf (c .op)) (c .byte)) refl (eqb b (c .byte)) refl r e (λ h k. found l b o h k)
+found : (l : List Op) (b : ℕ) (o : Op) → findOp l b ≡ some o → b ≡ byteOf o
+unfolding findOp byteOf
+found [] b o e = absurd (Option·none-ne-some o e)
+found (p ∷ l) b o e = at (eqb b (byteOf p)) refl e (λ k. found l b o k)
   where
-    at : (x : Bool) → eqb (byteOf (c .op)) (c .byte) ≡ x → (y : Bool) → eqb b (c .byte) ≡ y → cond x (rightly l) false ≡ true → cond y (some (c .op)) (findOp l b) ≡ some o
-        → (rightly l ≡ true → findOp l b ≡ some o → b ≡ byteOf o) → b ≡ byteOf o
-    at true p true q h k g = eqb-true b (c .byte) q ∙ sym (eqb-true (byteOf (c .op)) (c .byte) p) ∙ ap byteOf (Option·some-injective (c .op) o k)
-    at true p false q h k g = g h k
-    at false p y q h k g = absurd (false≢true h)
+    at : (y : Bool) → eqb b (byteOf p) ≡ y → cond y (some p) (findOp l b) ≡ some o → (findOp l b ≡ some o → b ≡ byteOf o) → b ≡ byteOf o
+    at true q k g = eqb-true b (byteOf p) q ∙ ap byteOf (Option·some-injective p o k)
+    at false q k g = g k
 
 -- the byte of a command
 pub op-byte : (b : ℕ) (o : Op) → opOf b ≡ some o → b ≡ byteOf o
-unfolding opOf commands rightly byteOf
-op-byte b o e = found commands b o refl e
+unfolding opOf
+op-byte b o e = found commands b o e
 
 -- the section of a command, by its byte and by its number
 sections : (o : Op) → (sectionByte (byteOf o) ≡ sectionOf o) × (sectionOf o < 6)

@@ -2,7 +2,7 @@
 use mathlib.Core.Path.{_≡_, refl, sym, ap, ap₂, _∙_, subst}
 use Prim.Native.Nat.{ℕ, _-_, _≤_, _<_}
 use native.Mathlib.Omega.{arith}
-use mathlib.Core.Bool.{Bool, true, false, true≢false}
+use mathlib.Core.Bool.{true, false, true≢false}
 use mathlib.Core.List.{List}
 use lib.ListN.{length, getD, set, length-set}
 use lib.Seq.{getD-set-same, getD-set-other}
@@ -12,7 +12,7 @@ use borrow.Author.Tests.{lt-ltb, le-ltb}
 use Rattle.names.specs.Ancestors.{namesIn, ancestorsBy}
 use Rattle.job.specs.Bytes.{sectionByte, restOf}
 use Rattle.job.specs.Entries.{namesAfter, typesAfter, setsAfter, valuesAfter, headsAfter, slotsAfter, ancestorsAfter, shapeAfter, judgedBy, judgedIn}
-use Rattle.job.specs.Answer.{Filled, Put, stopsOf, stoppedOf}
+use Rattle.job.specs.Answer.{Filled, Put, stopsOf}
 use Rattle.job.specs.Told.{sortOf, numberOf, lentOf, countedBy, stoppedBy, counted-is, stopped-is, stops-is}
 use Rattle.job.specs.Lent.{Table, PutLent, entryFor, Command}
 use Rattle.job.specs.declared.Shape.{Shape}

@@ -10,6 +10,7 @@ use lib.ListN.{length, getD}
 use lib.Dec.{eqb, ltb, leb}
 use borrow.Author.Tests.{lt-ltb, le-ltb, ltb-true, ltb-false}
 use Rattle.order.specs.Bools.{_and_}
+use Rattle.order.specs.Effects.{ofWord}
 use Rattle.syntax.specs.Types.{TypeEntry, e-num, e-pair, e-cell, e-fn, e-lim, e-grant, entryTree, tree, depth}
 use Rattle.syntax.specs.TypeLaws.{tree-new}
 use Rattle.syntax.specs.Commands.{o-number, o-pair, o-cell, o-function, o-limit, o-grant, operands}
@@ -112,7 +113,7 @@ join-key true false true x r = refl
 join-key true false false x r = refl
 
 module _ (s : List ℕ) (J : Job) (ok : TypesOk (J .names) (J .types)) (depths : List ℕ) (deep : (i : ℕ) → i < length (J .types) → getD depths i 0 ≡ depth (tree (J .types) i))
-    (anc : List ℕ) (sets : (x : ℕ) → setOkBy anc (length (J .names)) x ≡ setOk (J .names) x) where
+    (anc : List ℕ) (sets : (x : ℕ) → setOkBy anc (length (J .names)) x ≡ setOk (J .names) (ofWord x)) where
   pub law-o-number : typeEntry (byteOf o-number) s anc (length (J .names)) depths (length (J .types)) ≡ judgedW (written o-number (fieldsFrom (operands o-number) s 1)) J
   unfolding typeEntry typeBy byteOf written operands fieldsFrom declaredOf declared partsOk typeWord setWord entryTree depth
   law-o-number = judged-type J ok depths deep (e-num (fieldAt 1 s 1)) (declared (J .names) (fieldAt 1 s 1)) refl 0 (λ h. refl)
@@ -147,9 +148,9 @@ module _ (s : List ℕ) (J : Job) (ok : TypesOk (J .names) (J .types)) (depths :
       let x = fieldAt 8 s 6 in
       let n = length (J .types) in
       ap₂ (λ (o : Bool) (y : Entry). cond (declared (J .names) q) (cond o y (Refuse 6)) (Refuse 6)) (sets x)
-      (two-parts J ok depths deep (typeWord (e-fn q a b x)) x a b (ltb a n) (ltb b n) refl refl)
-      ∙ join-set (declared (J .names) q) (setOk (J .names) x) (ltb a n) (ltb b n) _ (Refuse 6)
-      ∙ judged-type J ok depths deep (e-fn q a b x) (declared (J .names) q and ltb a n and ltb b n and setOk (J .names) x) refl (max (depth (tree (J .types) a)) (depth (tree (J .types) b))) (λ h. refl)
+      (two-parts J ok depths deep (typeWord (e-fn q a b (ofWord x))) x a b (ltb a n) (ltb b n) refl refl)
+      ∙ join-set (declared (J .names) q) (setOk (J .names) (ofWord x)) (ltb a n) (ltb b n) _ (Refuse 6)
+      ∙ judged-type J ok depths deep (e-fn q a b (ofWord x)) (declared (J .names) q and ltb a n and ltb b n and setOk (J .names) (ofWord x)) refl (max (depth (tree (J .types) a)) (depth (tree (J .types) b))) (λ h. refl)
 
   pub law-o-limit : typeEntry (byteOf o-limit) s anc (length (J .names)) depths (length (J .types)) ≡ judgedW (written o-limit (fieldsFrom (operands o-limit) s 1)) J
   unfolding typeEntry typeBy keyTypeOf byteOf written operands fieldsFrom declaredOf declared partsOk typeWord setWord entryTree depth

@@ -10,7 +10,7 @@ use lib.Dec.{eqb, ltb}
 use borrow.Author.Tests.{eq-eqb, ne-eqb, eqb-true, eqb-false, lt-ltb, le-ltb, ltb-true}
 use Rattle.order.specs.Bools.{_and_, and-l, and-r}
 use Rattle.order.specs.OrderLaws.{getElem?-some}
-use Rattle.syntax.specs.Types.{Ty, TypeEntry, e-num, e-pair, e-cell, e-fn, e-lim, e-grant, entryTree, tree}
+use Rattle.syntax.specs.Types.{Ty, TypeEntry, e-num, e-pair, e-cell, e-fn, e-lim, e-grant, entryTree, tree, byType, onNum, onCell, onGrant, onLim}
 use Rattle.syntax.specs.Commands.{o-value, operands}
 use Rattle.syntax.specs.Job.{Name, Job}
 use Rattle.syntax.specs.Words.{typeWord, valueWord}
@@ -63,7 +63,7 @@ module _ (J : Job) (ok : TypesOk (J .names) (J .types)) (few : length (J .names)
       ne-eqb ((n + 256 * q + 65536 * a + 4294967296 * b) % 65536) 16 (λ y. omega arith)
 
   content-of : (i : ℕ) (e : TypeEntry) → partsOk (J .names) i e ≡ true → eqb (typeWord e % 65536) 0x10 ≡ unkeyedNumber (entryTree (some e) (tree (J .types)))
-  unfolding typeWord partsOk entryTree unkeyedNumber
+  unfolding typeWord partsOk entryTree unkeyedNumber onNum byType
   content-of i (e-num q) h =
       let z : (0x10 + 256 * q + 65536 * 0 + 4294967296 * 0) % 65536 ≡ (16 + 256 * q) % 65536 = omega arith in
       ap (λ (k : ℕ). eqb k 16) z ∙ number q (small q h) (eqb q 0) refl
@@ -97,7 +97,7 @@ module _ (J : Job) (ok : TypesOk (J .names) (J .types)) (few : length (J .names)
   low n q r g h = let z : (n + 256 * q + 65536 * r + 4294967296 * 0) % 256 ≡ n = omega arith in omega arith
 
   host-of : (i x : ℕ) → i < length (J .types) → (e : TypeEntry) → partsOk (J .names) i e ≡ true → hostWordOk types (J .names) (typeWord e) x ≡ hostTypeOk (J .names) (entryTree (some e) (tree (J .types))) x
-  unfolding typeWord partsOk entryTree hostTypeOk
+  unfolding typeWord partsOk entryTree hostTypeOk onCell byType onLim onGrant
   host-of i x l (e-num q) h = plain-of x 16 q 0 0 (omega arith) (λ z. omega arith)
   host-of i x l (e-pair q a b) h = plain-of x 17 q a b (omega arith) (λ z. omega arith)
   host-of i x l (e-cell q a) h =

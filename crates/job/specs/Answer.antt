@@ -2,7 +2,7 @@
 use mathlib.Core.Path.{_≡_}
 use Prim.Native.Nat.{ℕ, _+_, _*_, _≤_}
 use mathlib.Core.Bool.{Bool, true, false, cond}
-use mathlib.Core.List.{List, [], _∷_}
+use mathlib.Core.List.{List}
 use lib.ListN.{length, replicate}
 use lib.Dec.{eqb, leb}
 use Rattle.syntax.specs.Job.{Job}
@@ -17,7 +17,7 @@ use Rattle.job.specs.declared.Entry.the-variants.{Refuse, Named, Typed, 
 
 -- the counts of a job's entries, and its rights
 unfoldable pub shapeOf : Job → Shape
-shapeOf J = record { names = length (J .names); types = length (J .types); values = length (J .values); cmds = length (J .cmds); rights = J .rights }
+shapeOf J = record { names = length (J .names); types = length (J .types); values = length (J .values); cmds = length (J .cmds); rights = J .rights .set }
 
 abbrev pub refusedBy : ℕ → ℕ → Answer
 refusedBy n p = answers.Refused (record { number = n; place = p })

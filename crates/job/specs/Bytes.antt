@@ -1,5 +1,5 @@
 -- What the reader takes from the bytes of a job: operands, widths, sections, the rest.
-use Prim.Native.Nat.{ℕ, zero, suc, _+_, _-_, _*_, _/_, _%_, _^_}
+use Prim.Native.Nat.{ℕ, _+_, _-_, _*_, _/_, _%_, _^_}
 use mathlib.Core.Bool.{Bool, true, false, cond}
 use mathlib.Core.List.{List, [], _∷_}
 use mathlib.Core.Option.{Option, none, some}
@@ -21,9 +21,9 @@ widthOn (some o) = width o
 unfoldable pub widthByte : ℕ → ℕ
 widthByte b = widthOn (opOf b)
 
--- the section of a command byte
+-- the section of a command byte; commands from 0x30 on are expressions, but for the end
 unfoldable pub sectionByte : ℕ → ℕ
-sectionByte b = cond (ltb b 0x10) 0 (cond (ltb b 0x20) 1 (cond (eqb b 0x20) 2 (cond (eqb b 0x21) 3 (cond (ltb b 0x40) 4 5))))
+sectionByte b = cond (ltb b 0x10) 0 (cond (ltb b 0x20) 1 (cond (eqb b 0x20) 2 (cond (eqb b 0x21) 3 (cond (ltb b 0xFF) 4 5))))
 
 -- what follows the first command
 unfoldable pub restOf : List ℕ → List ℕ

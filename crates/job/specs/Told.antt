@@ -1,7 +1,7 @@
 -- What came of a command, in words: its sort, the number of a refusal, the rights that it lends; and the counts and the answer by them.
-use mathlib.Core.Path.{_≡_, refl, sym, _∙_}
+use mathlib.Core.Path.{_≡_, refl, sym}
 use Prim.Native.Nat.{ℕ, _+_}
-use mathlib.Core.Bool.{Bool, true, false, cond, true≢false}
+use mathlib.Core.Bool.{true, false, cond, true≢false}
 use lib.Dec.{eqb, ltb}
 use Rattle.job.specs.Entries.{shapeAfter}
 use Rattle.job.specs.Answer.{refusedBy, shapeOver, stopsOf, stoppedOf}

@@ -142,7 +142,7 @@ pub fn section(op: u8) -> u8
     if op == 0x21 {
         return 3;
     }
-    if op < 0x40 {
+    if op < 0xFF {
         return 4;
     }
     5

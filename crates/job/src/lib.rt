@@ -21,7 +21,7 @@ use table::MOST_VARIABLES;
 pub use table::Refusal;
 pub use table::clear16;
 pub use table::clear64;
-use tables::clear_all;
+pub use tables::clear_all;
 use tables::counted;
 use tables::enter;
 use tables::lent;

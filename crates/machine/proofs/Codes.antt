@@ -1,6 +1,6 @@
 -- What the bytes of a command come to.
 use Prim.Native.Nat.{ℕ, zero, suc, _+_, _*_, _/_, _%_, _<_, _≤_}
-use mathlib.Core.Path.{_≡_, refl, sym, _∙_, ap}
+use mathlib.Core.Path.{_≡_, refl, sym, _∙_, ap, subst⁻¹}
 use mathlib.Core.Bool.{Bool, true, false, cond}
 use mathlib.Core.List.{List, [], _∷_, _++_}
 use mathlib.Core.Option.{none, some}
@@ -9,11 +9,14 @@ use borrow.Author.Tests.{eqb-true, ne-eqb}
 use lib.Dec.{eqb, ltb}
 use lib.ListN.{take, getD, getElem?}
 use Rattle.syntax.specs.Commands.{Cmd, c-num, c-top, c-var, c-pair, c-part, c-fn, c-app, c-new, c-asg, c-read, c-sum, c-test, c-lim, c-grant, c-newkey, c-assoc}
+use Rattle.syntax.specs.Operands.{evaluated}
 use Rattle.syntax.specs.Words.{decode, codeIn}
+use Rattle.syntax.specs.DecodeLaws.{decodeBy, decode-is}
 use Rattle.semantics.specs.Machine.{Value, Machine}
-use Rattle.semantics.specs.Step.{o-stuck, d-push, does, free, room, touchAll, p-wrong, settle, worked, enterCmd, enterLim, act, one, two, actLim, actTest}
+use Rattle.semantics.specs.Step.{o-stuck, room, touchAll, p-wrong, settle, push, act, enterAt, enterCmd, bare, one, two, limitKeys, keysOf, actLim, actTest}
+use Rattle.semantics.specs.KeyLaws.{narrow-none}
 use Rattle.store.specs.Frames.{handOf}
-use Rattle.machine.specs.Inner.{deed, go, Works}
+use Rattle.machine.specs.Inner.{go, Works}
 use Rattle.machine.proofs.Limit.{padded}
 
 by : {A : Type 0} (P : A → Type 0) (b : Bool) (x y : A) → (b ≡ true → P x) → P y → P (cond b x y)
@@ -28,9 +31,10 @@ module _ (P : Cmd ℕ → Type 0) (op x a b c d e : ℕ) where
       (op ≡ 0x39 → P (c-read a)) → (op ≡ 0x3A → P (c-sum (eqb x 0) a b)) → (op ≡ 0x3B → P (c-test a b c d)) →
       (op ≡ 0x3C → P (c-lim (take x (a ∷ b ∷ c ∷ d ∷ [])) e)) → (op ≡ 0x3D → P (c-grant a b)) →
       (op ≡ 0x3E → P (c-newkey (x % 256) (x / 256 % 256) a b c)) → (op ≡ 0x3F → P (c-assoc a b)) → P (c-num x) → P (decode op x a b c d e)
-  unfolding decode
+  unfolding decodeBy
   decode-cases f1 f2 f3 f4 f5 f6 f7 f8 f9 fa fb fc fd fe ff g =
-      by P (eqb op 0x31) _ _ (λ h. f1 (eqb-true op 0x31 h))
+      subst⁻¹ P (decode-is op x a b c d e)
+      (by P (eqb op 0x31) _ _ (λ h. f1 (eqb-true op 0x31 h))
       (by P (eqb op 0x32) _ _ (λ h. f2 (eqb-true op 0x32 h))
       (by P (eqb op 0x33) _ _ (λ h. f3 (eqb-true op 0x33 h))
       (by P (eqb op 0x34) _ _ (λ h. f4 (eqb-true op 0x34 h))
@@ -44,46 +48,24 @@ module _ (P : Cmd ℕ → Type 0) (op x a b c d e : ℕ) where
       (by P (eqb op 0x3C) _ _ (λ h. fc (eqb-true op 0x3C h))
       (by P (eqb op 0x3D) _ _ (λ h. fd (eqb-true op 0x3D h))
       (by P (eqb op 0x3E) _ _ (λ h. fe (eqb-true op 0x3E h))
-      (by P (eqb op 0x3F) _ _ (λ h. ff (eqb-true op 0x3F h)) g))))))))))))))
-
-nil-cons : {x : ℕ} {t : List ℕ} → [] ≡ x ∷ t → ⊥
-nil-cons p = let z : _≡_ {A = ℕ} 0 1 = cc in omega arith
+      (by P (eqb op 0x3F) _ _ (λ h. ff (eqb-true op 0x3F h)) g)))))))))))))))
 
 cons-nil : {x : ℕ} {t : List ℕ} → x ∷ t ≡ [] → ⊥
 cons-nil p = let z : _≡_ {A = ℕ} 0 1 = cc in omega arith
 
-head-same : {x y : ℕ} {s t : List ℕ} → x ∷ s ≡ y ∷ t → x ≡ y
-head-same p = cc
+-- an operand is evaluated: entering pushes a frame
+pub enter-push : (e : ℕ) (k : Cmd ℕ) (a : ℕ) (l : List ℕ) (m : Machine) → evaluated k ≡ a ∷ l → enterCmd e k m ≡ push e a m
+unfolding enterCmd enterAt
+enter-push e k a l m h = rw h
 
--- an operand is worked out: entering pushes a frame
-pub enter-push : (e : ℕ) (k : Cmd ℕ) (a : ℕ) (l : List ℕ) (m : Machine) → worked k ≡ a ∷ l → enterCmd e k m ≡ deed (d-push e a) m
-unfolding worked enterCmd enterLim
-enter-push e (c-num n) a l m h = absurd (nil-cons h)
-enter-push e c-top a l m h = absurd (nil-cons h)
-enter-push e (c-var v) a l m h = absurd (nil-cons h)
-enter-push e (c-pair x y) a l m h = ap (λ (i : ℕ). deed (d-push e i) m) (head-same h)
-enter-push e (c-part x i) a l m h = ap (λ (i : ℕ). deed (d-push e i) m) (head-same h)
-enter-push e (c-fn v t b) a l m h = absurd (nil-cons h)
-enter-push e (c-app x y) a l m h = ap (λ (i : ℕ). deed (d-push e i) m) (head-same h)
-enter-push e (c-new t x) a l m h = ap (λ (i : ℕ). deed (d-push e i) m) (head-same h)
-enter-push e (c-asg x y) a l m h = ap (λ (i : ℕ). deed (d-push e i) m) (head-same h)
-enter-push e (c-read x) a l m h = ap (λ (i : ℕ). deed (d-push e i) m) (head-same h)
-enter-push e (c-sum i x y) a l m h = ap (λ (i : ℕ). deed (d-push e i) m) (head-same h)
-enter-push e (c-test x y z t) a l m h = ap (λ (i : ℕ). deed (d-push e i) m) (head-same h)
-enter-push e (c-lim [] b) a l m h = absurd (nil-cons h)
-enter-push e (c-lim (x ∷ ks) b) a l m h = ap (λ (i : ℕ). deed (d-push e i) m) (head-same h)
-enter-push e (c-grant x y) a l m h = ap (λ (i : ℕ). deed (d-push e i) m) (head-same h)
-enter-push e (c-newkey v r x y t) a l m h = ap (λ (i : ℕ). deed (d-push e i) m) (head-same h)
-enter-push e (c-assoc x y) a l m h = ap (λ (i : ℕ). deed (d-push e i) m) (head-same h)
-
--- no operand is worked out, and the byte is none of those that have an arm of their own
+-- no operand is evaluated, and the byte is none of those that have an arm of their own
 pub enter-number :
     (op x a b c d e : ℕ) → Works op x 0 → (op ≡ 0x31 → ⊥) → (op ≡ 0x32 → ⊥) → (op ≡ 0x35 → ⊥) → (op ≡ 0x3C → ⊥) → decode op x a b c d e ≡ c-num x
-unfolding worked
+unfolding evaluated
 enter-number op x a b c d e w h1 h2 h5 hc = at (w .all a b c d e)
   where
-    at : worked (decode op x a b c d e) ≡ take 0 (a ∷ b ∷ c ∷ d ∷ []) → decode op x a b c d e ≡ c-num x
-    at = decode-cases (λ k. worked k ≡ [] → k ≡ c-num x) op x a b c d e
+    at : evaluated (decode op x a b c d e) ≡ take 0 (a ∷ b ∷ c ∷ d ∷ []) → decode op x a b c d e ≡ c-num x
+    at = decode-cases (λ k. evaluated k ≡ [] → k ≡ c-num x) op x a b c d e
         (λ h. absurd (h1 h)) (λ h. absurd (h2 h)) (λ h p. absurd (cons-nil p)) (λ h p. absurd (cons-nil p)) (λ h. absurd (h5 h)) (λ h p. absurd (cons-nil p)) (λ h p. absurd (cons-nil p))
         (λ h p. absurd (cons-nil p)) (λ h p. absurd (cons-nil p)) (λ h p. absurd (cons-nil p)) (λ h p. absurd (cons-nil p)) (λ h. absurd (hc h)) (λ h p. absurd (cons-nil p)) (λ h p. absurd (cons-nil p))
         (λ h p. absurd (cons-nil p)) (λ p. refl)
@@ -92,7 +74,7 @@ enter-number op x a b c d e w h1 h2 h5 hc = at (w .all a b c d e)
 pub one-stuck :
     (op x a b c d e : ℕ) (v : Value) (m : Machine) → (op ≡ 0x34 → ⊥) → (op ≡ 0x37 → ⊥) → (op ≡ 0x39 → ⊥) → (op ≡ 0x3B → ⊥) → (op ≡ 0x3C → ⊥) → (op ≡ 0x3D → ⊥) → (op ≡ 0x3E → ⊥) →
     act (decode op x a b c d e) (v ∷ []) m ≡ p-wrong
-unfolding act two
+unfolding act bare two
 one-stuck op x a b c d e v m h4 h7 h9 hb hc hd he = decode-cases (λ k. act k (v ∷ []) m ≡ p-wrong) op x a b c d e
     (λ h. refl) (λ h. refl) (λ h. refl) (λ h. absurd (h4 h)) (λ h. refl) (λ h. refl) (λ h. absurd (h7 h)) (λ h. refl) (λ h. absurd (h9 h)) (λ h. refl)
     (λ h. absurd (hb h)) (λ h. absurd (hc h)) (λ h. absurd (hd h)) (λ h. absurd (he h)) (λ h. refl) refl
@@ -100,14 +82,14 @@ one-stuck op x a b c d e v m h4 h7 h9 hb hc hd he = decode-cases (λ k. act k (v
 pub two-stuck :
     (op x a b c d e : ℕ) (u v : Value) (m : Machine) → (op ≡ 0x33 → ⊥) → (op ≡ 0x36 → ⊥) → (op ≡ 0x38 → ⊥) → (op ≡ 0x3A → ⊥) → (op ≡ 0x3C → ⊥) → (op ≡ 0x3F → ⊥) →
     act (decode op x a b c d e) (u ∷ v ∷ []) m ≡ p-wrong
-unfolding act one
+unfolding act bare one
 two-stuck op x a b c d e u v m h3 h6 h8 ha hc hf = decode-cases (λ k. act k (u ∷ v ∷ []) m ≡ p-wrong) op x a b c d e
     (λ h. refl) (λ h. refl) (λ h. absurd (h3 h)) (λ h. refl) (λ h. refl) (λ h. absurd (h6 h)) (λ h. refl) (λ h. absurd (h8 h)) (λ h. refl) (λ h. absurd (ha h))
     (λ h. refl) (λ h. absurd (hc h)) (λ h. refl) (λ h. refl) (λ h. absurd (hf h)) refl
 
 -- no command but a limit acts on three values or more
 pub more-stuck : (op x a b c d e : ℕ) (u v w : Value) (l : List Value) (m : Machine) → (op ≡ 0x3C → ⊥) → act (decode op x a b c d e) (u ∷ v ∷ w ∷ l) m ≡ p-wrong
-unfolding act one two
+unfolding act bare one two
 more-stuck op x a b c d e u v w l m hc = decode-cases (λ k. act k (u ∷ v ∷ w ∷ l) m ≡ p-wrong) op x a b c d e
     (λ h. refl) (λ h. refl) (λ h. refl) (λ h. refl) (λ h. refl) (λ h. refl) (λ h. refl) (λ h. refl) (λ h. refl) (λ h. refl)
     (λ h. refl) (λ h. absurd (hc h)) (λ h. refl) (λ h. refl) (λ h. refl) refl
@@ -116,10 +98,10 @@ more-stuck op x a b c d e u v w l m hc = decode-cases (λ k. act k (u ∷ v ∷ 
 pub works-none :
     (op x : ℕ) → (op ≡ 0x33 → ⊥) → (op ≡ 0x34 → ⊥) → (op ≡ 0x36 → ⊥) → (op ≡ 0x37 → ⊥) → (op ≡ 0x38 → ⊥) → (op ≡ 0x39 → ⊥) →
     (op ≡ 0x3A → ⊥) → (op ≡ 0x3B → ⊥) → (op ≡ 0x3C → ⊥) → (op ≡ 0x3D → ⊥) → (op ≡ 0x3E → ⊥) → (op ≡ 0x3F → ⊥) → Works op x 0
-unfolding worked
+unfolding evaluated
 works-none op x h3 h4 h6 h7 h8 h9 ha hb hc hd he hf =
     record {
-      all = λ a b c d e. decode-cases (λ k. worked k ≡ []) op x a b c d e
+      all = λ a b c d e. decode-cases (λ k. evaluated k ≡ []) op x a b c d e
           (λ h. refl) (λ h. refl) (λ h. absurd (h3 h)) (λ h. absurd (h4 h)) (λ h. refl) (λ h. absurd (h6 h)) (λ h. absurd (h7 h)) (λ h. absurd (h8 h)) (λ h. absurd (h9 h)) (λ h. absurd (ha h))
           (λ h. absurd (hb h)) (λ h. absurd (hc h)) (λ h. absurd (hd h)) (λ h. absurd (he h)) (λ h. absurd (hf h)) refl;
       few = omega arith;
@@ -135,11 +117,11 @@ take-four (suc (suc (suc (suc (suc x))))) a b c d h = refl
 
 -- a limit works out its keys
 pub works-limit : (op x : ℕ) → op ≡ 0x3C → x < 4 → Works op x x
-unfolding decode worked
+unfolding decode evaluated
 works-limit op x h l = record { all = λ a b c d e. simp h; few = omega arith }
 
 pub works-limit-all : (op x : ℕ) → op ≡ 0x3C → 4 ≤ x → Works op x 4
-unfolding decode worked
+unfolding decode evaluated
 works-limit-all op x h l = record { all = λ a b c d e. simp h (take-four x a b c d l); few = omega arith }
 
 -- the operand in hand next
@@ -204,25 +186,25 @@ module _ (heads slots : List ℕ) (i head : ℕ) (e : head ≡ getD heads i 0) w
   code-test v m h hb hc = simp (← e, h, ← hb, ← hc)
 
   code-works : (need : ℕ) → Works (head % 256) (head / 256 % 4294967296) need →
-      worked (codeIn heads slots i) ≡ take need (getD slots (i * 5) 0 ∷ getD slots (i * 5 + 1) 0 ∷ getD slots (i * 5 + 2) 0 ∷ getD slots (i * 5 + 3) 0 ∷ [])
+      evaluated (codeIn heads slots i) ≡ take need (getD slots (i * 5) 0 ∷ getD slots (i * 5 + 1) 0 ∷ getD slots (i * 5 + 2) 0 ∷ getD slots (i * 5 + 3) 0 ∷ [])
   unfolding codeIn
   code-works need w = simp (← e) (w .all _ _ _ _ _)
 
-  pub code-push : (j need : ℕ) (m : Machine) {a : ℕ} → Works (head % 256) (head / 256 % 4294967296) need → 0 < need → a ≡ getD slots (i * 5) 0 → enterCmd j (codeIn heads slots i) m ≡ deed (d-push j a) m
+  pub code-push : (j need : ℕ) (m : Machine) {a : ℕ} → Works (head % 256) (head / 256 % 4294967296) need → 0 < need → a ≡ getD slots (i * 5) 0 → enterCmd j (codeIn heads slots i) m ≡ push j a m
   code-push j zero m w h ha = absurd (omega arith)
-  code-push j (suc need) m w h ha = enter-push j (codeIn heads slots i) _ _ m (code-works (suc need) w) ∙ ap (λ (x : ℕ). deed (d-push j x) m) (sym ha)
+  code-push j (suc need) m w h ha = enter-push j (codeIn heads slots i) _ _ m (code-works (suc need) w) ∙ ap (λ (x : ℕ). push j x m) (sym ha)
 
   no-works : (x a b c d y : ℕ) → Works 0x3C x 0 → take x (a ∷ b ∷ c ∷ d ∷ []) ≡ []
-  unfolding decode worked
+  unfolding decode evaluated
   no-works x a b c d y w = w .all a b c d y
 
   pub code-bare : (j need : ℕ) (m : Machine) {body : ℕ} → head % 256 ≡ 0x3C → Works (head % 256) (head / 256 % 4294967296) need → need ≤ 0 → body ≡ getD slots (i * 5 + 4) 0 →
       settle (enterCmd j (codeIn heads slots i) m) ≡ go body (m .thread .env) 0 m
-  unfolding codeIn decode enterCmd enterLim settle touchAll free does room
+  unfolding codeIn decode evaluated enterCmd enterAt act actLim limitKeys keysOf settle touchAll room
   code-bare j (suc need) m h w l hb = absurd (omega arith)
   code-bare j zero m h w l hb =
       let t = no-works (head / 256 % 4294967296) (getD slots (i * 5) 0) (getD slots (i * 5 + 1) 0) (getD slots (i * 5 + 2) 0) (getD slots (i * 5 + 3) 0) 0 (rw h at w) in
-      simp (← e, h, t, ← hb)
+      simp (← e, h, t, ← hb, narrow-none (m .store .keys) (m .thread .on))
 
   pub code-number : (need : ℕ) → Works (head % 256) (head / 256 % 4294967296) need → need ≤ 0 → (head % 256 ≡ 0x31 → ⊥) → (head % 256 ≡ 0x32 → ⊥) → (head % 256 ≡ 0x35 → ⊥) →
       (head % 256 ≡ 0x3C → ⊥) → codeIn heads slots i ≡ c-num (head / 256 % 4294967296)

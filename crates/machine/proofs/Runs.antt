@@ -7,7 +7,7 @@ use Rattle.syntax.specs.Commands.{Cmd}
 use Rattle.semantics.specs.Machine.{Machine as Clean}
 use Rattle.semantics.specs.Step.{Out, o-step, o-done, o-room, o-stuck, o-denied, step}
 use Rattle.semantics.specs.Room.{isDone}
-use Rattle.semantics.specs.Calls.{Answer as SAnswer, taken, finished, spent, noroom, stuck, denied, Ran, ran, turn, run, call, one-step}
+use Rattle.semantics.specs.Calls.{stepsOf, Answer as SAnswer, taken, finished, spent, noroom, stuck, denied, Ran, ran, turn, run, call, one-step}
 use Rattle.machine.specs.declared.Answer.{Answer}
 use Rattle.machine.specs.declared.Answer.the-variants.{Taken, Finished, Spent, NoRoom, Stuck, Denied}
 use Rattle.machine.specs.Meaning.{answerIn}
@@ -71,7 +71,7 @@ module _ {T : Type 0} (code : ℕ → Cmd T) where
   loop-end zero c m h = refl
   loop-end (suc k) c m h = absurd (omega arith)
 
-  pub loop-one : (m : Clean) → loopOf code 1 0 m ≡ call code one-step m
+  pub loop-one : (m : Clean) → loopOf code 1 0 m ≡ call (stepsOf code) one-step m
   unfolding loopOf call turn
   loop-one m = refl
 
@@ -79,13 +79,13 @@ module _ {T : Type 0} (code : ℕ → Cmd T) where
   shut r = ran (closing (isDone (r .machine)) (r .answer)) (r .count) (r .machine)
 
   -- a run says at its end whether the machine is done
-  pub loop-run : (n c : ℕ) (m : Clean) → shut (loopOf code n c m) ≡ run code n c m
+  pub loop-run : (n c : ℕ) (m : Clean) → shut (loopOf code n c m) ≡ run (stepsOf code) n c m
   unfolding loopOf run turn
   loop-run zero c m = refl
   loop-run (suc n) c m = at (step code m) (λ t. loop-run n (suc c) t)
     where
-      at : (o : Out) → ((t : Clean) → shut (loopOf code n (suc c) t) ≡ run code n (suc c) t) →
-          shut (turn o c m (λ t. loopOf code n (suc c) t)) ≡ turn o c m (λ t. run code n (suc c) t)
+      at : (o : Out) → ((t : Clean) → shut (loopOf code n (suc c) t) ≡ run (stepsOf code) n (suc c) t) →
+          shut (turn o c m (λ t. loopOf code n (suc c) t)) ≡ turn o c m (λ t. run (stepsOf code) n (suc c) t)
       at (o-step t) f = f t
       at o-done f = refl
       at o-room f = refl
@@ -94,5 +94,5 @@ module _ {T : Type 0} (code : ℕ → Cmd T) where
 
 -- the loop's outcome with the answer of a run
 pub run-closed :
-    {T : Type 0} (code : ℕ → Cmd T) (n k : ℕ) (m p : Clean) {a b : SAnswer} {d : Bool} → ran a k p ≡ loopOf code n 0 m → d ≡ isDone p → b ≡ closing d a → ran b k p ≡ run code n 0 m
+    {T : Type 0} (code : ℕ → Cmd T) (n k : ℕ) (m p : Clean) {a b : SAnswer} {d : Bool} → ran a k p ≡ loopOf code n 0 m → d ≡ isDone p → b ≡ closing d a → ran b k p ≡ run (stepsOf code) n 0 m
 run-closed code n k m p hr hd hb = simp (hb, hd) (ap (λ (r : Ran). ran (closing (isDone (r .machine)) (r .answer)) (r .count) (r .machine)) hr ∙ loop-run code n 0 m)

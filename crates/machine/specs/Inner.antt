@@ -1,4 +1,4 @@
--- What the contracts of the thread's own functions say.
+-- What the contracts of the state's own functions say.
 use Prim.Native.Nat.{ℕ, zero, suc, _≤_}
 use mathlib.Core.Path.{_≡_}
 use mathlib.Core.Bool.{Bool, true, false, cond}
@@ -6,11 +6,12 @@ use mathlib.Core.List.{List, [], _∷_}
 use mathlib.Core.Option.{Option, none, some}
 use lib.ListN.{take}
 use Rattle.syntax.specs.Commands.{Cmd}
+use Rattle.syntax.specs.Operands.{evaluated}
 use Rattle.syntax.specs.Words.{decode}
 use Rattle.semantics.specs.Machine.{Value as SValue, Machine as Clean}
-use Rattle.semantics.specs.Step.{Out, o-step, o-done, o-room, o-stuck, o-denied, handing, entering, Deed, Plan, p-wrong, p-try, settle, step, worked}
+use Rattle.semantics.specs.Step.{Out, o-step, o-done, o-room, o-stuck, o-denied, handing, entering, Plan, p-wrong, settle, step}
 use Rattle.semantics.specs.Calls.{Answer as SAnswer, taken, finished, spent, noroom, stuck, denied, Ran, ran, turn}
-use Rattle.store.specs.declared.Expr.{Expr}
+use Rattle.table.specs.declared.Expr.{Expr}
 use Rattle.store.specs.declared.Keys.{Keys}
 use Rattle.store.specs.declared.Kind.{Kind}
 use Rattle.store.specs.declared.Value.{Value}
@@ -21,7 +22,7 @@ use Rattle.machine.specs.declared.Control.the-variants.{Enter, Hand}
 use Rattle.machine.specs.declared.Limits.{Limits}
 use Rattle.machine.specs.declared.Limits.the-variants.{All, Other}
 use Rattle.machine.specs.declared.Now.{Now}
-use Rattle.machine.specs.declared.Thread.{Thread}
+use Rattle.machine.specs.declared.State.{State}
 use Rattle.machine.specs.declared.Acted.{Acted}
 use Rattle.machine.specs.declared.Ended.{Ended}
 use Rattle.machine.specs.Meaning.{answerIn}
@@ -41,19 +42,15 @@ settled m o-stuck = record { machine = m; answer = stuck }
 settled m o-denied = record { machine = m; answer = denied }
 
 abbrev pub acted : Acted → Tables → Stepped
-acted r w = record { machine = view (r .thread) w; answer = answerIn (r .answer) }
+acted r w = record { machine = view (r .state) w; answer = answerIn (r .answer) }
 
--- a step of the thread
-abbrev pub stepped : Thread → Tables → (Clean → Out) → Stepped
+-- a step of the state
+abbrev pub stepped : State → Tables → (Clean → Out) → Stepped
 stepped self w f = settled (view self w) (f (view self w))
 
--- `back` is the thread with its newest frame popped, which acts; where it does not come to a step the thread is `self`
-abbrev pub tried : Thread → Thread → Tables → (Clean → Plan) → Stepped
+-- `back` is the state with its thread's newest frame popped, which acts; where it does not come to a step the state is `self`
+abbrev pub tried : State → State → Tables → (Clean → Plan) → Stepped
 tried self back w f = settled (view self w) (settle (f (view back w)))
-
--- a plan that touches nothing
-abbrev pub deed : Deed → Clean → Plan
-deed d m = p-try [] m d
 
 -- a step that hands on a value, or enters an expression
 abbrev pub give : SValue → Clean → Out
@@ -80,29 +77,20 @@ putFunctions w x = record { frames = w .frames; cells = w .cells; keys = w .keys
 abbrev pub putBindings : Tables → List ℕ → Tables
 putBindings w x = record { frames = w .frames; cells = w .cells; keys = w .keys; pairs = w .pairs; functions = w .functions; bindings = x }
 
-abbrev pub stopOf : Thread → Answer → Acted
-stopOf t a = record { thread = t; answer = a }
+abbrev pub stopOf : State → Answer → Acted
+stopOf t a = record { state = t; answer = a }
 
-abbrev pub withNow : Thread → Now → Thread
-withNow t n = record { now = n; frames = t .frames; cells = t .cells; keys = t .keys; pairs = t .pairs; functions = t .functions; bindings = t .bindings }
+abbrev pub withNow : State → Now → State
+withNow t n = record { thread = record { now = n; frames = t .thread .frames }; used = t .used }
 
-abbrev pub giveOf : Thread → Value → Acted
-giveOf t v = record { thread = withNow t (record { control = Hand v; env = t .now .env; on = t .now .on }); answer = Taken }
+abbrev pub giveOf : State → Value → Acted
+giveOf t v = record { state = withNow t (record { control = Hand v; env = t .thread .now .env; on = t .thread .now .on }); answer = Taken }
 
-abbrev pub goOf : Thread → Expr → ℕ → Keys → Acted
-goOf t e env on = record { thread = withNow t (record { control = Enter e; env = env; on = on }); answer = Taken }
+abbrev pub goOf : State → Expr → ℕ → Keys → Acted
+goOf t e env on = record { state = withNow t (record { control = Enter e; env = env; on = on }); answer = Taken }
 
-abbrev pub resumeOf : Thread → ℕ → ℕ → Keys → Thread
-resumeOf t top env on =
-    record {
-      now = record { control = t .now .control; env = env; on = on };
-      frames = top;
-      cells = t .cells;
-      keys = t .keys;
-      pairs = t .pairs;
-      functions = t .functions;
-      bindings = t .bindings;
-    }
+abbrev pub resumeOf : State → ℕ → ℕ → Keys → State
+resumeOf t top env on = record { thread = record { now = record { control = t .thread .now .control; env = env; on = on }; frames = top }; used = t .used }
 
 abbrev pub unkeyedOf : Kind → ℕ → Value
 unkeyedOf k n = record { key = record { 0 = 0 }; kind = k; payload = n }
@@ -117,9 +105,9 @@ abbrev pub orElse : {A : Type 0} → Option A → Option A → Option A
 orElse none b = b
 orElse (some a) b = some a
 
--- n operands are worked out before the act of a command: those in the first n of its places
+-- n operands are evaluated before the act of a command: those in the first n of its places
 pub record Works (op x n : ℕ) : Type 0 where
-  pub all : (a b c d e : ℕ) → worked (decode op x a b c d e) ≡ take n (a ∷ b ∷ c ∷ d ∷ [])
+  pub all : (a b c d e : ℕ) → evaluated (decode op x a b c d e) ≡ take n (a ∷ b ∷ c ∷ d ∷ [])
   pub few : n ≤ 4
 
 abbrev pub isTaken : Answer → Bool
@@ -137,7 +125,7 @@ module _ {T : Type 0} (code : ℕ → Cmd T) where
   loopOf (suc n) c m = turn (step code m) c m (λ t. loopOf n (suc c) t)
 
 abbrev pub ended : Ended → Tables → Ran
-ended r w = ran (answerIn (r .answer)) (r .taken) (view (r .thread) w)
+ended r w = ran (answerIn (r .answer)) (r .taken) (view (r .state) w)
 
 -- the answer of a run whose steps gave this one
 abbrev pub closing : Bool → SAnswer → SAnswer
@@ -151,4 +139,4 @@ closing d denied = denied
 -- a step that is taken
 pub record Went (r : Acted) (w : Tables) (o : Out) : Type 0 where
   pub answer : r .answer ≡ Taken
-  pub gives : o ≡ o-step (view (r .thread) w)
+  pub gives : o ≡ o-step (view (r .state) w)

@@ -3,11 +3,13 @@ use Prim.Native.Nat.{ℕ}
 use mathlib.Core.List.{List}
 use Rattle.semantics.specs.Machine.{Machine as Clean, most-frames, most-cells, most-keys, most-pairs, most-functions, most-bindings}
 use Rattle.semantics.specs.Calls.{Ran, ran}
+use Rattle.store.specs.declared.Used.{Used}
 use Rattle.store.specs.Meaning.{keysIn}
 use Rattle.store.specs.Words.{cellIn, pairIn, functionIn, linkIn, upIn}
 use Rattle.store.specs.Frames.{frameIn}
 use Rattle.store.specs.Tables.{capped, listOf, stackOf}
 use Rattle.machine.specs.declared.Thread.{Thread}
+use Rattle.machine.specs.declared.State.{State}
 use Rattle.machine.specs.declared.Machine.{Machine}
 use Rattle.machine.specs.declared.Outcome.{Outcome}
 use Rattle.machine.specs.Meaning.{controlIn, answerIn}
@@ -25,23 +27,33 @@ abbrev pub tables : List ℕ → List ℕ → List ℕ → List ℕ → List ℕ
 tables f c k p g b = record { frames = f; cells = c; keys = k; pairs = p; functions = g; bindings = b }
 
 -- of each table the entries that are used, never more than it has places
-unfoldable pub view : Thread → Tables → Clean
-view t w =
+unfoldable pub view : State → Tables → Clean
+view s w =
     record {
-      thread = record { control = controlIn (t .now .control); env = t .now .env; on = keysIn (t .now .on); frames = stackOf frameIn (w .frames) (capped (t .frames) most-frames) };
+      thread =
+          record {
+            control = controlIn (s .thread .now .control);
+            env = s .thread .now .env;
+            on = keysIn (s .thread .now .on);
+            frames = stackOf frameIn (w .frames) (capped (s .thread .frames) most-frames);
+          };
       store =
           record {
-            cells = listOf cellIn (w .cells) (capped (t .cells) most-cells);
-            keys = listOf upIn (w .keys) (capped (t .keys) most-keys);
-            pairs = listOf pairIn (w .pairs) (capped (t .pairs) most-pairs);
-            functions = listOf functionIn (w .functions) (capped (t .functions) most-functions);
-            bindings = listOf linkIn (w .bindings) (capped (t .bindings) most-bindings);
+            cells = listOf cellIn (w .cells) (capped (s .used .cells) most-cells);
+            keys = listOf upIn (w .keys) (capped (s .used .keys) most-keys);
+            pairs = listOf pairIn (w .pairs) (capped (s .used .pairs) most-pairs);
+            functions = listOf functionIn (w .functions) (capped (s .used .functions) most-functions);
+            bindings = listOf linkIn (w .bindings) (capped (s .used .bindings) most-bindings);
           };
     }
 
+-- a thread over a store
+abbrev pub stateOf : Thread → Used → State
+stateOf t u = record { thread = t; used = u }
+
 -- the whole machine
 abbrev pub seen : Machine → Clean
-seen m = view (m .thread) (tables (m .frames) (m .cells) (m .keys) (m .pairs) (m .functions) (m .bindings))
+seen m = view (stateOf (m .thread) (m .used)) (tables (m .frames) (m .cells) (m .keys) (m .pairs) (m .functions) (m .bindings))
 
 -- what a call gave
 abbrev pub ranIn : Outcome → Ran

@@ -1,15 +1,14 @@
-// The acts: what an expression does with its operands in hand. Kinds and entries are tested first, then keys, then room.
+// The acts: what an expression does with its operands in hand. Kinds and entries are tested first, then keys, then room. Where an entry is read, its key is looked up
+// before the entry's number is tested: so a step is some instructions shorter.
 use crate::Acted;
 use crate::Answer;
 use crate::Limits;
-use crate::Thread;
+use crate::State;
 use crate::unkeyed;
 use store::BINDING_WORDS;
 use store::CELL_WORDS;
-use store::Expr;
 use store::FUNCTION_WORDS;
 use store::KEY_BYTES;
-use store::Key;
 use store::Kind;
 use store::MOST_BINDINGS;
 use store::MOST_CELLS;
@@ -20,18 +19,21 @@ use store::Own;
 use store::PAIR_WORDS;
 use store::Two;
 use store::Value;
+use table::Expr;
+use table::Key;
 ghost use mathlib.Core.Path.{_≡_};
 ghost use mathlib.Core.List.{List, [], _∷_};
 ghost use Prim.Native.Nat.{ℕ, suc, _<_};
 ghost use Rattle.order.specs.Sets.{all-of};
 ghost use Rattle.semantics.specs.Machine.{most-keys, most-pairs, most-bindings};
 ghost use Rattle.semantics.specs.Keys.{enabled};
-ghost use Rattle.semantics.specs.Step.{Plan, settle, d-key, actPair, actPart, actApp, actNew, actAsg, actRead, actSum, actTest, limitKeys, actLim, actGrant, actNewkey, actAssoc, sumN};
+ghost use Rattle.semantics.specs.Step.{Plan, settle, actPair, actPart, actApp, actNew, actAsg, actRead, actSum, actTest, limitKeys, actLim, actGrant, makeKey, actNewkey, actAssoc, sumN};
 ghost use Rattle.store.specs.Meaning.{keysIn, valueIn};
 ghost use Rattle.store.specs.Words.{upIn};
 ghost use Rattle.store.specs.Tables.{capped, listOf};
 ghost use Rattle.machine.specs.View.{Tables, view};
-ghost use Rattle.machine.specs.Inner.{acted, tried, deed, putCells, putKeys, putPairs, putFunctions, putBindings, limitsIn, Went};
+ghost use Rattle.machine.specs.Inner.{acted, tried, putCells, putKeys, putPairs, putFunctions, putBindings, limitsIn, Went};
+ghost use Rattle.machine.specs.Lent.{beforeKey, afterKey};
 
 // 3E binds twice.
 const ROOM_FOR_TWO: u64 = MOST_BINDINGS - 1;
@@ -74,9 +76,9 @@ fn sum_of(sum: bool, a: u32, b: u32) -> u32
     std::num::wrapping_sub_u32(a, b)
 }
 
-impl Thread {
+impl State {
     fn touch_all(self, a: Value, b: Value, c: Value, d: Value, keys: &[u8; KEY_BYTES]) -> bool
-        ensures { λ r. ⌜ r ≡ all-of (enabled (listOf upIn (now (keys .entry)) (capped (self .keys) most-keys)) (keysIn (self .now .on))) (a .key .0 ∷ b .key .0 ∷ c .key .0 ∷ d .key .0 ∷ []) ⌝ }
+        ensures { λ r. ⌜ r ≡ all-of (enabled (listOf upIn (now (keys .entry)) (capped (self .used .keys) most-keys)) (keysIn (self .thread .now .on))) (a .key .0 ∷ b .key .0 ∷ c .key .0 ∷ d .key .0 ∷ []) ⌝ }
     {
         if self.touch(a, keys) {} else {
             return false;
@@ -92,14 +94,14 @@ impl Thread {
 
     pub(crate) fn act_pair(
         self,
-        back: Thread,
+        back: State,
         x: Value,
         y: Value,
         pairs: &mut [u64; PAIR_WORDS],
     ) -> Acted
         ensures { λ r. ⌜ ((w : Tables) → acted r (putPairs w (now (pairs .exit))) ≡ tried self back (putPairs w (now (pairs .entry))) (actPair (valueIn x) (valueIn y))) ⌝ }
     {
-        let n = back.pairs;
+        let n = back.used.pairs;
         if n < MOST_PAIRS {
             store::put_pair(
                 pairs,
@@ -109,8 +111,9 @@ impl Thread {
                     second: y,
                 },
             );
+            let more = n + 1;
             let mut next = back;
-            next.pairs = n + 1;
+            next.used.pairs = more;
             let v = unkeyed(Kind::Pair, n as u32);
             next.give(v)
         } else {
@@ -120,7 +123,7 @@ impl Thread {
 
     pub(crate) fn act_part(
         self,
-        back: Thread,
+        back: State,
         first: bool,
         x: Value,
         keys: &[u8; KEY_BYTES],
@@ -132,10 +135,11 @@ impl Thread {
         let Kind::Pair = k else {
             return self.stop(Answer::Stuck);
         };
-        if (x.payload as u64) < store::cap(back.pairs, MOST_PAIRS) {} else {
+        let touched = back.touch(x, keys);
+        if (x.payload as u64) < store::cap(back.used.pairs, MOST_PAIRS) {} else {
             return self.stop(Answer::Stuck);
         }
-        if back.touch(x, keys) {} else {
+        if touched {} else {
             return self.stop(Answer::Denied);
         }
         let t = store::pair_at(pairs, x.payload);
@@ -150,48 +154,55 @@ impl Thread {
 
     pub(crate) fn act_apply(
         self,
-        back: Thread,
+        back: State,
         x: Value,
         y: Value,
         keys: &[u8; KEY_BYTES],
         functions: &[u64; FUNCTION_WORDS],
         bindings: &mut [u64; BINDING_WORDS],
     ) -> Acted
-        ensures { λ r. ⌜ ((w : Tables) → acted r (putBindings (putFunctions (putKeys w (now (keys .entry))) (now (functions .entry))) (now (bindings .exit))) ≡ tried self back (putBindings (putFunctions (putKeys w (now (keys .entry))) (now (functions .entry))) (now (bindings .entry))) (actApp (valueIn x) (valueIn y))) ⌝ }
+        ensures { λ r. ⌜
+            ((w : Tables) →
+            acted r (putBindings (putFunctions (putKeys w (now (keys .entry))) (now (functions .entry))) (now (bindings .exit))) ≡
+            tried self back (putBindings (putFunctions (putKeys w (now (keys .entry))) (now (functions .entry))) (now (bindings .entry))) (actApp (valueIn x) (valueIn y)))
+            ⌝ }
     {
         let k = x.kind;
         let Kind::Function = k else {
             return self.stop(Answer::Stuck);
         };
-        if (x.payload as u64) < store::cap(back.functions, MOST_FUNCTIONS) {} else {
+        let touched = back.touch(x, keys);
+        if (x.payload as u64) < store::cap(back.used.functions, MOST_FUNCTIONS) {} else {
             return self.stop(Answer::Stuck);
         }
-        if back.touch(x, keys) {} else {
+        if touched {} else {
             return self.stop(Answer::Denied);
         }
-        let n = back.bindings;
+        let n = back.used.bindings;
         if n < MOST_BINDINGS {
             let f = store::closure_at(functions, x.payload);
             let body = f.body;
             store::put_variable(bindings, n as u16, f.var, y, f.env);
-            let now = back.now;
+            let now = back.thread.now;
             let on = now.on;
+            let more = n + 1;
             let mut next = back;
-            next.bindings = n + 1;
-            next.go(body, (n + 1) as u16, on)
+            next.used.bindings = more;
+            next.go(body, more as u16, on)
         } else {
             self.stop(Answer::NoRoom)
         }
     }
 
-    pub(crate) fn act_cell(self, back: Thread, x: Value, cells: &mut [u64; CELL_WORDS]) -> Acted
+    pub(crate) fn act_cell(self, back: State, x: Value, cells: &mut [u64; CELL_WORDS]) -> Acted
         ensures { λ r. ⌜ ((w : Tables) → acted r (putCells w (now (cells .exit))) ≡ tried self back (putCells w (now (cells .entry))) (actNew (valueIn x))) ⌝ }
     {
-        let n = back.cells;
+        let n = back.used.cells;
         if n < MOST_CELLS {
             store::put_cell(cells, n as u32, x);
+            let more = n + 1;
             let mut next = back;
-            next.cells = n + 1;
+            next.used.cells = more;
             let v = unkeyed(Kind::Cell, n as u32);
             next.give(v)
         } else {
@@ -201,22 +212,27 @@ impl Thread {
 
     pub(crate) fn act_assign(
         self,
-        back: Thread,
+        back: State,
         cell: Value,
         value: Value,
         keys: &[u8; KEY_BYTES],
         cells: &mut [u64; CELL_WORDS],
     ) -> Acted
-        ensures { λ r. ⌜ ((w : Tables) → acted r (putCells (putKeys w (now (keys .entry))) (now (cells .exit))) ≡ tried self back (putCells (putKeys w (now (keys .entry))) (now (cells .entry))) (actAsg (valueIn cell) (valueIn value))) ⌝ }
+        ensures { λ r. ⌜
+            ((w : Tables) →
+            acted r (putCells (putKeys w (now (keys .entry))) (now (cells .exit))) ≡
+            tried self back (putCells (putKeys w (now (keys .entry))) (now (cells .entry))) (actAsg (valueIn cell) (valueIn value)))
+            ⌝ }
     {
         let k = cell.kind;
         let Kind::Cell = k else {
             return self.stop(Answer::Stuck);
         };
-        if (cell.payload as u64) < store::cap(back.cells, MOST_CELLS) {} else {
+        let touched = back.touch(cell, keys);
+        if (cell.payload as u64) < store::cap(back.used.cells, MOST_CELLS) {} else {
             return self.stop(Answer::Stuck);
         }
-        if back.touch(cell, keys) {} else {
+        if touched {} else {
             return self.stop(Answer::Denied);
         }
         store::put_cell(cells, cell.payload, value);
@@ -225,7 +241,7 @@ impl Thread {
 
     pub(crate) fn act_read(
         self,
-        back: Thread,
+        back: State,
         x: Value,
         keys: &[u8; KEY_BYTES],
         cells: &[u64; CELL_WORDS],
@@ -236,10 +252,11 @@ impl Thread {
         let Kind::Cell = k else {
             return self.stop(Answer::Stuck);
         };
-        if (x.payload as u64) < store::cap(back.cells, MOST_CELLS) {} else {
+        let touched = back.touch(x, keys);
+        if (x.payload as u64) < store::cap(back.used.cells, MOST_CELLS) {} else {
             return self.stop(Answer::Stuck);
         }
-        if back.touch(x, keys) {} else {
+        if touched {} else {
             return self.stop(Answer::Denied);
         }
         let v = store::cell_at(cells, x.payload);
@@ -248,7 +265,7 @@ impl Thread {
 
     pub(crate) fn act_sum(
         self,
-        back: Thread,
+        back: State,
         sum: bool,
         x: Value,
         y: Value,
@@ -276,7 +293,7 @@ impl Thread {
 
     pub(crate) fn act_test(
         self,
-        back: Thread,
+        back: State,
         yes: Expr,
         no: Expr,
         x: Value,
@@ -291,7 +308,7 @@ impl Thread {
         if back.touch(x, keys) {} else {
             return self.stop(Answer::Denied);
         }
-        let now = back.now;
+        let now = back.thread.now;
         let on = now.on;
         if x.payload == 0 {
             back.go(no, now.env, on)
@@ -302,7 +319,7 @@ impl Thread {
 
     pub(crate) fn act_limit(
         self,
-        back: Thread,
+        back: State,
         body: Expr,
         a: Value,
         b: Value,
@@ -319,15 +336,15 @@ impl Thread {
         if back.touch_all(a, b, c, d, keys) {} else {
             return self.stop(Answer::Denied);
         }
-        let now = back.now;
+        let now = back.thread.now;
         let on = now.on;
-        let left = store::narrow(keys, back.keys, on, own);
+        let left = store::narrow(keys, back.used.keys, on, own);
         back.go(body, now.env, left)
     }
 
     pub(crate) fn act_grant(
         self,
-        back: Thread,
+        back: State,
         body: Expr,
         x: Value,
         keys: &[u8; KEY_BYTES],
@@ -341,16 +358,16 @@ impl Thread {
         if back.touch(x, keys) {} else {
             return self.stop(Answer::Denied);
         }
-        let now = back.now;
+        let now = back.thread.now;
         let on = now.on;
         let j = store::key_in(x);
-        let more = store::add(back.keys, on, j);
+        let more = store::add(back.used.keys, on, j);
         back.go(body, now.env, more)
     }
 
     pub(crate) fn act_new_key(
         self,
-        back: Thread,
+        back: State,
         x: u8,
         r: u8,
         body: Expr,
@@ -359,7 +376,11 @@ impl Thread {
         pairs: &mut [u64; PAIR_WORDS],
         bindings: &mut [u64; BINDING_WORDS],
     ) -> Acted
-        ensures { λ t. ⌜ ((w : Tables) → acted t (putBindings (putPairs (putKeys w (now (keys .exit))) (now (pairs .exit))) (now (bindings .exit))) ≡ tried self back (putBindings (putPairs (putKeys w (now (keys .entry))) (now (pairs .entry))) (now (bindings .entry))) (actNewkey x r (body .0) (valueIn v))) ⌝ }
+        ensures { λ t. ⌜
+            ((w : Tables) →
+            acted t (afterKey w keys pairs bindings) ≡
+            tried self back (beforeKey w keys pairs bindings) (actNewkey x r (body .0) (valueIn v)))
+            ⌝ }
     {
         let k = v.kind;
         let Kind::Limit = k else {
@@ -368,9 +389,9 @@ impl Thread {
         if back.touch(v, keys) {} else {
             return self.stop(Answer::Denied);
         }
-        let nk = back.keys;
-        let np = back.pairs;
-        let nb = back.bindings;
+        let nk = back.used.keys;
+        let np = back.used.pairs;
+        let nb = back.used.bindings;
         if nk < MOST_KEYS {} else {
             return self.stop(Answer::NoRoom);
         }
@@ -395,15 +416,19 @@ impl Thread {
         pairs: &mut [u64; PAIR_WORDS],
         bindings: &mut [u64; BINDING_WORDS],
     ) -> Acted
-        requires { ⌜ (self .keys < most-keys) × (self .pairs < most-pairs) × (suc (self .bindings) < most-bindings) ⌝ }
-        ensures { λ t. ⌜ ((w : Tables) → Went t (putBindings (putPairs (putKeys w (now (keys .exit))) (now (pairs .exit))) (now (bindings .exit))) (settle (deed (d-key x r (body .0) (j .0)) (view self (putBindings (putPairs (putKeys w (now (keys .entry))) (now (pairs .entry))) (now (bindings .entry))))))) ⌝ }
+        requires { ⌜ (self .used .keys < most-keys) × (self .used .pairs < most-pairs) × (suc (self .used .bindings) < most-bindings) ⌝ }
+        ensures { λ t. ⌜
+            ((w : Tables) →
+            Went t (afterKey w keys pairs bindings) (settle (makeKey [] x r (body .0) (j .0) (view self (beforeKey w keys pairs bindings)))))
+            ⌝ }
     {
-        let nk = self.keys;
-        let np = self.pairs;
-        let nb = self.bindings;
-        let now = self.now;
+        let nk = self.used.keys;
+        let np = self.used.pairs;
+        let nb = self.used.bindings;
+        let now = self.thread.now;
         let on = now.on;
-        let key = Key(nk as u8);
+        let i = nk as u8;
+        let key = Key(i);
         let limit = unkeyed(Kind::Limit, nk as u32);
         let grant = unkeyed(Kind::Grant, nk as u32);
         let pair = unkeyed(Kind::Pair, np as u32);
@@ -418,16 +443,19 @@ impl Thread {
         );
         store::put_name(bindings, nb as u16, r, key, now.env);
         store::put_variable(bindings, (nb + 1) as u16, x, pair, (nb + 1) as u16);
+        let mk = nk + 1;
+        let mp = np + 1;
+        let mb = nb + 2;
         let mut next = self;
-        next.keys = nk + 1;
-        next.pairs = np + 1;
-        next.bindings = nb + 2;
-        next.go(body, (nb + 2) as u16, on)
+        next.used.keys = mk;
+        next.used.pairs = mp;
+        next.used.bindings = mb;
+        next.go(body, mb as u16, on)
     }
 
     pub(crate) fn act_associate(
         self,
-        back: Thread,
+        back: State,
         value: Value,
         limit: Value,
         keys: &[u8; KEY_BYTES],

@@ -2,12 +2,11 @@
 use crate::Acted;
 use crate::Answer;
 use crate::Found;
-use crate::Thread;
+use crate::State;
 use crate::unkeyed;
 use store::BINDING_WORDS;
 use store::Bound;
 use store::Closure;
-use store::Expr;
 use store::FRAME_WORDS;
 use store::FUNCTION_WORDS;
 use store::Keys;
@@ -15,22 +14,23 @@ use store::Kind;
 use store::MOST_BINDINGS;
 use store::MOST_FRAMES;
 use store::MOST_FUNCTIONS;
+use table::Expr;
 ghost use mathlib.Core.Path.{_≡_};
 ghost use mathlib.Core.Option.{Option};
-ghost use Rattle.syntax.specs.Words.{codeIn};
 ghost use Rattle.semantics.specs.Machine.{most-bindings, Value as SValue};
-ghost use Rattle.semantics.specs.Step.{d-push, d-fn, seekIn, seek, variable, enterCmd};
+ghost use Rattle.semantics.specs.Step.{seekIn, seek, variable, actFn, push, enterCmd};
 ghost use Rattle.store.specs.Meaning.{boundIn};
 ghost use Rattle.store.specs.Words.{linkIn};
 ghost use Rattle.store.specs.Tables.{listOf};
 ghost use Rattle.machine.specs.Meaning.{foundIn};
 ghost use Rattle.machine.specs.View.{Tables};
-ghost use Rattle.machine.specs.Inner.{acted, tried, deed, putFrames, putFunctions, putBindings, orElse, Works};
+ghost use Rattle.machine.specs.Inner.{acted, tried, putFrames, putFunctions, putBindings, orElse, Works};
+ghost use Rattle.machine.specs.Lent.{lentCode, beforeEnter, afterEnter};
 
 // No chain of bindings is longer.
 const MOST_LINKS: u16 = MOST_BINDINGS as u16;
 
-// How many operands are worked out before the act.
+// How many operands are evaluated before the act.
 pub(crate) fn need(op: u64, x: u64) -> u8
     ensures { λ r. ⌜ Works op x r ⌝ }
 {
@@ -86,17 +86,18 @@ fn lookup(bindings: &[u64; BINDING_WORDS], n: u16, x: u8, from: u16) -> Found
     Found::Nothing
 }
 
-impl Thread {
+impl State {
     fn push(self, e: Expr, first: Expr, frames: &mut [u64; FRAME_WORDS]) -> Acted
-        ensures { λ r. ⌜ ((w : Tables) → acted r (putFrames w (now (frames .exit))) ≡ tried self self (putFrames w (now (frames .entry))) (deed (d-push (e .0) (first .0)))) ⌝ }
+        ensures { λ r. ⌜ ((w : Tables) → acted r (putFrames w (now (frames .exit))) ≡ tried self self (putFrames w (now (frames .entry))) (push (e .0) (first .0))) ⌝ }
     {
-        let n = self.frames;
+        let n = self.thread.frames;
         if n < MOST_FRAMES {
-            let now = self.now;
+            let now = self.thread.now;
             let on = now.on;
             store::put_fresh(frames, n as u16, e, now.env, on);
+            let more = n + 1;
             let mut next = self;
-            next.frames = n + 1;
+            next.thread.frames = more;
             next.go(first, now.env, on)
         } else {
             self.stop(Answer::NoRoom)
@@ -104,11 +105,11 @@ impl Thread {
     }
 
     fn function(self, x: u8, body: Expr, functions: &mut [u64; FUNCTION_WORDS]) -> Acted
-        ensures { λ r. ⌜ ((w : Tables) → acted r (putFunctions w (now (functions .exit))) ≡ tried self self (putFunctions w (now (functions .entry))) (deed (d-fn x (body .0)))) ⌝ }
+        ensures { λ r. ⌜ ((w : Tables) → acted r (putFunctions w (now (functions .exit))) ≡ tried self self (putFunctions w (now (functions .entry))) (actFn x (body .0))) ⌝ }
     {
-        let n = self.functions;
+        let n = self.used.functions;
         if n < MOST_FUNCTIONS {
-            let now = self.now;
+            let now = self.thread.now;
             store::put_closure(
                 functions,
                 n as u16,
@@ -118,8 +119,9 @@ impl Thread {
                     env: now.env,
                 },
             );
+            let more = n + 1;
             let mut next = self;
-            next.functions = n + 1;
+            next.used.functions = more;
             let v = unkeyed(Kind::Function, n as u32);
             next.give(v)
         } else {
@@ -130,8 +132,8 @@ impl Thread {
     fn variable(self, x: u8, bindings: &[u64; BINDING_WORDS]) -> Acted
         ensures { λ r. ⌜ ((w : Tables) → acted r (putBindings w (now (bindings .entry))) ≡ tried self self (putBindings w (now (bindings .entry))) (variable x)) ⌝ }
     {
-        let now = self.now;
-        let n = store::cap(self.bindings, MOST_BINDINGS) as u16;
+        let now = self.thread.now;
+        let n = store::cap(self.used.bindings, MOST_BINDINGS) as u16;
         let found = lookup(bindings, n, x, now.env);
         match found {
             Found::At(v) => self.give(v),
@@ -148,14 +150,18 @@ impl Thread {
         functions: &mut [u64; FUNCTION_WORDS],
         bindings: &[u64; BINDING_WORDS],
     ) -> Acted
-        ensures { λ r. ⌜ ((w : Tables) → acted r (putBindings (putFunctions (putFrames w (now (frames .exit))) (now (functions .exit))) (now (bindings .entry))) ≡ tried self self (putBindings (putFunctions (putFrames w (now (frames .entry))) (now (functions .entry))) (now (bindings .entry))) (enterCmd (e .0) (codeIn (now (heads .entry)) (now (slots .entry)) (e .0)))) ⌝ }
+        ensures { λ r. ⌜
+            ((w : Tables) →
+            acted r (afterEnter w frames functions bindings) ≡
+            tried self self (beforeEnter w frames functions bindings) (enterCmd (e .0) (lentCode heads slots (e .0))))
+            ⌝ }
     {
         let i = e.0 as usize;
-        let head = store::at64(heads, i);
+        let head = table::at64(heads, i);
         let op = head % 256;
         let x = head / 256 % 4294967296;
         if 0 < need(op, x) {
-            let first = Expr(store::at16(slots, i * 5));
+            let first = Expr(table::at16(slots, i * 5));
             return self.push(e, first, frames);
         }
         match op {
@@ -165,12 +171,12 @@ impl Thread {
             }
             0x32 => self.variable((x % 256) as u8, bindings),
             0x35 => {
-                let body = Expr(store::at16(slots, i * 5));
+                let body = Expr(table::at16(slots, i * 5));
                 self.function((x % 256) as u8, body, functions)
             }
             0x3C => {
-                let now = self.now;
-                self.go(Expr(store::at16(slots, i * 5 + 4)), now.env, Keys(0, 0))
+                let now = self.thread.now;
+                self.go(Expr(table::at16(slots, i * 5 + 4)), now.env, Keys(0, 0))
             }
             _ => {
                 let v = unkeyed(Kind::Number, x as u32);

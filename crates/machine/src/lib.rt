@@ -1,4 +1,4 @@
-// The machine: a struct by value, with its step and its run. Its tables are lent to the steps of its thread.
+// The machine: a struct by value, with its step and its run. Its tables are lent to the steps.
 mod act;
 mod enter;
 mod run;
@@ -6,16 +6,17 @@ mod step;
 
 use store::BINDING_WORDS;
 use store::CELL_WORDS;
-use store::Expr;
 use store::FRAME_WORDS;
 use store::FUNCTION_WORDS;
 use store::KEY_BYTES;
-use store::Key;
 use store::Keys;
 use store::Kind;
 use store::Own;
 use store::PAIR_WORDS;
+use store::Used;
 use store::Value;
+use table::Expr;
+use table::Key;
 ghost use mathlib.Core.Path.{_≡_};
 ghost use Rattle.semantics.specs.Machine.{most-keys};
 ghost use Rattle.semantics.specs.Keys.{enabled};
@@ -58,31 +59,33 @@ pub struct Now {
     pub on: Keys,
 }
 
-// What changes at each step, and how many entries of each table are used. A count has a word of its own: narrower ones would be packed and unpacked at each step.
+// A thread: where it stands, and how many of its frames are used.
 pub struct Thread {
     pub now: Now,
     pub frames: u64,
-    pub cells: u64,
-    pub keys: u64,
-    pub pairs: u64,
-    pub functions: u64,
-    pub bindings: u64,
+}
+
+// What changes at each step beside the tables: the thread, and how many entries of the store's tables are used.
+pub struct State {
+    pub thread: Thread,
+    pub used: Used,
 }
 
 pub struct Acted {
-    pub thread: Thread,
+    pub state: State,
     pub answer: Answer,
 }
 
-// Steps of a thread: where it stands, how many were taken, and why they ended.
+// Steps one after another: where they led, how many were taken, and why they ended.
 pub struct Ended {
-    pub thread: Thread,
+    pub state: State,
     pub taken: u64,
     pub answer: Answer,
 }
 
 pub struct Machine {
     pub thread: Thread,
+    pub used: Used,
     pub frames: [u64; FRAME_WORDS],
     pub cells: [u64; CELL_WORDS],
     pub keys: [u8; KEY_BYTES],
@@ -107,72 +110,93 @@ fn unkeyed(k: Kind, payload: u32) -> Value
     }
 }
 
-impl Thread {
+impl State {
     fn stop(self, answer: Answer) -> Acted
         ensures { λ r. ⌜ r ≡ stopOf self answer ⌝ }
     {
         Acted {
-            thread: self,
+            state: self,
             answer: answer,
         }
     }
 
-    fn give(mut self, v: Value) -> Acted
+    fn give(self, v: Value) -> Acted
         ensures { λ r. ⌜ r ≡ giveOf self v ⌝ }
     {
-        let now = self.now;
+        let now = self.thread.now;
         let on = now.on;
+        let frames = self.thread.frames;
+        let used = self.used;
         let n = Now {
             control: Control::Hand(v),
             env: now.env,
             on: on,
         };
-        self.now = n;
+        let t = Thread {
+            now: n,
+            frames: frames,
+        };
         Acted {
-            thread: self,
+            state: State {
+                thread: t,
+                used: used,
+            },
             answer: Answer::Taken,
         }
     }
 
-    fn go(mut self, e: Expr, env: u16, on: Keys) -> Acted
+    fn go(self, e: Expr, env: u16, on: Keys) -> Acted
         ensures { λ r. ⌜ r ≡ goOf self e env on ⌝ }
     {
+        let frames = self.thread.frames;
+        let used = self.used;
         let n = Now {
             control: Control::Enter(e),
             env: env,
             on: on,
         };
-        self.now = n;
+        let t = Thread {
+            now: n,
+            frames: frames,
+        };
         Acted {
-            thread: self,
+            state: State {
+                thread: t,
+                used: used,
+            },
             answer: Answer::Taken,
         }
     }
 
-    // The thread without its newest frame, whose bindings and enabled keys it takes.
-    fn resume(self, top: u16, env: u16, on: Keys) -> Thread
+    // The state without the thread's newest frame, whose bindings and enabled keys it takes.
+    fn resume(self, top: u16, env: u16, on: Keys) -> State
         ensures { λ r. ⌜ r ≡ resumeOf self top env on ⌝ }
     {
-        let now = self.now;
+        let now = self.thread.now;
         let control = now.control;
+        let used = self.used;
         let n = Now {
             control: control,
             env: env,
             on: on,
         };
-        let mut next = self;
-        next.now = n;
-        next.frames = top as u64;
-        next
+        let t = Thread {
+            now: n,
+            frames: top as u64,
+        };
+        State {
+            thread: t,
+            used: used,
+        }
     }
 
     // Is the value's key enabled?
     fn touch(self, x: Value, keys: &[u8; KEY_BYTES]) -> bool
-        ensures { λ r. ⌜ r ≡ enabled (listOf upIn (now (keys .entry)) (capped (self .keys) most-keys)) (keysIn (self .now .on)) (x .key .0) ⌝ }
+        ensures { λ r. ⌜ r ≡ enabled (listOf upIn (now (keys .entry)) (capped (self .used .keys) most-keys)) (keysIn (self .thread .now .on)) (x .key .0) ⌝ }
     {
         let key = x.key;
-        let now = self.now;
+        let now = self.thread.now;
         let on = now.on;
-        store::enabled(keys, self.keys, on, key)
+        store::enabled(keys, self.used.keys, on, key)
     }
 }

@@ -4,7 +4,7 @@ use crate::Control;
 use crate::Ended;
 use crate::Machine;
 use crate::Outcome;
-use crate::Thread;
+use crate::State;
 use store::BINDING_WORDS;
 use store::CELL_WORDS;
 use store::FRAME_WORDS;
@@ -14,10 +14,11 @@ use store::PAIR_WORDS;
 ghost use mathlib.Core.Path.{_≡_};
 ghost use Rattle.syntax.specs.Words.{codeIn};
 ghost use Rattle.semantics.specs.Room.{isDone};
-ghost use Rattle.semantics.specs.Calls.{one-step, call, run};
+ghost use Rattle.semantics.specs.Calls.{stepsOf, one-step, call, run};
 ghost use Rattle.machine.specs.Meaning.{answerIn};
-ghost use Rattle.machine.specs.View.{Tables, tables, view, seen, ranIn};
+ghost use Rattle.machine.specs.View.{Tables, view, seen, ranIn};
 ghost use Rattle.machine.specs.Inner.{isTaken, loopOf, ended, closing};
+ghost use Rattle.machine.specs.Lent.{lentCode, before, after};
 
 fn is_taken(a: Answer) -> bool
     ensures { λ r. ⌜ r ≡ isTaken a ⌝ }
@@ -52,7 +53,7 @@ fn close(done: bool, a: Answer) -> Answer
     }
 }
 
-impl Thread {
+impl State {
     // Up to n steps, one after another.
     fn run(
         self,
@@ -66,7 +67,10 @@ impl Thread {
         functions: &mut [u64; FUNCTION_WORDS],
         bindings: &mut [u64; BINDING_WORDS],
     ) -> Ended
-        ensures { λ r. ⌜ ended r (tables (now (frames .exit)) (now (cells .exit)) (now (keys .exit)) (now (pairs .exit)) (now (functions .exit)) (now (bindings .exit))) ≡ loopOf (codeIn (now (heads .entry)) (now (slots .entry))) n 0 (view self (tables (now (frames .entry)) (now (cells .entry)) (now (keys .entry)) (now (pairs .entry)) (now (functions .entry)) (now (bindings .entry)))) ⌝ }
+        ensures { λ r. ⌜
+            ended r (after frames cells keys pairs functions bindings) ≡
+            loopOf (lentCode heads slots) n 0 (view self (before frames cells keys pairs functions bindings))
+            ⌝ }
     {
         let mut m = self;
         let mut taken: u64 = 0;
@@ -81,21 +85,21 @@ impl Thread {
                 functions,
                 bindings,
             );
-            let next = s.thread;
+            let next = s.state;
             let a = s.answer;
             if is_taken(a) {
                 m = next;
                 taken = taken + 1;
             } else {
                 return Ended {
-                    thread: next,
+                    state: next,
                     taken: taken,
                     answer: a,
                 };
             }
         }
         Ended {
-            thread: m,
+            state: m,
             taken: taken,
             answer: Answer::Taken,
         }
@@ -105,28 +109,33 @@ impl Thread {
     fn is_done(self) -> bool
         ensures { λ r. ⌜ ((w : Tables) → r ≡ isDone (view self w)) ⌝ }
     {
-        let now = self.now;
+        let now = self.thread.now;
         let control = now.control;
         match control {
             Control::Enter(_) => false,
-            Control::Hand(_) => self.frames == 0,
+            Control::Hand(_) => self.thread.frames == 0,
         }
     }
 }
 
 impl Machine {
-    // One step, by the loop of `run`: a second caller of the thread's step would keep it from being inlined there.
+    // One step, by the loop of `run`: a second caller of the state's step would keep it from being inlined there.
     pub fn step(self, heads: &[u64], slots: &[u16]) -> Outcome
-        ensures { λ r. ⌜ ranIn r ≡ call (codeIn (now (heads .entry)) (now (slots .entry))) one-step (seen self) ⌝ }
+        ensures { λ r. ⌜ ranIn r ≡ call (stepsOf (codeIn (now (heads .entry)) (now (slots .entry)))) one-step (seen self) ⌝ }
     {
         let thread = self.thread;
+        let used = self.used;
+        let start = State {
+            thread: thread,
+            used: used,
+        };
         let mut frames = self.frames;
         let mut cells = self.cells;
         let mut keys = self.keys;
         let mut pairs = self.pairs;
         let mut functions = self.functions;
         let mut bindings = self.bindings;
-        let s = thread.run(
+        let s = start.run(
             1,
             heads,
             slots,
@@ -137,10 +146,13 @@ impl Machine {
             &mut functions,
             &mut bindings,
         );
-        let next = s.thread;
+        let next = s.state;
         let answer = s.answer;
+        let thread = next.thread;
+        let used = next.used;
         let m = Machine {
-            thread: next,
+            thread: thread,
+            used: used,
             frames: frames,
             cells: cells,
             keys: keys,
@@ -157,16 +169,21 @@ impl Machine {
 
     // Up to n steps.
     pub fn run(self, n: u64, heads: &[u64], slots: &[u16]) -> Outcome
-        ensures { λ r. ⌜ ranIn r ≡ run (codeIn (now (heads .entry)) (now (slots .entry))) n 0 (seen self) ⌝ }
+        ensures { λ r. ⌜ ranIn r ≡ run (stepsOf (codeIn (now (heads .entry)) (now (slots .entry)))) n 0 (seen self) ⌝ }
     {
         let thread = self.thread;
+        let used = self.used;
+        let start = State {
+            thread: thread,
+            used: used,
+        };
         let mut frames = self.frames;
         let mut cells = self.cells;
         let mut keys = self.keys;
         let mut pairs = self.pairs;
         let mut functions = self.functions;
         let mut bindings = self.bindings;
-        let s = thread.run(
+        let s = start.run(
             n,
             heads,
             slots,
@@ -177,12 +194,15 @@ impl Machine {
             &mut functions,
             &mut bindings,
         );
-        let next = s.thread;
+        let next = s.state;
         let done = next.is_done();
         let a = s.answer;
         let answer = close(done, a);
+        let thread = next.thread;
+        let used = next.used;
         let m = Machine {
-            thread: next,
+            thread: thread,
+            used: used,
             frames: frames,
             cells: cells,
             keys: keys,

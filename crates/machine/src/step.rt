@@ -2,29 +2,29 @@
 use crate::Acted;
 use crate::Answer;
 use crate::Control;
-use crate::Thread;
+use crate::State;
 use crate::enter::need;
 use store::BINDING_WORDS;
 use store::CELL_WORDS;
-use store::Expr;
 use store::FRAME_WORDS;
 use store::FUNCTION_WORDS;
 use store::KEY_BYTES;
 use store::MOST_FRAMES;
 use store::PAIR_WORDS;
 use store::Value;
+use table::Expr;
 ghost use mathlib.Core.Path.{_≡_};
 ghost use mathlib.Core.Bool.{cond};
 ghost use mathlib.Core.List.{[], _∷_, _++_};
 ghost use lib.ListN.{getD};
 ghost use lib.Dec.{ltb};
 ghost use Prim.Native.Nat.{_%_};
-ghost use Rattle.syntax.specs.Words.{codeIn};
 ghost use Rattle.semantics.specs.Step.{act, handTo, step};
 ghost use Rattle.store.specs.Meaning.{valueIn};
 ghost use Rattle.store.specs.Frames.{heldIn, handOf};
-ghost use Rattle.machine.specs.View.{Tables, tables};
-ghost use Rattle.machine.specs.Inner.{acted, stepped, tried, putCells, putKeys, putPairs, putFunctions, putBindings};
+ghost use Rattle.machine.specs.View.{Tables};
+ghost use Rattle.machine.specs.Inner.{acted, stepped, tried};
+ghost use Rattle.machine.specs.Lent.{lentCode, before, after, afterAct, beforeOne, afterOne, beforeTwo, afterTwo};
 
 // The value in hand at place j of a frame that holds so many; past them v.
 fn in_hand(frames: &[u64; FRAME_WORDS], top: u16, held: u8, j: u8, v: Value) -> Value
@@ -37,11 +37,11 @@ fn in_hand(frames: &[u64; FRAME_WORDS], top: u16, held: u8, j: u8, v: Value) -> 
     }
 }
 
-impl Thread {
+impl State {
     // The acts on one value.
     fn act_one(
         self,
-        back: Thread,
+        back: State,
         at: Expr,
         v: Value,
         heads: &[u64],
@@ -52,18 +52,22 @@ impl Thread {
         bindings: &mut [u64; BINDING_WORDS],
     ) -> Acted
         requires { ⌜ (getD (now heads) (at .0) 0 % 256 ≡ 60 → ⊥) ⌝ }
-        ensures { λ r. ⌜ ((w : Tables) → acted r (putBindings (putPairs (putKeys (putCells w (now (cells .exit))) (now (keys .exit))) (now (pairs .exit))) (now (bindings .exit))) ≡ tried self back (putBindings (putPairs (putKeys (putCells w (now (cells .entry))) (now (keys .entry))) (now (pairs .entry))) (now (bindings .entry))) (act (codeIn (now (heads .entry)) (now (slots .entry)) (at .0)) (valueIn v ∷ []))) ⌝ }
+        ensures { λ r. ⌜
+            ((w : Tables) →
+            acted r (afterOne w cells keys pairs bindings) ≡
+            tried self back (beforeOne w cells keys pairs bindings) (act (lentCode heads slots (at .0)) (valueIn v ∷ [])))
+            ⌝ }
     {
         let i = at.0 as usize;
-        let head = store::at64(heads, i);
+        let head = table::at64(heads, i);
         let op = head % 256;
         let x = head / 256 % 4294967296;
-        let b = Expr(store::at16(slots, i * 5 + 1));
+        let b = Expr(table::at16(slots, i * 5 + 1));
         match op {
             0x34 => self.act_part(back, x == 1, v, keys, pairs),
             0x37 => self.act_cell(back, v, cells),
             0x39 => self.act_read(back, v, keys, cells),
-            0x3B => self.act_test(back, b, Expr(store::at16(slots, i * 5 + 2)), v, keys),
+            0x3B => self.act_test(back, b, Expr(table::at16(slots, i * 5 + 2)), v, keys),
             0x3D => self.act_grant(back, b, v, keys),
             0x3E => self.act_new_key(
                 back,
@@ -82,7 +86,7 @@ impl Thread {
     // The acts on two values.
     fn act_two(
         self,
-        back: Thread,
+        back: State,
         at: Expr,
         u: Value,
         v: Value,
@@ -95,10 +99,14 @@ impl Thread {
         bindings: &mut [u64; BINDING_WORDS],
     ) -> Acted
         requires { ⌜ (getD (now heads) (at .0) 0 % 256 ≡ 60 → ⊥) ⌝ }
-        ensures { λ r. ⌜ ((w : Tables) → acted r (putBindings (putFunctions (putPairs (putKeys (putCells w (now (cells .exit))) (now (keys .entry))) (now (pairs .exit))) (now (functions .entry))) (now (bindings .exit))) ≡ tried self back (putBindings (putFunctions (putPairs (putKeys (putCells w (now (cells .entry))) (now (keys .entry))) (now (pairs .entry))) (now (functions .entry))) (now (bindings .entry))) (act (codeIn (now (heads .entry)) (now (slots .entry)) (at .0)) (valueIn u ∷ valueIn v ∷ []))) ⌝ }
+        ensures { λ r. ⌜
+            ((w : Tables) →
+            acted r (afterTwo w cells keys pairs functions bindings) ≡
+            tried self back (beforeTwo w cells keys pairs functions bindings) (act (lentCode heads slots (at .0)) (valueIn u ∷ valueIn v ∷ [])))
+            ⌝ }
     {
         let i = at.0 as usize;
-        let head = store::at64(heads, i);
+        let head = table::at64(heads, i);
         let op = head % 256;
         let x = head / 256 % 4294967296;
         match op {
@@ -114,7 +122,7 @@ impl Thread {
     // All operands are in hand: those of the frame that was popped, and v.
     fn act(
         self,
-        back: Thread,
+        back: State,
         at: Expr,
         top: u16,
         held: u8,
@@ -128,15 +136,19 @@ impl Thread {
         functions: &[u64; FUNCTION_WORDS],
         bindings: &mut [u64; BINDING_WORDS],
     ) -> Acted
-        ensures { λ r. ⌜ acted r (tables (now (frames .entry)) (now (cells .exit)) (now (keys .exit)) (now (pairs .exit)) (now (functions .entry)) (now (bindings .exit))) ≡ tried self back (tables (now (frames .entry)) (now (cells .entry)) (now (keys .entry)) (now (pairs .entry)) (now (functions .entry)) (now (bindings .entry))) (act (codeIn (now (heads .entry)) (now (slots .entry)) (at .0)) (handOf held (heldIn (now (frames .entry)) top 0) (heldIn (now (frames .entry)) top 1) (heldIn (now (frames .entry)) top 2) ++ (valueIn v ∷ []))) ⌝ }
+        ensures { λ r. ⌜
+            acted r (afterAct frames cells keys pairs functions bindings) ≡
+            tried self back (before frames cells keys pairs functions bindings)
+            (act (lentCode heads slots (at .0)) (handOf held (heldIn (now (frames .entry)) top 0) (heldIn (now (frames .entry)) top 1) (heldIn (now (frames .entry)) top 2) ++ (valueIn v ∷ [])))
+            ⌝ }
     {
         let i = at.0 as usize;
-        let head = store::at64(heads, i);
+        let head = table::at64(heads, i);
         if head % 256 == 0x3C {
             let a = in_hand(frames, top, held, 0, v);
             let b = in_hand(frames, top, held, 1, v);
             let c = in_hand(frames, top, held, 2, v);
-            let body = Expr(store::at16(slots, i * 5 + 4));
+            let body = Expr(table::at16(slots, i * 5 + 4));
             return self.act_limit(back, body, a, b, c, v, keys);
         }
         if held == 0 {
@@ -174,9 +186,12 @@ impl Thread {
         functions: &mut [u64; FUNCTION_WORDS],
         bindings: &mut [u64; BINDING_WORDS],
     ) -> Acted
-        ensures { λ r. ⌜ acted r (tables (now (frames .exit)) (now (cells .exit)) (now (keys .exit)) (now (pairs .exit)) (now (functions .exit)) (now (bindings .exit))) ≡ tried self self (tables (now (frames .entry)) (now (cells .entry)) (now (keys .entry)) (now (pairs .entry)) (now (functions .entry)) (now (bindings .entry))) (λ m. handTo (codeIn (now (heads .entry)) (now (slots .entry))) (valueIn v) (m .thread .frames) m) ⌝ }
+        ensures { λ r. ⌜
+            acted r (after frames cells keys pairs functions bindings) ≡
+            tried self self (before frames cells keys pairs functions bindings) (λ m. handTo (lentCode heads slots) (valueIn v) (m .thread .frames) m)
+            ⌝ }
     {
-        let n = store::cap(self.frames, MOST_FRAMES) as u16;
+        let n = store::cap(self.thread.frames, MOST_FRAMES) as u16;
         if n == 0 {
             return self.stop(Answer::Finished);
         }
@@ -186,10 +201,10 @@ impl Thread {
         let on = h.on;
         let held = h.held;
         let i = at.0 as usize;
-        let head = store::at64(heads, i);
+        let head = table::at64(heads, i);
         if held + 1 < need(head % 256, head / 256 % 4294967296) {
             store::put_held(frames, top, v);
-            let next = Expr(store::at16(slots, i * 5 + ((held + 1) as usize)));
+            let next = Expr(table::at16(slots, i * 5 + ((held + 1) as usize)));
             return self.go(next, h.env, on);
         }
         let back = self.resume(top, h.env, on);
@@ -221,9 +236,12 @@ impl Thread {
         functions: &mut [u64; FUNCTION_WORDS],
         bindings: &mut [u64; BINDING_WORDS],
     ) -> Acted
-        ensures { λ r. ⌜ acted r (tables (now (frames .exit)) (now (cells .exit)) (now (keys .exit)) (now (pairs .exit)) (now (functions .exit)) (now (bindings .exit))) ≡ stepped self (tables (now (frames .entry)) (now (cells .entry)) (now (keys .entry)) (now (pairs .entry)) (now (functions .entry)) (now (bindings .entry))) (step (codeIn (now (heads .entry)) (now (slots .entry)))) ⌝ }
+        ensures { λ r. ⌜
+            acted r (after frames cells keys pairs functions bindings) ≡
+            stepped self (before frames cells keys pairs functions bindings) (step (lentCode heads slots))
+            ⌝ }
     {
-        let now = self.now;
+        let now = self.thread.now;
         let control = now.control;
         match control {
             Control::Enter(e) => self.enter(e, heads, slots, frames, functions, bindings),

@@ -25,6 +25,7 @@ use Rattle.semantics.specs.Step as Step
 use Rattle.semantics.specs.Room as Room
 use Rattle.semantics.specs.Start as Start
 use Rattle.semantics.specs.Calls as Calls
+use Rattle.syntax.specs.Loading as Loading
 use Rattle.semantics.specs.Starting as Starting
 use Rattle.semantics.specs.MarkedSteps as MarkedSteps
 use Rattle.output.specs.Lines as Lines
@@ -79,26 +80,26 @@ told r = record { answer = r .answer; count = r .count }
 unfoldable pub ranFrom : ℕ → Reading.Read → Starting.Started → Option Told
 ranFrom n (Reading.refused r) st = none
 ranFrom n (Reading.read J) (Starting.unstarted r) = none
-ranFrom n (Reading.read J) (Starting.started m) = some (told (Calls.run (Operands.nth (J .cmds)) n 0 m))
+ranFrom n (Reading.read J) (Starting.started m) = some (told (Calls.run (Calls.stepsOf (Operands.nth (J .cmds))) n 0 m))
 
 unfoldable pub started : ℕ → List ℕ → Option Told
 started n s = ranFrom n (Reading.reading s) (Starting.starting s)
 
 pub record Marked : Type 0 where
   -- {3} below {2}
-  pub below : Effects.effBelow up 8 4 ≡ true
+  pub below : Effects.effBelow up (Effects.ofNames (3 ∷ [])) (Effects.ofNames (2 ∷ [])) ≡ true
   -- {2} not below {3}
-  pub not-below : Effects.effBelow up 4 8 ≡ false
+  pub not-below : Effects.effBelow up (Effects.ofNames (2 ∷ [])) (Effects.ofNames (3 ∷ [])) ≡ false
   -- {2,3} reduces to {2}
-  pub reduces : Effects.reduce up 12 ≡ 4
+  pub reduces : Effects.reduce up (Effects.ofNames (2 ∷ 3 ∷ [])) ≡ Effects.ofNames (2 ∷ [])
   -- 2 enabled and limit 3 leaves 3
   pub limit-leaves : Keys.narrow up 4 (3 ∷ []) ≡ 8
   -- 3 enabled and limit 4 leaves nothing
   pub limit-nothing : Keys.narrow up 8 (4 ∷ []) ≡ 0
   -- a grant of 2 drops {3,4}
-  pub grant-drops : Effects.drop up 2 24 ≡ 0
+  pub grant-drops : Effects.drop up 2 (Effects.ofNames (3 ∷ 4 ∷ [])) ≡ Effects.pure
   -- 3 raised is 2, its upper name in the tree
-  pub raised : Effects.raise 3 (getD up 3 0) 8 ≡ 4
+  pub raised : Effects.raise 3 (getD up 3 0) (Effects.ofNames (3 ∷ [])) ≡ Effects.ofNames (2 ∷ [])
   -- depth 16 read, 17 refused with 6
   pub depth-16 : isRead (Reading.reading (Jobs.nested 15)) ≡ true
   pub depth-17 : Reading.reading (Jobs.nested 16) ≡ Reading.refusedAt 6 62
@@ -126,7 +127,7 @@ pub record Marked : Type 0 where
   pub unscoped-untyped : (T : Types.Ty) (s : Effects.Effect) → Demand2.JobHas Examples.unscoped T s → ⊥
 
 pub marked : Marked
-unfolding Bools._and_ Bools._or_ Order.onUpper Order.belowIn Order.below Sets.bit Sets.consIf Sets.membersFrom Sets.members Sets.setOf Sets.keep Sets.some-of Sets.all-of Effects.ofNames Effects.raiseName Effects.names Effects.touch Effects.join Effects.effBelow Effects.maximal Effects.reduced Effects.reduce Effects.drop Effects.raise Types.keyOf Types.rekey Types.depth Types.namesIn Types.entryTree Types.treeIn Types.tree Commands.mapCmd Commands.commands Commands.findOp Commands.opOf Commands.operands Commands.total Commands.width Commands.sectionOf Commands.little Commands.fields Operands.nth Operands.plain Operands.inner Operands.children Operands.typesOf Operands.usesVar Operands.bindsVar Operands.bindsName Job.uppers Job.valueOf Job.sourceOf Reading.declared Reading.isHost Reading.hostName Reading.openName Reading.localName Reading.setOk Reading.nameOk Reading.partsOk Reading.typeOk Reading.unkeyedNumber Reading.hostTypeOk Reading.hostValueOk Reading.rightsOk Reading.cmdOk Reading.partOf Reading.sumOf Reading.limitOf Reading.written Reading.given Reading.enter Reading.misplaced Reading.full Reading.settle Reading.command Reading.ended Reading.onward Reading.onOp Reading.readFrom Reading.reading Tree.binds Tree.varsOf Tree.namesOf Tree.memB Tree.usesName Tree.addHost Tree.nameCtx Tree.valueCtx Tree.hostCtx Tree.past Tree.root Tree.count Tree.uses Tree.usedRight Tree.boundBy Tree.bindsNew Tree.parent Tree.scopeIn Tree.ctx Tree.nameIn Tree.inScope Tree.firstBad Tree.orElse Tree.numbered Tree.lowest Tree.treeRefusal Subtype.onNum Subtype.onPair Subtype.onCell Subtype.onFn Subtype.onLim Subtype.onGrant Subtype.sameTy Subtype.subTy Subtype.superTy Least.with Least.wantNum Least.wantPair Least.wantCell Least.wantFn Least.wantLim Least.wantGrant Least.require Least.isUpper Least.pick Least.typeIn Least.varType Least.ofVar Least.keysAt Least.typeAt Least.get Least.extend Least.typesTo Least.types Least.typeOf Least.firstUntyped Verdict.unless Verdict.within Verdict.judged Verdict.judge Verdict.judgeRead Verdict.verdictOf Keys.enabled Keys.upto Keys.narrow Keys.add Step.does Step.free Step.room Step.touch Step.touchAll Step.settle Step.asNum Step.asPair Step.asFn Step.asCell Step.asLim Step.asGrant Step.found Step.one Step.two Step.actPair Step.partOf Step.actPart Step.actApp Step.actNew Step.actAsg Step.actRead Step.sumN Step.actSum Step.branch Step.actTest Step.limitKeys Step.keysOf Step.actLim Step.actGrant Step.actNewkey Step.actAssoc Step.worked Step.act Step.seekIn Step.seekAt Step.seek Step.variable Step.enterLim Step.enterCmd Step.receive Step.handTo Step.planOn Step.plan Step.step Room.doneAt Room.isDone Room.full Room.lacksEntry Room.lacksEnter Room.lacksAct Room.lacksReceive Room.lacksHand Room.lacksOn Room.lacks Start.bindTo Start.addName Start.addNames Start.named Start.hostValue Start.hostCell Start.addValues Start.keyNamed Start.valued Start.startOf Calls.turn Calls.run Calls.call Calls.calls Lines.decimalIn Lines.decimal Lines.hexDigit Lines.hex Lines.w-refused Lines.w-at Lines.w-accepted Lines.w-done Lines.w-spent Lines.w-no-room Lines.w-number Lines.w-pair Lines.w-cell Lines.w-function Lines.w-limit Lines.w-grant Lines.space Lines.line Lines.typeKind Lines.valueKind Lines.handed Lines.refusedLine Lines.acceptedLine Lines.ranLine Lines.ranOf Lines.runLine Lines.runRead Lines.reported Lines.deskOf Lines.printed flatMap Jobs.example Jobs.cellsFrom Jobs.nested Jobs.unkeyedRead Jobs.limitedRead Jobs.everyCommand Jobs.unscoped isRead told ranFrom started Starting.unless Starting.startRead Starting.starting
+unfolding Bools._and_ Bools._or_ Order.onUpper Order.belowIn Order.below Sets.bit Sets.consIf Sets.membersFrom Sets.members Sets.setOf Sets.keep Sets.some-of Sets.all-of Effects.ofNames Effects.names Effects.touch Effects.join Effects.effBelow Effects.maximal Effects.reduced Effects.reduce Effects.drop Effects.raise Types.keyOf Types.rekey Types.depth Types.namesIn Types.entryTree Types.treeIn Types.tree Commands.mapCmd Commands.commands Commands.findOp Commands.opOf Commands.operands Commands.total Commands.width Commands.sectionOf Commands.little Commands.fields Operands.nth Operands.plain Operands.inner Operands.children Operands.typesOf Operands.usesVar Operands.bindsVar Operands.bindsName Job.uppers Job.valueOf Job.sourceOf Reading.declared Reading.isHost Reading.hostName Reading.openName Reading.localName Reading.setOk Reading.nameOk Reading.partsOk Reading.typeOk Reading.unkeyedNumber Reading.hostTypeOk Reading.hostValueOk Reading.rightsOk Reading.cmdOk Reading.written Reading.given Reading.enter Reading.misplaced Reading.full Reading.settle Reading.command Reading.ended Reading.onward Reading.onOp Reading.readFrom Reading.reading Tree.binds Tree.varsOf Tree.namesOf Tree.memB Tree.usesName Tree.addHost Tree.nameCtx Tree.valueCtx Tree.hostCtx Tree.root Tree.count Tree.uses Tree.usedRight Tree.boundBy Tree.bindsNew Tree.parent Tree.scopeIn Tree.ctx Tree.nameIn Tree.inScope Tree.firstBad Tree.orElse Tree.numbered Tree.lowest Tree.treeRefusal Subtype.sameTy Subtype.subTy Subtype.superTy Least.with Least.wantNum Least.wantPair Least.wantCell Least.wantFn Least.wantLim Least.wantGrant Least.require Least.isUpper Least.typeIn Least.varType Least.ofVar Least.keysAt Least.typeAt Least.get Least.extend Least.typesTo Least.types Least.typeOf Least.firstUntyped Verdict.unless Verdict.within Verdict.judged Verdict.judge Verdict.judgeRead Verdict.verdictOf Keys.enabled Keys.upto Keys.narrow Keys.add Step.room Step.touch Step.touchAll Step.settle Step.asNum Step.asPair Step.asFn Step.asCell Step.asLim Step.asGrant Step.found Step.bare Step.one Step.two Step.actPair Step.partOf Step.actPart Step.actFn Step.actApp Step.actNew Step.actAsg Step.actRead Step.sumN Step.actSum Step.branch Step.actTest Step.limitKeys Step.keysOf Step.actLim Step.actGrant Step.makeKey Step.actNewkey Step.actAssoc Operands.evaluated Step.push Step.act Step.seekIn Step.seekAt Step.seek Step.variable Step.enterAt Step.enterCmd Step.receive Step.handTo Step.planOn Step.plan Step.step Room.doneAt Room.isDone Start.bindTo Start.addName Start.addNames Start.named Start.hostValue Start.hostCell Start.addValues Start.keyNamed Start.valued Start.startOf Calls.turn Calls.run Calls.call Calls.calls Lines.decimalIn Lines.decimal Lines.hexDigit Lines.hex Lines.w-refused Lines.w-at Lines.w-accepted Lines.w-done Lines.w-spent Lines.w-no-room Lines.w-number Lines.w-pair Lines.w-cell Lines.w-function Lines.w-limit Lines.w-grant Lines.space Lines.line Lines.typeKind Lines.valueKind Lines.handed Lines.refusedLine Lines.acceptedLine Lines.ranLine Lines.ranOf Lines.runLine Lines.runRead Lines.reported Lines.deskOf Lines.printed flatMap Jobs.example Jobs.cellsFrom Jobs.nested Jobs.unkeyedRead Jobs.limitedRead Jobs.everyCommand Jobs.unscoped isRead told ranFrom started Loading.unless Loading.inTree Loading.loading Starting.startLoaded Starting.starting Tree.predecessor Types.byType Types.onNum Types.onPair Types.onCell Types.onFn Types.onLim Types.onGrant Effects.setNames Effects.setTouch Effects.setBelow Effects.setReduced Effects.setReduce Effects.setDrop Effects.setRaise
 marked =
     record {
       below = refl;

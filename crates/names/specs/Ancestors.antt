@@ -10,7 +10,7 @@ use lib.Count.{trailingZeros}
 use Rattle.order.specs.Bools.{_and_, _or_}
 use Rattle.order.specs.Order.{below}
 use Rattle.order.specs.Sets.{bit, members, setOf, keep, all-of}
-use Rattle.order.specs.Effects.{Effect, names}
+use Rattle.order.specs.Effects.{Effect, ofWord, setNames, join}
 use Rattle.syntax.specs.Job.{Name}
 use Rattle.syntax.specs.Reading.{most-names, hostName}
 
@@ -41,32 +41,35 @@ unfoldable pub belowBy : List ℕ → ℕ → ℕ → Bool
 belowBy anc a b = eqb a 0 or eqb a b or bit (getD anc a 0) b
 
 -- a name of t is at or above n
-unfoldable pub meetsBy : List ℕ → Effect → ℕ → Bool
+unfoldable pub meetsBy : List ℕ → ℕ → ℕ → Bool
 meetsBy anc t n = not (eqb (bitAnd (getD anc n 0) t) 0)
 
-unfoldable pub effBelowBy : List ℕ → Effect → Effect → Bool
-effBelowBy anc s t = all-of (meetsBy anc t) (names s)
+unfoldable pub effBelowBy : List ℕ → ℕ → ℕ → Bool
+effBelowBy anc s t = all-of (meetsBy anc t) (setNames s)
+
+abbrev pub effectsBy : List ℕ → Effect → Effect → Bool
+effectsBy anc s t = effBelowBy anc (s .set) (t .set)
 
 -- no other name of s is at or above n
-unfoldable pub topBy : List ℕ → Effect → ℕ → Bool
+unfoldable pub topBy : List ℕ → ℕ → ℕ → Bool
 topBy anc s n = eqb (bitAnd (getD anc n 0) s) (2 ^ n)
 
 -- n is no bottom, and no other name of s is at or above it
-unfoldable pub maximalBy : List ℕ → Effect → ℕ → Bool
+unfoldable pub maximalBy : List ℕ → ℕ → ℕ → Bool
 maximalBy anc s n = cond (eqb n 0) false (topBy anc s n)
 
-unfoldable pub reducedBy : List ℕ → Effect → Bool
+unfoldable pub reducedBy : List ℕ → ℕ → Bool
 reducedBy anc s = all-of (maximalBy anc s) (members s)
 
-unfoldable pub reduceBy : List ℕ → Effect → Effect
+unfoldable pub reduceBy : List ℕ → ℕ → ℕ
 reduceBy anc s = setOf (keep (maximalBy anc s) (members s))
 
 -- n is not below r
 unfoldable pub staysBy : List ℕ → ℕ → ℕ → Bool
 staysBy anc r n = not (belowBy anc n r)
 
-unfoldable pub dropBy : List ℕ → ℕ → Effect → Effect
-dropBy anc r s = setOf (keep (staysBy anc r) (names s))
+unfoldable pub dropBy : List ℕ → ℕ → ℕ → ℕ
+dropBy anc r s = setOf (keep (staysBy anc r) (setNames s))
 
 -- the lowest member of a set of names; 64 for none
 unfoldable pub lowest : ℕ → ℕ
@@ -77,14 +80,18 @@ unfoldable pub oneOf : ℕ → ℕ
 oneOf n = cond (ltb n most-names) (2 ^ n) 0
 
 -- s without 0
-unfoldable pub nonzero : Effect → Effect
+unfoldable pub nonzero : ℕ → ℕ
 nonzero s = s - s % 2
 
 -- touch and raise; 0 and a number that is no name add nothing
-unfoldable pub touchBy : ℕ → Effect → Effect
+unfoldable pub touchBy : ℕ → ℕ → ℕ
 touchBy q s = cond (eqb q 0) s (bitOr (oneOf q) s)
 
-unfoldable pub raiseBy : ℕ → ℕ → Effect → Effect
+-- the join of what two words stand for
+abbrev pub joinBy : ℕ → ℕ → ℕ
+joinBy s t = join (ofWord s) (ofWord t) .set
+
+unfoldable pub raiseBy : ℕ → ℕ → ℕ → ℕ
 raiseBy r u s = cond (bit (nonzero s) r) (bitOr (oneOf u) (bitXor (nonzero s) (oneOf r))) (nonzero s)
 
 -- The table of ancestors by one pass over the declared names: a name's entry is its own bit with the entry of its upper name. 0 is below all, and 1 below itself.
@@ -106,8 +113,8 @@ unfoldable pub declaredOf : ℕ → ℕ → Bool
 declaredOf n q = ltb q (2 + n)
 
 -- the conditions on a written set and on the rights, by the table of ancestors of n declared names
-unfoldable pub setOkBy : List ℕ → ℕ → Effect → Bool
+unfoldable pub setOkBy : List ℕ → ℕ → ℕ → Bool
 setOkBy anc n s = all-of (declaredOf n) (members s) and reducedBy anc s
 
-unfoldable pub rightsOkBy : List ℕ → List Name → Effect → Bool
+unfoldable pub rightsOkBy : List ℕ → List Name → ℕ → Bool
 rightsOkBy anc ds s = setOkBy anc (length ds) s and all-of (hostName ds) (members s)

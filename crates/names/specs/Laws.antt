@@ -9,13 +9,13 @@ use lib.ListN.{length, getD, List·getD-eq-default}
 use lib.Dec.{eqb, ltb}
 use lib.Bits.{bitAnd, bitOr, bitXor}
 use borrow.Author.Tests.{lt-ltb, le-ltb, ltb-true, ltb-false, eq-eqb, ne-eqb, eqb-true, eqb-false, not-true}
-use Rattle.order.specs.Bools.{_and_, _or_}
+use Rattle.order.specs.Bools.{_and_, _or_, and-r}
 use Rattle.order.specs.Order.{Below, bot, here, there, below}
 use Rattle.order.specs.OrderLaws.{Proper, getElem?-lt, below→, below-self, below-bot, below-le, below-zero}
 use Rattle.order.specs.Sets.{bit, members, setOf, keep, some-of, all-of}
-use Rattle.order.specs.SetLaws.{bool-ext, and→, →and, bit-or, bit-zero, bit-pow, set-ext, keep-mem, mem-keep, some-of→, →some-of, all-of→, mem-bit, bit-mem, setOf-bit, bit-setOf}
-use Rattle.order.specs.Effects.{Effect, names, touch, effBelow, maximal, reduced, reduce, drop, raise}
-use Rattle.order.specs.EffectLaws.{name-bit, bit-name, maximal→, →maximal, bit-raise}
+use Rattle.order.specs.SetLaws.{bool-ext, and→, →and, bit-or, bit-zero, bit-pow, set-ext, keep-mem, mem-keep, some-of→, →some-of, all-of→, →all-of, mem-bit, bit-mem, setOf-bit, bit-setOf}
+use Rattle.order.specs.Effects.{ofWord, names, reduced, setNames, setTouch, setBelow, maximal, setReduced, setReduce, setDrop, setRaise}
+use Rattle.order.specs.NameSetLaws.{name-mem, mem-name, name-bit, bit-name, maximal→, →maximal, bit-raise}
 use Rattle.syntax.specs.Job.{Name, uppers}
 use Rattle.syntax.specs.Reading.{declared, hostName, setOk, rightsOk}
 use Rattle.names.specs.Ancestors.{range, atOrAbove, ancestorsOf, belowBy, meetsBy, effBelowBy, topBy, maximalBy, reducedBy, reduceBy, staysBy, dropBy, oneOf, nonzero, touchBy, raiseBy, declaredOf, setOkBy, rightsOkBy}
@@ -121,9 +121,9 @@ module _ {up : List ℕ} (ok : Proper up) (few : length up ≤ 64) {anc : List �
           let g : length up ≤ a = ltb-false a (length up) h in
           ap (λ (t : List ℕ). bit (getD t a 0) b) table ∙ ap (λ (x : ℕ). bit x b) (table-out up a g) ∙ bit-zero b ∙ sym (none (eqb-false a 0 z) (eqb-false a b y) g)
 
-  meets-by : (t : Effect) (n : ℕ) → n ≢ 0 → n < length up → meetsBy anc t n ≡ some-of (λ m. below up n m) (names t)
+  meets-by : (t : ℕ) (n : ℕ) → n ≢ 0 → n < length up → meetsBy anc t n ≡ some-of (λ m. below up n m) (setNames t)
   unfolding meetsBy
-  meets-by t n z h = bool-ext (not (eqb x 0)) (some-of (λ m. below up n m) (names t)) to from
+  meets-by t n z h = bool-ext (not (eqb x 0)) (some-of (λ m. below up n m) (setNames t)) to from
     where
       x : ℕ
       x = bitAnd (getD anc n 0) t
@@ -131,26 +131,26 @@ module _ {up : List ℕ} (ok : Proper up) (few : length up ≤ 64) {anc : List �
       at : (i : ℕ) → bit x i ≡ true → (bit (getD anc n 0) i ≡ true) × (bit t i ≡ true)
       at i e = and→ (bit (getD anc n 0) i) (bit t i) (sym (bit-and i (getD anc n 0) t) ∙ e)
 
-      to : not (eqb x 0) ≡ true → some-of (λ m. below up n m) (names t) ≡ true
+      to : not (eqb x 0) ≡ true → some-of (λ m. below up n m) (setNames t) ≡ true
       to e = go (some-bit x (eqb-false x 0 (not-true (eqb x 0) e)))
         where
-          go : (i : ℕ) × (bit x i ≡ true) → some-of (λ m. below up n m) (names t) ≡ true
+          go : (i : ℕ) × (bit x i ≡ true) → some-of (λ m. below up n m) (setNames t) ≡ true
           go w =
               let y = at (w .0) (w .1) in
               let b : below up n (w .0) ≡ true = sym (bit-entry n (w .0) z h) ∙ y .0 in
               →some-of (λ m. below up n m) (bit-name t (y .1) (λ e. z (below-zero ok (subst (λ (i : ℕ). Below up n i) e (below→ up n (w .0) b))))) b
 
-      from : some-of (λ m. below up n m) (names t) ≡ true → not (eqb x 0) ≡ true
+      from : some-of (λ m. below up n m) (setNames t) ≡ true → not (eqb x 0) ≡ true
       from e =
-          let w = some-of→ (λ m. below up n m) (names t) e in
+          let w = some-of→ (λ m. below up n m) (setNames t) e in
           let y : bit x (w .0) ≡ true = bit-and (w .0) (getD anc n 0) t ∙ →and (bit (getD anc n 0) (w .0)) (bit t (w .0)) (bit-entry n (w .0) z h ∙ w .2) (name-bit t (w .1) .0) in
           ap not (ne-eqb x 0 (λ g. true≢false (sym y ∙ ap (λ (v : ℕ). bit v (w .0)) g ∙ bit-zero (w .0))))
 
-  pub eff-below-by : (s t : Effect) → ((n : ℕ) → bit s n ≡ true → n < length up) → effBelowBy anc s t ≡ effBelow up s t
-  unfolding effBelowBy effBelow
-  eff-below-by s t f = all-cong (meetsBy anc t) (λ n. some-of (λ m. below up n m) (names t)) (names s) (λ n m. let z = name-bit s m in meets-by t n (z .1) (f n (z .0)))
+  pub eff-below-by : (s t : ℕ) → ((n : ℕ) → bit s n ≡ true → n < length up) → effBelowBy anc s t ≡ setBelow up s t
+  unfolding effBelowBy setBelow
+  eff-below-by s t f = all-cong (meetsBy anc t) (λ n. some-of (λ m. below up n m) (setNames t)) (setNames s) (λ n m. let z = name-bit s m in meets-by t n (z .1) (f n (z .0)))
 
-  maximal-by : (s : Effect) (n : ℕ) → bit s n ≡ true → n < length up → maximalBy anc s n ≡ maximal up s n
+  maximal-by : (s : ℕ) (n : ℕ) → bit s n ≡ true → n < length up → maximalBy anc s n ≡ maximal up s n
   unfolding maximalBy topBy
   maximal-by s n g h = at (eqb n 0) refl
     where
@@ -185,27 +185,27 @@ module _ {up : List ℕ} (ok : Proper up) (few : length up ≤ 64) {anc : List �
       at true e = sym (zero-out (eqb-true n 0 e))
       at false e = let z = eqb-false n 0 e in bool-ext (eqb x (2 ^ n)) (maximal up s n) (to z) (from z)
 
-  pub reduced-by : (s : Effect) → ((n : ℕ) → bit s n ≡ true → n < length up) → reducedBy anc s ≡ reduced up s
-  unfolding reducedBy reduced
+  pub reduced-by : (s : ℕ) → ((n : ℕ) → bit s n ≡ true → n < length up) → reducedBy anc s ≡ setReduced up s
+  unfolding reducedBy setReduced
   reduced-by s f = all-cong (maximalBy anc s) (maximal up s) (members s) (λ n m. let b = mem-bit s m in maximal-by s n b (f n b))
 
-  pub reduce-by : (s : Effect) → ((n : ℕ) → bit s n ≡ true → n < length up) → reduceBy anc s ≡ reduce up s
-  unfolding reduceBy reduce
+  pub reduce-by : (s : ℕ) → ((n : ℕ) → bit s n ≡ true → n < length up) → reduceBy anc s ≡ setReduce up s
+  unfolding reduceBy setReduce
   reduce-by s f = ap setOf (keep-cong (maximalBy anc s) (maximal up s) (members s) (λ n m. let b = mem-bit s m in maximal-by s n b (f n b)))
 
-  pub drop-by : (r : ℕ) (s : Effect) → dropBy anc r s ≡ drop up r s
-  unfolding dropBy drop staysBy
-  drop-by r s = ap setOf (keep-cong (staysBy anc r) (λ n. not (below up n r)) (names s) (λ n m. ap not (below-by n r)))
+  pub drop-by : (r : ℕ) (s : ℕ) → dropBy anc r s ≡ setDrop up r s
+  unfolding dropBy setDrop staysBy
+  drop-by r s = ap setOf (keep-cong (staysBy anc r) (λ n. not (below up n r)) (setNames s) (λ n m. ap not (below-by n r)))
 
 -- Touch and raise
 
-pub touch-by : (q : ℕ) (s : Effect) → q < 64 → touchBy q s ≡ touch q s
-unfolding touchBy touch
+pub touch-by : (q : ℕ) (s : ℕ) → q < 64 → touchBy q s ≡ setTouch q s
+unfolding touchBy setTouch
 touch-by q s h = ap (λ (x : ℕ). cond (eqb q 0) s (bitOr x s)) (one-of q h)
 
-pub raise-by : (r u : ℕ) (s : Effect) → r < 64 → u < 64 → raiseBy r u s ≡ raise r u s
+pub raise-by : (r u : ℕ) (s : ℕ) → r < 64 → u < 64 → raiseBy r u s ≡ setRaise r u s
 unfolding raiseBy
-raise-by r u s h k = set-ext (raiseBy r u s) (raise r u s) (λ n. one n (bit (nonzero s) r) refl ∙ sym (bit-raise r u s n))
+raise-by r u s h k = set-ext (raiseBy r u s) (setRaise r u s) (λ n. one n (bit (nonzero s) r) refl ∙ sym (bit-raise r u s n))
   where
     t : ℕ
     t = nonzero s
@@ -244,15 +244,27 @@ raise-by r u s h k = set-ext (raiseBy r u s) (raise r u s) (λ n. one n (bit (no
 
 -- Written sets
 
+-- a test of all members of a set is one of its names, where 0 is no member or passes
+all-named : (p : ℕ → Bool) (s : ℕ) → (bit s 0 ≡ true → p 0 ≡ true) → all-of p (members s) ≡ all-of p (setNames s)
+all-named p s f = bool-ext _ _ (λ e. →all-of p (setNames s) (λ n m. all-of→ p e (name-mem s m .0))) (λ e. →all-of p (members s) (λ n m. at e n m (eqb n 0) refl))
+  where
+    at : all-of p (setNames s) ≡ true → (n : ℕ) → List·Memᴰ n (members s) → (c : Bool) → eqb n 0 ≡ c → p n ≡ true
+    at e n m true z = let h : n ≡ 0 = eqb-true n 0 z in ap p h ∙ f (subst (λ (k : ℕ). bit s k ≡ true) h (mem-bit s m))
+    at e n m false z = all-of→ p e (mem-name s m (eqb-false n 0 z))
+
 module _ (ds : List Name) (ok : Proper (uppers ds)) (few : length ds ≤ 62) {anc : List ℕ} (table : anc ≡ ancestorsOf (uppers ds)) where
-  pub set-ok-by : (s : Effect) → setOkBy anc (length ds) s ≡ setOk ds s
-  unfolding setOkBy setOk declaredOf declared _and_
-  set-ok-by s = at (all-of (declared ds) (members s)) refl
+  pub set-ok-by : (s : ℕ) → setOkBy anc (length ds) s ≡ setOk ds (ofWord s)
+  unfolding setOkBy setOk declaredOf declared _and_ names reduced
+  set-ok-by s = at (all-of (declared ds) (members s)) refl ∙ ap (λ (c : Bool). c and setReduced (uppers ds) s) (all-named (declared ds) s (λ b. lt-ltb 0 (2 + length ds) (omega arith)))
     where
-      at : (c : Bool) → all-of (declared ds) (members s) ≡ c → (c and reducedBy anc s) ≡ (c and reduced (uppers ds) s)
+      at : (c : Bool) → all-of (declared ds) (members s) ≡ c → (c and reducedBy anc s) ≡ (c and setReduced (uppers ds) s)
       at true e = reduced-by ok (omega (arith, uppers-length ds)) table s (λ n b. omega (arith, uppers-length ds, ltb-true n (2 + length ds) (all-of→ (declared ds) e (bit-mem s b))))
       at false e = refl
 
-  pub rights-ok-by : (s : Effect) → rightsOkBy anc ds s ≡ rightsOk ds s
-  unfolding rightsOkBy rightsOk
-  rights-ok-by s = ap (λ (c : Bool). c and all-of (hostName ds) (members s)) (set-ok-by s)
+  pub rights-ok-by : (s : ℕ) → rightsOkBy anc ds s ≡ rightsOk ds (ofWord s)
+  unfolding rightsOkBy rightsOk setOk _and_ names reduced setReduced
+  rights-ok-by s = ap (λ (c : Bool). c and all-of (hostName ds) (members s)) (set-ok-by s) ∙ at (setOk ds (ofWord s)) refl
+    where
+      at : (c : Bool) → setOk ds (ofWord s) ≡ c → (c and all-of (hostName ds) (members s)) ≡ (c and all-of (hostName ds) (setNames s))
+      at true e = all-named (hostName ds) s (λ b. absurd (maximal→ (uppers ds) s 0 (all-of→ (maximal (uppers ds) s) (and-r (all-of (declared ds) (setNames s)) (setReduced (uppers ds) s) e) (bit-mem s b)) .0 refl))
+      at false e = refl

@@ -15,7 +15,7 @@ use Rattle.order.specs.Order.{Below, there, below}
 use Rattle.order.specs.OrderLaws.{Proper, below→, →below, below-self, below-bot, below-le, below-zero}
 use Rattle.order.specs.Sets.{bit, consIf, setOf, keep}
 use Rattle.order.specs.SetLaws.{bool-ext, or→, →or-l, →or-r, bit-or, bit-pow, set-ext}
-use Rattle.order.specs.EffectLaws.{below-upper}
+use Rattle.order.specs.NameSetLaws.{below-upper}
 use Rattle.syntax.specs.Job.{Name, uppers}
 use Rattle.names.specs.Ancestors.{nameOf, namesIn, range, atOrAbove, ancestorsOf, oneOf, firstTwo, entered, passOver, ancestorsBy}
 use Rattle.names.specs.Bits.{one-of, keep-cong}

@@ -11,7 +11,7 @@ use lib.Count.{trailingZeros, under}
 use borrow.Author.Tests.{lt-ltb}
 use Rattle.order.specs.Sets.{bit, consIf, membersFrom, members, setOf, keep, all-of}
 use Rattle.order.specs.SetLaws.{set-ext, bit-or}
-use Rattle.order.specs.Effects.{Effect, names}
+use Rattle.order.specs.Effects.{setNames}
 use Rattle.names.specs.Ancestors.{lowest, oneOf, nonzero}
 
 -- the members of s, of which i is the number of the lowest bit
@@ -106,8 +106,8 @@ keep-from (suc f) i (suc s) = at (eqb (suc s % 2) 1) (keep-from f (suc i) (suc s
     at true {l} e = ap (λ (b : Bool). consIf (not b) (suc i) (keep (λ n. not (eqb n 0)) l)) (eqb·suc-zero i) ∙ ap (λ (m : List ℕ). suc i ∷ m) e
     at false e = e
 
-pub names-members : (s : Effect) → names s ≡ members (nonzero s)
-unfolding names members nonzero from keep consIf
+pub names-members : (s : ℕ) → setNames s ≡ members (nonzero s)
+unfolding setNames members nonzero from keep consIf
 names-members s = at (s % 2) refl ∙ sym (from-even 0 (s - s % 2) (omega arith) ∙ ap (from 1) h)
   where
     h : (s - s % 2) / 2 ≡ s / 2

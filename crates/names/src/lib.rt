@@ -10,10 +10,9 @@ ghost use mathlib.Core.Bool.{cond};
 ghost use lib.ListN.{getD};
 ghost use lib.Dec.{ltb};
 ghost use Rattle.order.specs.Sets.{bit, members, all-of};
-ghost use Rattle.order.specs.Effects as effects;
 ghost use Rattle.syntax.specs.Reading.{hostName, openName, localName};
 ghost use Rattle.names.specs.Ancestors.{nameOf, namesIn, entered, ancestorsBy, lowest, oneOf, nonzero};
-ghost use Rattle.names.specs.Ancestors.{belowBy, meetsBy, effBelowBy, maximalBy, reducedBy, reduceBy, staysBy, dropBy, touchBy, raiseBy};
+ghost use Rattle.names.specs.Ancestors.{belowBy, meetsBy, effBelowBy, maximalBy, reducedBy, reduceBy, staysBy, dropBy, touchBy, joinBy, raiseBy};
 ghost use Rattle.names.specs.Ancestors.{declaredOf, setOkBy, rightsOkBy};
 
 // The entry of name n in a table of ancestors, and none for a number that is no name.
@@ -227,7 +226,7 @@ pub fn touch(q: Name, s: u64) -> u64
 
 // The names of s and of t.
 pub fn join(s: u64, t: u64) -> u64
-    ensures { λ r. ⌜ r ≡ effects.join s t ⌝ }
+    ensures { λ r. ⌜ r ≡ joinBy s t ⌝ }
 {
     s | t
 }

@@ -2,24 +2,19 @@
 -- steps and the value of a run that document 01 allows. There is no fourth way, and never a missing line.
 use mathlib.Core.Path.{_≡_, refl, sym, ap, _∙_, subst}
 use Prim.Native.Nat.{ℕ}
-use native.Mathlib.Omega.{arith}
-use mathlib.Core.Bool.{Bool, true, false, false≢true}
+use mathlib.Core.Bool.{true, false≢true}
 use mathlib.Core.List.{List, [], _∷_, _++_}
 use lib.ListN.{take}
 use Rattle.order.specs.Effects.{Effect}
-use Rattle.syntax.specs.Types.{Ty, tree}
-use Rattle.syntax.specs.Commands.{mapCmd}
-use Rattle.syntax.specs.Operands.{nth}
+use Rattle.syntax.specs.Types.{Ty}
 use Rattle.syntax.specs.Job.{Job, sourceOf}
-use Rattle.syntax.specs.Reading.{Refusal, Read, refused, read, reading}
-use Rattle.syntax.specs.ReadFormed.{nth-map}
+use Rattle.syntax.specs.Reading.{Refusal, read, reading}
 use Rattle.typing.specs.Verdict.{Verdict, accept, refuse, verdictOf}
 use Rattle.semantics.specs.Machine.{Value, Frame, Control, enter, hand, Machine}
 use Rattle.semantics.specs.Start.{startOf}
 use Rattle.semantics.specs.Room.{isDone, doneAt}
-use Rattle.semantics.specs.Calls.{Call, run-of, finished, spent, noroom, Ran, ran, run, call, calls, Gives, run-finished, run-spent, run-noroom, AllGive, all-cons}
-use Rattle.semantics.specs.TypeFree.{run-same}
-use Rattle.semantics.specs.Demand3.{exprOf, callsOf, Allowed, demand3}
+use Rattle.semantics.specs.Calls.{run-of, finished, spent, noroom, Ran, ran, run, call, calls, Gives, run-finished, run-spent, run-noroom, AllGive, all-cons}
+use Rattle.semantics.specs.Demand3.{stepsIn, same-steps, demand3}
 use Rattle.output.specs.Lines.{decimal, space, line, w-done, w-spent, w-no-room, valueKind, handed, refusedLine, acceptedLine, ranLine, most-steps, ranOf, runLine, runRead, reported, deskOf, most-bytes, printed}
 
 -- the line of a run that gave r
@@ -31,7 +26,7 @@ pub data RunLine : Ran → List ℕ → Type 0 where
 pub data DeskLines (s : List ℕ) : List ℕ → Type 0 where
   refused-line : (q : Refusal) → verdictOf s ≡ refuse q → DeskLines s (refusedLine q)
   run-line :
-      (T : Ty) (e : Effect) (J : Job) (r : Ran) (l : List ℕ) → verdictOf s ≡ accept T e → reading s ≡ read J → Gives (exprOf J) (startOf (sourceOf J)) (run-of most-steps) r → RunLine r l →
+      (T : Ty) (e : Effect) (J : Job) (r : Ran) (l : List ℕ) → verdictOf s ≡ accept T e → reading s ≡ read J → Gives (stepsIn J) (startOf (sourceOf J)) (run-of most-steps) r → RunLine r l →
       DeskLines s (acceptedLine T e ++ l)
 
 -- a machine that is done hands on a value
@@ -45,7 +40,7 @@ unfolding isDone
 done-hands t d = hands (t .thread .control) (t .thread .frames) d
 
 -- a run that demand 3 allows has its line
-run-of-three : (J : Job) {m : Machine} {n : ℕ} {r : Ran} → Gives (exprOf J) m (run-of n) r → RunLine r (ranOf r)
+run-of-three : (J : Job) {m : Machine} {n : ℕ} {r : Ran} → Gives (stepsIn J) m (run-of n) r → RunLine r (ranOf r)
 unfolding ranOf ranLine handed
 run-of-three J (run-finished {k = k} {t = t} h x d) =
     let z = done-hands t d in
@@ -54,17 +49,13 @@ run-of-three J (run-spent x d) = says-spent
 run-of-three J (run-noroom h x d l) = says-no-room
 
 -- the run itself
-first-of : (J : Job) (m : Machine) (n : ℕ) → AllGive (exprOf J) (run-of n ∷ []) m (calls (exprOf J) (run-of n ∷ []) m) → Gives (exprOf J) m (run-of n) (run (exprOf J) n 0 m)
+first-of : (J : Job) (m : Machine) (n : ℕ) → AllGive (stepsIn J) (run-of n ∷ []) m (calls (stepsIn J) (run-of n ∷ []) m) → Gives (stepsIn J) m (run-of n) (run (stepsIn J) n 0 m)
 unfolding calls call
 first-of J m n (all-cons g rest) = g
 
-same-code : (J : Job) (e : ℕ) → nth (sourceOf J .cmds) e ≡ mapCmd (tree (J .types)) (exprOf J e)
-unfolding sourceOf
-same-code J e = nth-map (tree (J .types)) (J .cmds) e
-
-run-is : (J : Job) → ranOf (run (exprOf J) most-steps 0 (startOf (sourceOf J))) ≡ runLine (sourceOf J)
+run-is : (J : Job) → ranOf (run (stepsIn J) most-steps 0 (startOf (sourceOf J))) ≡ runLine (sourceOf J)
 unfolding runLine
-run-is J = ap ranOf (sym (run-same (tree (J .types)) (exprOf J) (nth (sourceOf J .cmds)) (same-code J) most-steps 0 (startOf (sourceOf J))))
+run-is J = ap (λ K. ranOf (run K most-steps 0 (startOf (sourceOf J)))) (sym (same-steps J))
 
 accepted-desk : (s : List ℕ) (J : Job) {T : Ty} {e : Effect} → verdictOf s ≡ accept T e → reading s ≡ read J → deskOf s ≡ acceptedLine T e ++ runLine (sourceOf J)
 unfolding deskOf reported runRead

@@ -1,18 +1,18 @@
 -- The desk program's lines as bytes (document 01, "The desk program").
 use Prim.Native.Nat.{ℕ, zero, suc, _+_, _/_, _%_}
-use mathlib.Core.Bool.{Bool, true, false, cond}
+use mathlib.Core.Bool.{cond}
 use mathlib.Core.List.{List, [], _∷_, _++_}
 use lib.ListN.{take}
 use lib.Dec.{ltb}
 use Rattle.order.specs.Effects.{Effect}
 use Rattle.syntax.specs.Types.{Ty, num, pair, cell, fn, lim, grant}
-use Rattle.syntax.specs.Job.{Job, Src, sourceOf}
+use Rattle.syntax.specs.Job.{Src, sourceOf}
 use Rattle.syntax.specs.Operands.{nth}
 use Rattle.syntax.specs.Reading.{Refusal, Read, refused, read, reading}
 use Rattle.typing.specs.Verdict.{Verdict, accept, refuse, verdictOf}
-use Rattle.semantics.specs.Machine.{Kind, k-num, k-pair, k-fn, k-cell, k-lim, k-grant, Value, Control, enter, hand, Machine}
+use Rattle.semantics.specs.Machine.{Kind, k-num, k-pair, k-fn, k-cell, k-lim, k-grant, Control, enter, hand, Machine}
 use Rattle.semantics.specs.Start.{startOf}
-use Rattle.semantics.specs.Calls.{Answer, taken, finished, spent, noroom, stuck, denied, Ran, run}
+use Rattle.semantics.specs.Calls.{Answer, taken, finished, spent, noroom, stuck, denied, Ran, stepsOf, run}
 
 -- a number in decimal, no leading zeros; at most so many digits
 unfoldable pub decimalIn : ℕ → ℕ → List ℕ
@@ -103,7 +103,7 @@ refusedLine r = line (space w-refused (space (decimal (r .number)) (space w-at (
 
 -- "`accepted`, the effect as 16 hexadecimal digits (letters small) and the type's kind"
 unfoldable pub acceptedLine : Ty → Effect → List ℕ
-acceptedLine T s = line (space w-accepted (space (hex 16 s) (typeKind T)))
+acceptedLine T s = line (space w-accepted (space (hex 16 (s .set)) (typeKind T)))
 
 -- "`done`, steps, kind and, for a number, its value; or `spent 100000`, or `no room` and steps". No line is defined for stuck and denied: demand 3 says that an
 -- accepted job never needs one. A run is never taken, which is a step's answer.
@@ -123,7 +123,7 @@ unfoldable pub ranOf : Ran → List ℕ
 ranOf r = ranLine (r .answer) (r .count) (r .machine)
 
 unfoldable pub runLine : Src → List ℕ
-runLine S = ranOf (run (nth (S .cmds)) most-steps 0 (startOf S))
+runLine S = ranOf (run (stepsOf (nth (S .cmds))) most-steps 0 (startOf S))
 
 unfoldable pub runRead : Read → List ℕ
 runRead (refused r) = []

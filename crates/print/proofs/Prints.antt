@@ -8,27 +8,27 @@ use lib.ListN.{length, getD, take}
 use lib.Seq.{take-all, length-take-le}
 use lib.Dec.{eqb}
 use borrow.Author.Tests.{ne-eqb}
-use Rattle.order.specs.Effects.{Effect}
+use Rattle.order.specs.Effects.{Effect, ofWord}
 use mathlib.Core.Option.{none, some}
-use Rattle.syntax.specs.Types.{Ty, e-num, entryTree, treeIn, tree}
-use Rattle.syntax.specs.Commands.{Cmd, mapCmd}
-use Rattle.syntax.specs.Operands.{nth}
+use Rattle.syntax.specs.Types.{Ty, e-num, entryTree, treeIn}
+use Rattle.syntax.specs.Commands.{Cmd}
 use Rattle.syntax.specs.Job.{Job, sourceOf}
 use Rattle.syntax.specs.Reading.{Refusal, read, reading}
-use Rattle.syntax.specs.ReadFormed.{nth-map}
 use Rattle.syntax.specs.Words.{codeIn, entryBits, entryIn}
 use Rattle.syntax.specs.WordLaws.{Bytes}
+use Rattle.syntax.specs.ReadLaws.{read-ok}
+use Rattle.typing.specs.RefusalLaws.{Stands, by-reading, by-expression, refusal-stands}
 use Rattle.typing.specs.Verdict.{Verdict, accept, refuse, verdictOf}
 use Rattle.typing.specs.Tables.{Tables, short, verdictWith}
 use Rattle.semantics.specs.Machine.{hand, Machine as Clean}
 use Rattle.semantics.specs.Start.{startOf}
 use Rattle.semantics.specs.Room.{isDone, doneAt}
-use Rattle.semantics.specs.Calls.{Call, taken, finished, spent, noroom, stuck, denied, Ran, run}
+use Rattle.semantics.specs.Calls.{Steps, stepsOf, Call, taken, finished, spent, noroom, stuck, denied, Ran, run}
 use Rattle.semantics.specs.RunLaws.{Says, one-taken, one-done, one-stuck, one-denied, one-noroom, run-done, run-spent, run-stuck, run-denied, run-noroom, run-says}
-use Rattle.semantics.specs.TypeFree.{run-same}
-use Rattle.semantics.specs.Demand3.{exprOf}
+use Rattle.semantics.specs.StepExactly.{exact}
+use Rattle.semantics.specs.Demand3.{exprOf, stepsIn, same-steps}
 use Rattle.store.specs.declared.Value.{Value as Held}
-use Rattle.store.specs.declared.Expr.{Expr}
+use Rattle.table.specs.declared.Expr.{Expr}
 use Rattle.store.specs.Meaning.{valueIn, kindIn}
 use Rattle.machine.specs.declared.Machine.{Machine}
 use Rattle.machine.specs.declared.Outcome.{Outcome}
@@ -38,7 +38,7 @@ use Rattle.machine.specs.Meaning.{answerIn, controlIn}
 use Rattle.machine.specs.View.{view, seen, ranIn}
 use Rattle.format.specs.declared.Sort.{Sort}
 use Rattle.format.specs.declared.Sort.the-variants.{Number, Pair, Cell, Function, Limit, Grant}
-use Rattle.output.specs.Lines.{refusedLine, acceptedLine, ranLine, ranOf, runLine, runRead, reported, deskOf, printed}
+use Rattle.output.specs.Lines.{refusedLine, acceptedLine, ranLine, ranOf, runLine, runRead, reported, deskOf, most-bytes, most-steps, printed}
 use Rattle.format.specs.Text.{joined, typeSort, kindSort, kindNumber, acceptedAs, doneAs, spentAs, noRoomAs}
 use Rattle.format.specs.Laws.{accepted-line, accepted-done, accepted-spent, accepted-no-room}
 use Rattle.checker.specs.declared.Checked.{Checked}
@@ -46,7 +46,6 @@ use Rattle.checker.specs.declared.Verdict.the-variants as verdicts
 use Rattle.checker.specs.Answer.{treeOf, verdictIn, CheckTo}
 use Rattle.safety.specs.Accepting.{Accepting, accepting}
 use Rattle.start.specs.Starts.{Ready}
-use Rattle.print.specs.Places.{refusal-place}
 
 -- the kind of a type, by its byte
 module _ (byte q a b s : ℕ) (f : ℕ → Ty) where
@@ -135,41 +134,45 @@ unfolding ranLine
 no-denied n m = refl
 
 -- a run that finished came to a machine that is done
-says-done : {T : Type 0} (code : ℕ → Cmd T) {m : Clean} {c : Call} {r : Ran} → Says code m c r → r .answer ≡ finished → isDone (r .machine) ≡ true
-says-done code (one-taken x) e = absurd (let z : _≡_ {A = ℕ} 0 1 = cc in omega arith)
-says-done code (one-done x) e = x
-says-done code (one-stuck x) e = absurd (let z : _≡_ {A = ℕ} 0 1 = cc in omega arith)
-says-done code (one-denied x) e = absurd (let z : _≡_ {A = ℕ} 0 1 = cc in omega arith)
-says-done code (one-noroom x) e = absurd (let z : _≡_ {A = ℕ} 0 1 = cc in omega arith)
-says-done code (run-done k x y) e = y
-says-done code (run-spent x y) e = absurd (let z : _≡_ {A = ℕ} 0 1 = cc in omega arith)
-says-done code (run-stuck k x y) e = absurd (let z : _≡_ {A = ℕ} 0 1 = cc in omega arith)
-says-done code (run-denied k x y) e = absurd (let z : _≡_ {A = ℕ} 0 1 = cc in omega arith)
-says-done code (run-noroom k x y) e = absurd (let z : _≡_ {A = ℕ} 0 1 = cc in omega arith)
+says-done : (K : Steps) {m : Clean} {c : Call} {r : Ran} → Says K m c r → r .answer ≡ finished → isDone (r .machine) ≡ true
+says-done K (one-taken x) e = absurd (let z : _≡_ {A = ℕ} 0 1 = cc in omega arith)
+says-done K (one-done x) e = x
+says-done K (one-stuck x) e = absurd (let z : _≡_ {A = ℕ} 0 1 = cc in omega arith)
+says-done K (one-denied x) e = absurd (let z : _≡_ {A = ℕ} 0 1 = cc in omega arith)
+says-done K (one-noroom x) e = absurd (let z : _≡_ {A = ℕ} 0 1 = cc in omega arith)
+says-done K (run-done k x y) e = y
+says-done K (run-spent x y) e = absurd (let z : _≡_ {A = ℕ} 0 1 = cc in omega arith)
+says-done K (run-stuck k x y) e = absurd (let z : _≡_ {A = ℕ} 0 1 = cc in omega arith)
+says-done K (run-denied k x y) e = absurd (let z : _≡_ {A = ℕ} 0 1 = cc in omega arith)
+says-done K (run-noroom k x y) e = absurd (let z : _≡_ {A = ℕ} 0 1 = cc in omega arith)
 
-pub done-at-end : (h p : List ℕ) (n : ℕ) (m : Clean) (o : Ran) → o ≡ run (codeIn h p) n 0 m → o .answer ≡ finished → isDone (o .machine) ≡ true
-done-at-end h p n m o e f = rw e (says-done (codeIn h p) (run-says (codeIn h p) n m) (sym (ap (λ (r : Ran). r .answer) e) ∙ f))
+pub done-at-end : (h p : List ℕ) (n : ℕ) (m : Clean) (o : Ran) → o ≡ run (stepsOf (codeIn h p)) n 0 m → o .answer ≡ finished → isDone (o .machine) ≡ true
+done-at-end h p n m o e f = rw e (says-done (stepsOf (codeIn h p)) (run-says (stepsOf (codeIn h p)) (exact (codeIn h p)) n m) (sym (ap (λ (r : Ran). r .answer) e) ∙ f))
 
 -- the run of a job
-same-code : (J : Job) (e : ℕ) → nth (sourceOf J .cmds) e ≡ mapCmd (tree (J .types)) (exprOf J e)
-unfolding sourceOf
-same-code J e = nth-map (tree (J .types)) (J .cmds) e
-
-pub ran-line : (J : Job) (h p : List ℕ) (m : Clean) (o : Ran) → o ≡ run (codeIn h p) 100000 0 m → m ≡ startOf (sourceOf J) → ((e : ℕ) → codeIn h p e ≡ exprOf J e) → ranOf o ≡ runLine (sourceOf J)
+pub ran-line : (J : Job) (h p : List ℕ) (m : Clean) (o : Ran) → o ≡ run (stepsOf (codeIn h p)) most-steps 0 m → m ≡ startOf (sourceOf J) → ((e : ℕ) → codeIn h p e ≡ exprOf J e) → ranOf o ≡ runLine (sourceOf J)
 unfolding runLine
 ran-line J h p m o e f g =
     ap ranOf
-    (e ∙ ap (λ (z : ℕ → Cmd ℕ). run z 100000 0 m) (fun-ext g) ∙ ap (λ z. run (exprOf J) 100000 0 z) f
-    ∙ sym (run-same (tree (J .types)) (exprOf J) (nth (sourceOf J .cmds)) (same-code J) 100000 0 (startOf (sourceOf J))))
+    (e ∙ ap (λ (z : ℕ → Cmd ℕ). run (stepsOf z) most-steps 0 m) (fun-ext g) ∙ ap (λ z. run (stepsIn J) most-steps 0 z) f
+    ∙ ap (λ K. run K most-steps 0 (startOf (sourceOf J))) (sym (same-steps J)))
 
 refused-with : (b : Bool) (q : Refusal) (v : Verdict) (r : Refusal) → b ≡ false → refuse r ≡ cond b (refuse q) v → v ≡ refuse r
 refused-with b q v r e h = sym (rw e at h)
 
+-- the place of a refusal is a place in the input, or an expression's number
+refusal-place : (s : List ℕ) (q : Refusal) → length s ≤ most-bytes → verdictOf s ≡ refuse q → q .place ≤ most-bytes
+refusal-place s q h e = at (refusal-stands s q e)
+  where
+    at : {r : Refusal} → Stands s r → r .place ≤ most-bytes
+    at (by-reading r a b c) = omega arith
+    at (by-expression r J i a b c) = omega (arith, read-ok s J i .few-cmds)
+
 pub told-refused : (bytes : List ℕ) (r : Checked) (w x : Tables) (n p : ℕ) (text : List ℕ) → CheckTo bytes r w x → r .verdict ≡ verdicts.Refused n p
-    → (p ≤ 16384 → text ≡ refusedLine (record { number = n; place = p })) → length bytes ≤ 16384 → short w ≡ false → text ≡ deskOf bytes
+    → (p ≤ most-bytes → text ≡ refusedLine (record { number = n; place = p })) → length bytes ≤ most-bytes → short w ≡ false → text ≡ deskOf bytes
 unfolding verdictIn verdictWith deskOf reported
 told-refused bytes r w x n p text c v f h l =
-    let e : refuse (record { number = n; place = p }) ≡ verdictWith w bytes = sym (ap (verdictIn (x .types) (x .sets)) v) ∙ c .verdict in
+    let e : refuse (record { number = n; place = p }) ≡ verdictWith w bytes = sym (ap (verdictIn (x .job .types) (x .job .sets)) v) ∙ c .verdict in
     let d : verdictOf bytes ≡ refuse (record { number = n; place = p }) = refused-with (short w) _ (verdictOf bytes) _ l e in
     f (refusal-place bytes _ h d) ∙ sym (ap (λ z. reported z (reading bytes)) d)
 
@@ -178,16 +181,16 @@ unfolding deskOf reported runRead
 desk-accepted bytes J T s e f = rw (e, f)
 
 pub told-accepted : (bytes : List ℕ) (r : Checked) (w x : Tables) (i s : ℕ) (text : List ℕ) → CheckTo bytes r w x → r .verdict ≡ verdicts.Accepted i s
-    → ((J : Job) (sets : List ℕ) → Ready J (r .shape) (x .names) (x .types) (x .values) → ((e : ℕ) → codeIn (x .heads) (x .slots) e ≡ exprOf J e) → text ≡ acceptedLine (treeOf (x .types) sets i) s ++ runLine (sourceOf J))
+    → ((J : Job) (sets : List ℕ) → Ready J (r .shape) (x .job .names) (x .job .types) (x .job .values) → ((e : ℕ) → codeIn (x .job .heads) (x .job .slots) e ≡ exprOf J e) → text ≡ acceptedLine (treeOf (x .job .types) sets i) (ofWord s) ++ runLine (sourceOf J))
     → Bytes bytes → text ≡ deskOf bytes
 told-accepted bytes r w x i s text c v f by = go (accepting bytes by r w x i s c v)
   where
-    go : Accepting bytes (r .shape) (treeOf (x .types) (x .sets) i) s x → text ≡ deskOf bytes
-    go y = f (y .job) (x .sets) (y .ready) (y .code) ∙ sym (desk-accepted bytes (y .job) _ s (y .verdict) (y .is))
+    go : Accepting bytes (r .shape) (treeOf (x .job .types) (x .job .sets) i) (ofWord s) x → text ≡ deskOf bytes
+    go y = f (y .job) (x .job .sets) (y .ready) (y .code) ∙ sym (desk-accepted bytes (y .job) _ (ofWord s) (y .verdict) (y .is))
 
-pub whole : (l : List ℕ) → length l ≤ 16384 → deskOf l ≡ printed l
+pub whole : (l : List ℕ) → length l ≤ most-bytes → deskOf l ≡ printed l
 unfolding printed
-whole l h = ap deskOf (sym (take-all 16384 l h))
+whole l h = ap deskOf (sym (take-all most-bytes l h))
 
 pub accepted-ran : (T : Ty) (s : Effect) {text l k : List ℕ} → text ≡ acceptedLine T s ++ l → l ≡ k → text ≡ acceptedLine T s ++ k
 accepted-ran T s e f = e ∙ ap (λ z. acceptedLine T s ++ z) f
@@ -199,6 +202,6 @@ head-length n l h = sym (length-take-le n l (omega arith))
 pub head-small : (n : ℕ) (l : List ℕ) → n < length l → length (take n l) ≤ n
 head-small n l h = omega (arith, length-take-le n l (omega arith))
 
-pub printed-head : (l : List ℕ) → deskOf (take 16384 l) ≡ printed l
+pub printed-head : (l : List ℕ) → deskOf (take most-bytes l) ≡ printed l
 unfolding printed
 printed-head l = refl

@@ -7,12 +7,17 @@ use machine::Answer;
 use machine::Control;
 use machine::Outcome;
 use store::Kind;
+use table::MOST_EXPRESSIONS;
+use table::MOST_NAMES;
+use table::MOST_VARIABLES;
+use table::PLACES;
+use table::TYPE_ENTRIES;
 ghost use mathlib.Core.Path.{_≡_};
 ghost use mathlib.Core.Bool.{true};
 ghost use mathlib.Core.List.{List, _++_};
 ghost use Prim.Native.Nat.{ℕ, _<_, _≤_};
 ghost use lib.ListN.{length};
-ghost use Rattle.order.specs.Effects.{Effect};
+ghost use Rattle.order.specs.Effects.{Effect, ofWord};
 ghost use Rattle.syntax.specs.Types.{Ty, entryTree};
 ghost use Rattle.syntax.specs.Job.{Job, sourceOf};
 ghost use Rattle.syntax.specs.Words.{codeIn, entryBits};
@@ -22,10 +27,15 @@ ghost use Rattle.semantics.specs.Demand3.{exprOf};
 ghost use Rattle.store.specs.Meaning.{kindIn};
 ghost use Rattle.machine.specs.Meaning.{answerIn};
 ghost use Rattle.machine.specs.View.{seen, ranIn};
-ghost use Rattle.output.specs.Lines.{refusedLine, acceptedLine, ranLine, ranOf, runLine, deskOf, printed};
+ghost use Rattle.output.specs.Lines.{refusedLine, acceptedLine, ranLine, ranOf, runLine, deskOf, most-bytes, printed};
 ghost use Rattle.format.specs.Text.{textOf, typeSort, kindSort, kindNumber, acceptedAs};
 ghost use Rattle.checker.specs.Answer.{treeOf};
 ghost use Rattle.start.specs.Starts.{Ready};
+
+// So many bytes of the input are read, and so many steps are run.
+pub const MOST_BYTES: usize = 16384;
+
+pub const MOST_STEPS: u64 = 100000;
 
 // The kind of a type, by the command byte of its word.
 fn type_sort(byte: u64) -> Sort
@@ -69,7 +79,10 @@ fn kind_number(k: Kind, payload: u32) -> u32
 
 // The second line of a run that came to an end, after the first.
 fn finished(first: Text, o: Outcome) -> Text
-    ensures { λ r. ⌜ ((T : Ty) (s : Effect) → textOf first ≡ acceptedAs s (typeSort T) → isDone (seen (o .machine)) ≡ true → textOf r ≡ acceptedLine T s ++ ranLine spec.finished (o .taken) (seen (o .machine))) ⌝ }
+    ensures { λ r. ⌜
+        ((T : Ty) (s : Effect) → textOf first ≡ acceptedAs s (typeSort T) → isDone (seen (o .machine)) ≡ true
+        → textOf r ≡ acceptedLine T s ++ ranLine spec.finished (o .taken) (seen (o .machine)))
+        ⌝ }
 {
     let m = o.machine;
     let t = m.thread;
@@ -89,7 +102,10 @@ fn finished(first: Text, o: Outcome) -> Text
 
 // The second line, if there is one, after the first. An accepted job is never stuck or denied.
 fn ended(first: Text, o: Outcome) -> Text
-    ensures { λ r. ⌜ ((T : Ty) (s : Effect) → textOf first ≡ acceptedAs s (typeSort T) → (answerIn (o .answer) ≡ spec.finished → isDone (seen (o .machine)) ≡ true) → textOf r ≡ acceptedLine T s ++ ranOf (ranIn o)) ⌝ }
+    ensures { λ r. ⌜
+        ((T : Ty) (s : Effect) → textOf first ≡ acceptedAs s (typeSort T) → (answerIn (o .answer) ≡ spec.finished → isDone (seen (o .machine)) ≡ true)
+        → textOf r ≡ acceptedLine T s ++ ranOf (ranIn o))
+        ⌝ }
 {
     let a = o.answer;
     let n = o.taken;
@@ -114,21 +130,25 @@ fn accepted(
     heads: &[u64],
     slots: &[u16],
 ) -> Text
-    ensures { λ r. ⌜ ((J : Job) (sets : List ℕ) → Ready J g (now (names .entry)) (now (types .entry)) (now (values .entry)) → ((e : ℕ) → codeIn (now (heads .entry)) (now (slots .entry)) e ≡ exprOf J e) → textOf r ≡ acceptedLine (treeOf (now (types .entry)) sets i) s ++ runLine (sourceOf J)) ⌝ }
+    ensures { λ r. ⌜
+        ((J : Job) (sets : List ℕ) → Ready J g (now (names .entry)) (now (types .entry)) (now (values .entry))
+        → ((e : ℕ) → codeIn (now (heads .entry)) (now (slots .entry)) e ≡ exprOf J e)
+        → textOf r ≡ acceptedLine (treeOf (now (types .entry)) sets i) (ofWord s) ++ runLine (sourceOf J))
+        ⌝ }
 {
-    let w = names::at64(types, i as usize);
+    let w = table::at64(types, i as usize);
     let sort = type_sort(w % 256);
     let first = format::accepted(s, sort);
     let m = start::built(g, names, types, values);
-    let o = m.run(100000, heads, slots);
+    let o = m.run(MOST_STEPS, heads, slots);
     ended(first, o)
 }
 
 // The line of a refusal whose place is a place in the job or an expression's number.
 fn refused(n: u8, p: usize) -> Text
-    ensures { λ r. ⌜ (p ≤ 16384 → textOf r ≡ refusedLine (record { number = n; place = p })) ⌝ }
+    ensures { λ r. ⌜ (p ≤ most-bytes → textOf r ≡ refusedLine (record { number = n; place = p })) ⌝ }
 {
-    if p <= 16384 {
+    if p <= MOST_BYTES {
         return format::refused(n, p as u32);
     }
     format::refused(n, 0)
@@ -136,16 +156,16 @@ fn refused(n: u8, p: usize) -> Text
 
 // The lines for a job of at most 16,384 bytes.
 fn told(job: &[u8]) -> Text
-    ensures { λ r. ⌜ (length (now (job .entry)) ≤ 16384 → textOf r ≡ deskOf (now (job .entry))) ⌝ }
+    ensures { λ r. ⌜ (length (now (job .entry)) ≤ most-bytes → textOf r ≡ deskOf (now (job .entry))) ⌝ }
 {
-    let mut names = [0u16; 64];
-    let mut types = [0u64; 2304];
-    let mut sets = [0u64; 2304];
-    let mut values = [0u64; 64];
-    let mut heads = [0u64; 512];
-    let mut slots = [0u16; 2560];
-    let mut entries = [0u16; 512];
-    let mut effects = [0u64; 512];
+    let mut names = [0u16; MOST_NAMES];
+    let mut types = [0u64; TYPE_ENTRIES];
+    let mut sets = [0u64; TYPE_ENTRIES];
+    let mut values = [0u64; MOST_VARIABLES];
+    let mut heads = [0u64; MOST_EXPRESSIONS];
+    let mut slots = [0u16; PLACES];
+    let mut entries = [0u16; MOST_EXPRESSIONS];
+    let mut effects = [0u64; MOST_EXPRESSIONS];
     let c = checker::check(
         job,
         &mut names,
@@ -169,8 +189,8 @@ fn told(job: &[u8]) -> Text
 pub fn print(job: &[u8]) -> Text
     ensures { λ r. ⌜ textOf r ≡ printed (now (job .entry)) ⌝ }
 {
-    if 16384 < job.len() {
-        let head = &job[..16384];
+    if MOST_BYTES < job.len() {
+        let head = &job[..MOST_BYTES];
         return told(head);
     }
     told(job)

@@ -6,7 +6,7 @@ use mathlib.Core.Bool.{Bool, true, false, cond}
 use mathlib.Core.List.{List, [], _∷_, _++_}
 use mathlib.Core.Option.{Option, none, some}
 use lib.ListN.{length, getElem?}
-use Rattle.order.specs.Effects.{Effect}
+use Rattle.order.specs.Effects.{Effect, ofWord}
 use Rattle.syntax.specs.Types.{Ty, TypeEntry}
 use Rattle.syntax.specs.Commands.{Cmd}
 use Rattle.syntax.specs.Job.{Job, sourceOf}
@@ -14,9 +14,10 @@ use Rattle.syntax.specs.Reading.{Refusal, Read, refused, read, reading}
 use Rattle.syntax.specs.ReadLaws.{JobOk, read-ok}
 use Rattle.syntax.specs.Words.{codeIn, filled, nameWords, typeWords, valueWords, headWords, slotWords, typeWord, valueWord}
 use Rattle.syntax.specs.WordLaws.{Bytes, JobFits, job-fits, code-back, word-at}
+use Rattle.syntax.specs.Loading.{filledWith}
 use Rattle.typing.specs.Layout.{Points, new, old, Layout, point, pointsTo, layoutFrom, layoutOf}
 use Rattle.typing.specs.Verdict.{Verdict, accept, refuse, verdictOf}
-use Rattle.typing.specs.Tables.{Tables, short, layoutFor, filledBy, verdictWith, filledRead, keptOn, tablesAfter}
+use Rattle.typing.specs.Tables.{Tables, short, layoutFor, filledBy, verdictWith, keptOn, tablesAfter}
 use Rattle.semantics.specs.Calls.{Call}
 use Rattle.semantics.specs.Demand3.{exprOf, callsOf, Allowed, demand3}
 use Rattle.initial.specs.Held.{Holds}
@@ -49,7 +50,7 @@ unfolding layoutFor layoutOf
 layoutFor-keeps J i x e = layoutFrom-keeps _ _ (J .cmds) _ i x (some-left (J .types) _ i x e)
 
 layoutFor-holds : (J : Job) → JobFits J → (n t v : ℕ)
-    → Holds J (filled n 0 (nameWords J)) (length (J .names)) (filled t 0 (typeWords (layoutFor J .entries))) (filled v 0 (valueWords J)) (length (J .values)) (J .rights)
+    → Holds J (filled n 0 (nameWords J)) (length (J .names)) (filled t 0 (typeWords (layoutFor J .entries))) (filled v 0 (valueWords J)) (length (J .values)) (J .rights .set)
 layoutFor-holds J f n t v =
     let h = held.filled-holds J f n t v in
     record {
@@ -68,34 +69,34 @@ pub record Accepting (bytes : List ℕ) (g : Shape) (T : Ty) (e : Effect) (x : T
   pub is : reading bytes ≡ read job
   pub verdict : verdictOf bytes ≡ accept T e
   pub allowed : (cs : List Call) → Allowed job cs (callsOf job cs)
-  pub ready : Ready job g (x .names) (x .types) (x .values)
-  pub code : (i : ℕ) → codeIn (x .heads) (x .slots) i ≡ exprOf job i
+  pub ready : Ready job g (x .job .names) (x .job .types) (x .job .values)
+  pub code : (i : ℕ) → codeIn (x .job .heads) (x .job .slots) i ≡ exprOf job i
 
 pub if-accepted : (b : Bool) (q : Refusal) (v : Verdict) (T : Ty) (e : Effect) → accept T e ≡ cond b (refuse q) v → (b ≡ false) × (v ≡ accept T e)
 if-accepted true q v T e h = absurd (let z : _≡_ {A = ℕ} 0 1 = cc in omega arith)
 if-accepted false q v T e h = (refl, sym h)
 
 pub after-accept : (w : Tables) (bytes : List ℕ) (J : Job) {T : Ty} {e : Effect} → short w ≡ false → verdictOf bytes ≡ accept T e → reading bytes ≡ read J → tablesAfter w bytes ≡ filledBy J w
-unfolding tablesAfter keptOn filledRead
+unfolding tablesAfter keptOn
 after-accept w bytes J a b c = rw (a, b, c)
 
 shape-accept : (w : Tables) (bytes : List ℕ) (J : Job) {T : Ty} {e : Effect} → accept T e ≡ verdictWith w bytes → reading bytes ≡ read J → shapeFor (verdictWith w bytes) (reading bytes) ≡ shapeOf J
 unfolding shapeFor shapeRead
 shape-accept w bytes J a c = rw (sym a, c)
 
-ready-of : (J : Job) (g : Shape) (x w : Tables) → JobOk J → JobFits J → g ≡ shapeOf J → x ≡ filledBy J w → Ready J g (x .names) (x .types) (x .values)
-unfolding filledBy shapeOf
+ready-of : (J : Job) (g : Shape) (x w : Tables) → JobOk J → JobFits J → g ≡ shapeOf J → x ≡ filledBy J w → Ready J g (x .job .names) (x .job .types) (x .job .values)
+unfolding filledBy filledWith shapeOf
 ready-of J g x w o f a b = record { ok = o; shape = a; holds = rw (a, b) (layoutFor-holds J f _ _ _) }
 
-code-of : (J : Job) (x w : Tables) → JobOk J → JobFits J → x ≡ filledBy J w → (i : ℕ) → codeIn (x .heads) (x .slots) i ≡ exprOf J i
-unfolding filledBy
+code-of : (J : Job) (x w : Tables) → JobOk J → JobFits J → x ≡ filledBy J w → (i : ℕ) → codeIn (x .job .heads) (x .job .slots) i ≡ exprOf J i
+unfolding filledBy filledWith
 code-of J x w o f b i = rw b (code-back J o f _ _ i)
 
 pub accepting : (bytes : List ℕ) → Bytes bytes → (r : Checked) (w x : Tables) (i s : ℕ) → CheckTo bytes r w x → r .verdict ≡ verdicts.Accepted i s
-    → Accepting bytes (r .shape) (treeOf (x .types) (x .sets) i) s x
+    → Accepting bytes (r .shape) (treeOf (x .job .types) (x .job .sets) i) (ofWord s) x
 unfolding verdictIn verdictWith
 accepting bytes by r w x i s c v =
-    let a : accept (treeOf (x .types) (x .sets) i) s ≡ verdictWith w bytes = sym (ap (verdictIn (x .types) (x .sets)) v) ∙ c .verdict in
+    let a : accept (treeOf (x .job .types) (x .job .sets) i) (ofWord s) ≡ verdictWith w bytes = sym (ap (verdictIn (x .job .types) (x .job .sets)) v) ∙ c .verdict in
     let b = if-accepted (short w) _ (verdictOf bytes) _ _ a in
     let d = demand3 bytes (b .1) in
     let J = d .0 in

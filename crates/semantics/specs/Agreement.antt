@@ -4,39 +4,30 @@ use mathlib.Core.Path.{_≡_, refl, sym, _∙_, subst}
 use Prim.Native.Nat.{ℕ}
 use mathlib.Core.Bool.{Bool, true, false, cond, false≢true}
 use mathlib.Core.List.{List, [], _∷_, List·Memᴰ, List·Memᴰ·head, List·Memᴰ·tail}
-use mathlib.Core.Option.{none, some}
+use mathlib.Core.Option.{some}
 use mathlib.Core.Logic.{_≢_, _↔_, _⊎_, inl, inr}
 use lib.ListN.{length, getElem?}
 use Rattle.order.specs.Bools.{_and_}
 use Rattle.order.specs.Effects.{Effect, pure, names, touch, join, drop, raise}
-use Rattle.order.specs.EffectLaws.{name-mem, pure-name, touch-name, touch-old, touch-cases, join-left, join-right, join-cases}
-use Rattle.syntax.specs.Types.{Ty, num, pair, cell, fn, lim, grant}
+use Rattle.order.specs.EffectLaws.{name-not-zero, pure-name, touch-name, touch-old, touch-cases, join-left, join-right, join-cases}
+use Rattle.syntax.specs.Types.{Ty, fn, lim, grant, byType, onNum, onPair, onCell, onFn, onLim, onGrant}
 use Rattle.syntax.specs.Types
-use Rattle.syntax.specs.Commands.{Cmd, c-pair, c-part, c-app, c-new, c-asg, c-read, c-sum, c-test, c-lim, c-grant, c-newkey, c-assoc}
+use Rattle.syntax.specs.Commands.{Cmd, c-num, c-top, c-var, c-pair, c-part, c-fn, c-app, c-new, c-asg, c-read, c-sum, c-test, c-lim, c-grant, c-newkey, c-assoc}
+use Rattle.syntax.specs.Operands.{evaluated}
 use Rattle.syntax.specs.Job.{Src, upOf}
-use Rattle.syntax.specs.Tree.{Entry, e-var, e-name}
-use Rattle.typing.specs.Rules.{codeOf, keysType, Has, h-num, h-top, h-var, h-pair, h-part1, h-part2, h-fn, h-app, h-new, h-asg, h-read, h-sum, h-test, h-lim, h-grant, h-newkey, h-assoc, h-sub, HasKeys, k-nil, k-cons}
-use Rattle.semantics.specs.Step.{worked}
-use Rattle.semantics.specs.Wants.{Want, anything, a-number, a-pair, a-function, a-cell, a-limit, a-grant, Use, touches, alike, uses}
-
--- a choice for each kind of type: number, pair, function, cell, limit key, grant key
-unfoldable pub byType : Ty → Bool → Bool → Bool → Bool → Bool → Bool → Bool
-byType (num q) a b c d e f = a
-byType (pair q A B) a b c d e f = b
-byType (fn q A B s) a b c d e f = c
-byType (cell q A) a b c d e f = d
-byType (lim q r) a b c d e f = e
-byType (grant q r) a b c d e f = f
+use Rattle.syntax.specs.Tree.{Entry, e-var, e-name, keyPair}
+use Rattle.typing.specs.Rules.{codeOf, Has, h-num, h-top, h-var, h-pair, h-part1, h-part2, h-fn, h-app, h-new, h-asg, h-read, h-sum, h-test, h-lim, h-grant, h-newkey, h-assoc, h-sub, HasKeys, k-nil, k-cons}
+use Rattle.semantics.specs.Wants.{Want, anything, a-number, a-pair, a-function, a-cell, a-limit, a-grant, read, Use, touches, alike, wantsOf, holds, isTouched}
 
 -- a type is of the kind wanted
 unfoldable pub suitsType : Want → Ty → Bool
 suitsType anything T = true
-suitsType a-number T = byType T true false false false false false
-suitsType a-pair T = byType T false true false false false false
-suitsType a-function T = byType T false false true false false false
-suitsType a-cell T = byType T false false false true false false
-suitsType a-limit T = byType T false false false false true false
-suitsType a-grant T = byType T false false false false false true
+suitsType a-number T = onNum T (λ q. true) false
+suitsType a-pair T = onPair T (λ q A B. true) false
+suitsType a-function T = onFn T (λ q A B s. true) false
+suitsType a-cell T = onCell T (λ q A. true) false
+suitsType a-limit T = onLim T (λ q r. true) false
+suitsType a-grant T = onGrant T (λ q r. true) false
 
 -- each type suits its place, and there are as many
 unfoldable pub suitTypes : List Use → List Ty → Bool
@@ -49,7 +40,7 @@ suitTypes (u ∷ us) (A ∷ As) = suitsType (u .want) A and suitTypes us As
 unfoldable pub touchedNames : List Use → List Ty → List ℕ
 touchedNames [] As = []
 touchedNames (u ∷ us) [] = []
-touchedNames (u ∷ us) (A ∷ As) = cond (u .touched) (Types.keyOf A ∷ touchedNames us As) (touchedNames us As)
+touchedNames (u ∷ us) (A ∷ As) = cond (isTouched u) (Types.keyOf A ∷ touchedNames us As) (touchedNames us As)
 
 -- operands, each with a type and an effect that the rules give it
 pub data Operands (S : Src) (Γ : List Entry) : List ℕ → List Ty → List Effect → Type 0 where
@@ -58,8 +49,12 @@ pub data Operands (S : Src) (Γ : List Entry) : List ℕ → List Ty → List Ef
 
 -- what comes into the effect beside its operands: the effect of the function that is applied, and what bodies and branches bring by their rule
 pub data Brings (S : Src) (Γ : List Entry) : Cmd Ty → List Ty → Effect → Type 0 where
+  b-num : {n : ℕ} {As : List Ty} → Brings S Γ (c-num n) As pure
+  b-top : {As : List Ty} → Brings S Γ c-top As pure
+  b-var : {x : ℕ} {As : List Ty} → Brings S Γ (c-var x) As pure
   b-pair : {a b : ℕ} {As : List Ty} → Brings S Γ (c-pair a b) As pure
   b-part : {a : ℕ} {i : Bool} {As : List Ty} → Brings S Γ (c-part a i) As pure
+  b-fn : {x b : ℕ} {T : Ty} {As : List Ty} → Brings S Γ (c-fn x T b) As pure
   b-app : {f a q : ℕ} {T U : Ty} {l : Effect} {As : List Ty} → Brings S Γ (c-app f a) (fn q T U l ∷ As) l
   b-new : {a : ℕ} {T : Ty} {As : List Ty} → Brings S Γ (c-new T a) As pure
   b-asg : {a b : ℕ} {As : List Ty} → Brings S Γ (c-asg a b) As pure
@@ -69,7 +64,7 @@ pub data Brings (S : Src) (Γ : List Entry) : Cmd Ty → List Ty → Effect → 
   b-lim : {ks : List ℕ} {b : ℕ} {T : Ty} {t : Effect} {As : List Ty} → Has S Γ b T t → Brings S Γ (c-lim ks b) As t
   b-grant : {a b q r : ℕ} {T : Ty} {t : Effect} {As : List Ty} → Has S Γ b T t → Brings S Γ (c-grant a b) (grant q r ∷ As) (drop (upOf S) r t)
   b-newkey : {x r a b u : ℕ} {B T : Ty} {t : Effect} {As : List Ty}
-      → getElem? (upOf S) r ≡ some u → Has S (e-var x (keysType r) ∷ e-name r ∷ Γ) b B t → Brings S Γ (c-newkey x r a b T) As (raise r u t)
+      → getElem? (upOf S) r ≡ some u → Has S (e-var x (keyPair r) ∷ e-name r ∷ Γ) b B t → Brings S Γ (c-newkey x r a b T) As (raise r u t)
   b-assoc : {a b : ℕ} {As : List Ty} → Brings S Γ (c-assoc a b) As pure
 
 -- the name is in one of the effects
@@ -87,12 +82,10 @@ pub data From (n : ℕ) (ts : List ℕ) (ss : List Effect) (b : Effect) : Type 0
 pub record Names (s : Effect) (ts : List ℕ) (ss : List Effect) (b : Effect) : Type 0 where
   pub each : (n : ℕ) → List·Memᴰ n (names s) ↔ From n ts ss b
 
--- an expression's effect by its rule
+-- an expression's effect by its rule; what has no operand to evaluate touches nothing
 pub data Ruled (S : Src) (Γ : List Entry) (k : Cmd Ty) (s : Effect) : Type 0 where
-  -- it never acts, and has no effect
-  no-act : ((i : ℕ) → uses k i ≡ none) → s ≡ pure → Ruled S Γ k s
-  by-act : {us : List Use} {As : List Ty} {ss : List Effect} {b : Effect} → uses k (length As) ≡ some us → Operands S Γ (worked k) As ss → suitTypes us As ≡ true
-      → Brings S Γ k As b → Names s (touchedNames us As) ss b → Ruled S Γ k s
+  by-act : {As : List Ty} {ss : List Effect} {b : Effect} → Operands S Γ (evaluated k) As ss → suitTypes (wantsOf k (length As) .uses) As ≡ true
+      → Brings S Γ k As b → Names s (touchedNames (wantsOf k (length As) .uses) As) ss b → Ruled S Γ k s
 
 -- the last rule is subsumption
 unfoldable pub bySub : {S : Src} {Γ : List Entry} {e : ℕ} {T : Ty} {s : Effect} → Has S Γ e T s → Bool
@@ -121,7 +114,7 @@ touch-from : (q : ℕ) (s : Effect) {n : ℕ} → List·Memᴰ n (names (touch q
 touch-from q s {n} m = at (touch-cases q s m)
   where
     at : (n ≡ q) ⊎ List·Memᴰ n (names s) → ((n ≡ q) × (n ≢ 0)) ⊎ List·Memᴰ n (names s)
-    at (inl e) = inl (e, name-mem (touch q s) m .1)
+    at (inl e) = inl (e, name-not-zero (touch q s) m)
     at (inr i) = inr i
 
 touch-to : (q : ℕ) (s : Effect) {n : ℕ} → n ≡ q → n ≢ 0 → List·Memᴰ n (names (touch q s))
@@ -212,11 +205,11 @@ record Keyed (S : Src) (Γ : List Entry) (ks : List ℕ) (s : Effect) : Type 0 w
   types : List Ty
   effects : List Effect
   operands : Operands S Γ ks types effects
-  suit : suitTypes (alike (length types) (touches a-limit)) types ≡ true
-  exactly : Names s (touchedNames (alike (length types) (touches a-limit)) types) effects pure
+  suit : suitTypes (alike (length types) (touches read a-limit)) types ≡ true
+  exactly : Names s (touchedNames (alike (length types) (touches read a-limit)) types) effects pure
 
 keyed : {S : Src} {Γ : List Entry} {ks rs : List ℕ} {s : Effect} → HasKeys S Γ ks rs s → Keyed S Γ ks s
-unfolding suitTypes suitsType byType touchedNames alike _and_ Types.keyOf
+unfolding suitTypes suitsType byType onNum onPair onFn onCell onLim onGrant touchedNames isTouched holds alike _and_ Types.keyOf
 keyed k-nil = record { types = []; effects = []; operands = op-nil; suit = refl; exactly = nothing }
 keyed (k-cons {q = q} {r = r} {s = s} {t = t} h hs) =
     let z = keyed hs in
@@ -224,22 +217,22 @@ keyed (k-cons {q = q} {r = r} {s = s} {t = t} h hs) =
 
 -- the theorem
 pub touched-exactly : {S : Src} {Γ : List Entry} {e : ℕ} {T : Ty} {s : Effect} (h : Has S Γ e T s) → bySub h ≡ false → Ruled S Γ (codeOf S e) s
-unfolding bySub uses worked suitTypes suitsType byType touchedNames _and_ Types.keyOf
-touched-exactly (h-num c) z = rw c (no-act (λ i. refl) refl)
-touched-exactly (h-top c) z = rw c (no-act (λ i. refl) refl)
-touched-exactly (h-var c l) z = rw c (no-act (λ i. refl) refl)
-touched-exactly (h-pair {s = s} {t = t} c h i) z = rw c (by-act refl (op-cons h (op-cons i op-nil)) refl b-pair (joining s t (alone t)))
-touched-exactly (h-part1 {q = q} {s = s} c h) z = rw c (by-act refl (op-cons h op-nil) refl b-part (touching q (alone s)))
-touched-exactly (h-part2 {q = q} {s = s} c h) z = rw c (by-act refl (op-cons h op-nil) refl b-part (touching q (alone s)))
-touched-exactly (h-fn c w h) z = rw c (no-act (λ i. refl) refl)
-touched-exactly (h-app {q = q} {l = l} {s = s} {t = t} c h i p) z = rw c (by-act refl (op-cons h (op-cons i op-nil)) refl b-app (touching q (bringing l (join s t) (joining s t (alone t)))))
-touched-exactly (h-new {s = s} c w h p) z = rw c (by-act refl (op-cons h op-nil) refl b-new (alone s))
-touched-exactly (h-asg {q = q} {s = s} {t = t} c h i p) z = rw c (by-act refl (op-cons h (op-cons i op-nil)) refl b-asg (touching q (joining s t (alone t))))
-touched-exactly (h-read {q = q} {s = s} c h) z = rw c (by-act refl (op-cons h op-nil) refl b-read (touching q (alone s)))
-touched-exactly (h-sum {p = p} {q = q} {s = s} {t = t} c h i) z = rw c (by-act refl (op-cons h (op-cons i op-nil)) refl b-sum (touching p (touching q (joining s t (alone t)))))
-touched-exactly (h-test {q = q} {s = s} {t = t} {u = u} c w h i j p r) z = rw c (by-act refl (op-cons h op-nil) refl (b-test i j) (touching q (and-body s (join t u) (alone s))))
-touched-exactly (h-lim {s = s} {t = t} c h i p) z = let k = keyed h in rw c (by-act refl (k .operands) (k .suit) (b-lim i) (and-body s t (k .exactly)))
-touched-exactly (h-grant {q = q} {r = r} {s = s} {t = t} c h i) z = rw c (by-act refl (op-cons h op-nil) refl (b-grant i) (touching q (and-body s _ (alone s))))
-touched-exactly (h-newkey {q = q} {s = s} c w h u v f i p) z = rw c (by-act refl (op-cons h op-nil) refl (b-newkey u i) (touching q (and-body s _ (alone s))))
-touched-exactly (h-assoc {q = q} {A = A} {s = s} {t = t} c h i) z = rw c (by-act refl (op-cons h (op-cons i op-nil)) refl b-assoc (touching (Types.keyOf A) (touching q (joining s t (alone t)))))
+unfolding bySub wantsOf evaluated suitTypes suitsType byType onNum onPair onFn onCell onLim onGrant touchedNames isTouched holds _and_ Types.keyOf
+touched-exactly (h-num c) z = rw c (by-act op-nil refl b-num nothing)
+touched-exactly (h-top c) z = rw c (by-act op-nil refl b-top nothing)
+touched-exactly (h-var c l) z = rw c (by-act op-nil refl b-var nothing)
+touched-exactly (h-pair {s = s} {t = t} c h i) z = rw c (by-act (op-cons h (op-cons i op-nil)) refl b-pair (joining s t (alone t)))
+touched-exactly (h-part1 {q = q} {s = s} c h) z = rw c (by-act (op-cons h op-nil) refl b-part (touching q (alone s)))
+touched-exactly (h-part2 {q = q} {s = s} c h) z = rw c (by-act (op-cons h op-nil) refl b-part (touching q (alone s)))
+touched-exactly (h-fn c w h) z = rw c (by-act op-nil refl b-fn nothing)
+touched-exactly (h-app {q = q} {l = l} {s = s} {t = t} c h i p) z = rw c (by-act (op-cons h (op-cons i op-nil)) refl b-app (touching q (bringing l (join s t) (joining s t (alone t)))))
+touched-exactly (h-new {s = s} c w h p) z = rw c (by-act (op-cons h op-nil) refl b-new (alone s))
+touched-exactly (h-asg {q = q} {s = s} {t = t} c h i p) z = rw c (by-act (op-cons h (op-cons i op-nil)) refl b-asg (touching q (joining s t (alone t))))
+touched-exactly (h-read {q = q} {s = s} c h) z = rw c (by-act (op-cons h op-nil) refl b-read (touching q (alone s)))
+touched-exactly (h-sum {p = p} {q = q} {s = s} {t = t} c h i) z = rw c (by-act (op-cons h (op-cons i op-nil)) refl b-sum (touching p (touching q (joining s t (alone t)))))
+touched-exactly (h-test {q = q} {s = s} {t = t} {u = u} c w h i j p r) z = rw c (by-act (op-cons h op-nil) refl (b-test i j) (touching q (and-body s (join t u) (alone s))))
+touched-exactly (h-lim {s = s} {t = t} c h i p) z = let k = keyed h in rw c (by-act (k .operands) (k .suit) (b-lim i) (and-body s t (k .exactly)))
+touched-exactly (h-grant {q = q} {r = r} {s = s} {t = t} c h i) z = rw c (by-act (op-cons h op-nil) refl (b-grant i) (touching q (and-body s _ (alone s))))
+touched-exactly (h-newkey {q = q} {s = s} c w h u v f i p) z = rw c (by-act (op-cons h op-nil) refl (b-newkey u i) (touching q (and-body s _ (alone s))))
+touched-exactly (h-assoc {q = q} {A = A} {s = s} {t = t} c h i) z = rw c (by-act (op-cons h (op-cons i op-nil)) refl b-assoc (touching (Types.keyOf A) (touching q (joining s t (alone t)))))
 touched-exactly (h-sub h p w q x) z = absurd (false≢true (sym z))

@@ -16,8 +16,10 @@ use Rattle.typing.specs.Demand2.{accepts-typed}
 use Rattle.typing.specs.Rules.{codeOf}
 use Rattle.semantics.specs.Machine.{Machine}
 use Rattle.semantics.specs.Start.{startOf}
-use Rattle.semantics.specs.Calls.{Call, Ran, calls, AllGive, all-cons}
-use Rattle.semantics.specs.TypeFree.{calls-same, all-same}
+use Rattle.semantics.specs.Calls.{Steps, stepsOf, Call, Ran, calls, AllGive, all-cons}
+use Rattle.semantics.specs.TypeFree.{steps-same}
+use Rattle.semantics.specs.StepExactly.{exact}
+use Rattle.semantics.specs.CallLaws.{steps}
 use Rattle.semantics.specs.Only.{all-one}
 use Rattle.semantics.specs.Safety.{Fine, fine, safety}
 
@@ -25,17 +27,25 @@ use Rattle.semantics.specs.Safety.{Fine, fine, safety}
 abbrev pub exprOf : Job → ℕ → Cmd ℕ
 exprOf J = nth (J .cmds)
 
+-- its steps
+abbrev pub stepsIn : Job → Steps
+stepsIn J = stepsOf (exprOf J)
+
 -- the results of a list of calls on the machine that starting the job gives
 abbrev pub callsOf : Job → List Call → List Ran
-callsOf J cs = calls (exprOf J) cs (startOf (sourceOf J))
+callsOf J cs = calls (stepsIn J) cs (startOf (sourceOf J))
 
 -- what they may be
 abbrev pub Allowed : Job → List Call → List Ran → Type 0
-Allowed J cs l = AllGive (exprOf J) cs (startOf (sourceOf J)) l
+Allowed J cs l = AllGive (stepsIn J) cs (startOf (sourceOf J)) l
 
-same-code : (J : Job) (e : ℕ) → codeOf (sourceOf J) e ≡ mapCmd (tree (J .types)) (exprOf J e)
+-- the rules see the same expressions with trees for types
+pub same-steps : (J : Job) → steps (sourceOf J) ≡ stepsIn J
 unfolding sourceOf
-same-code J e = nth-map (tree (J .types)) (J .cmds) e
+same-steps J = steps-same (tree (J .types)) (exprOf J) (codeOf (sourceOf J)) same
+  where
+    same : (e : ℕ) → codeOf (sourceOf J) e ≡ mapCmd (tree (J .types)) (exprOf J e)
+    same e = nth-map (tree (J .types)) (J .cmds) e
 
 -- no hypothesis but acceptance
 pub demand3 : (s : List ℕ) {T : Ty} {e : Effect} → verdictOf s ≡ accept T e → (J : Job) × (reading s ≡ read J) × ((cs : List Call) → Allowed J cs (callsOf J cs))
@@ -43,20 +53,18 @@ demand3 s h =
     let z = accepts-typed s h in
     (z .0, z .1, λ cs. from (z .0) cs (safety (sourceOf (z .0)) (read-well s (z .0) (z .1)) (z .2 .has) (z .2 .within) cs))
   where
-    from : (J : Job) (cs : List Call) → AllGive (codeOf (sourceOf J)) cs (startOf (sourceOf J)) (calls (codeOf (sourceOf J)) cs (startOf (sourceOf J))) → Allowed J cs (callsOf J cs)
-    from J cs g =
-        subst (λ l. Allowed J cs l) (calls-same (tree (J .types)) (exprOf J) (codeOf (sourceOf J)) (same-code J) cs (startOf (sourceOf J)))
-        (all-same (tree (J .types)) (exprOf J) (codeOf (sourceOf J)) (same-code J) g)
+    from : (J : Job) (cs : List Call) → AllGive (steps (sourceOf J)) cs (startOf (sourceOf J)) (calls (steps (sourceOf J)) cs (startOf (sourceOf J))) → Allowed J cs (callsOf J cs)
+    from J cs g = subst (λ K. AllGive K cs (startOf (sourceOf J)) (calls K cs (startOf (sourceOf J)))) (same-steps J) g
 
 -- and nothing else is allowed: what a list of calls may give is what it gives
 pub demand3-one : (J : Job) (cs : List Call) (l : List Ran) → Allowed J cs l → Allowed J cs (callsOf J cs) → callsOf J cs ≡ l
-demand3-one J cs l g h = all-one (exprOf J) h g
+demand3-one J cs l g h = all-one (exact (exprOf J)) h g
 
 -- in plain words: each answer is taken, finished, spent or no room; none is stuck or denied
-all-fine : {T : Type 0} (code : ℕ → Cmd T) {cs : List Call} {m : Machine} {l : List Ran} → AllGive code cs m l → (r : Ran) → List·Memᴰ r l → Fine (r .answer)
-all-fine code (all-cons g h) r (List·Memᴰ·head e) = subst (λ q. Fine (q .answer)) (sym e) (fine code g)
-all-fine code (all-cons g h) r (List·Memᴰ·tail i) = all-fine code h r i
+all-fine : {K : Steps} {cs : List Call} {m : Machine} {l : List Ran} → AllGive K cs m l → (r : Ran) → List·Memᴰ r l → Fine (r .answer)
+all-fine (all-cons g h) r (List·Memᴰ·head e) = subst (λ q. Fine (q .answer)) (sym e) (fine g)
+all-fine (all-cons g h) r (List·Memᴰ·tail i) = all-fine h r i
 
 pub demand3-answers : (s : List ℕ) {T : Ty} {e : Effect} → verdictOf s ≡ accept T e
     → (J : Job) × (reading s ≡ read J) × ((cs : List Call) (r : Ran) → List·Memᴰ r (callsOf J cs) → Fine (r .answer))
-demand3-answers s h = let z = demand3 s h in (z .0, z .1, λ cs. all-fine (exprOf (z .0)) (z .2 cs))
+demand3-answers s h = let z = demand3 s h in (z .0, z .1, λ cs. all-fine (z .2 cs))

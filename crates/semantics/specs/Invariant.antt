@@ -13,10 +13,10 @@ use Rattle.order.specs.Effects.{Effect, names}
 use Rattle.syntax.specs.Types.{Ty, num, lim}
 use Rattle.syntax.specs.Commands.{Cmd, c-pair, c-part, c-app, c-new, c-asg, c-read, c-sum, c-test, c-lim, c-grant, c-newkey, c-assoc}
 use Rattle.syntax.specs.Job.{Src, upOf}
-use Rattle.syntax.specs.Tree.{Entry, e-var, e-name}
+use Rattle.syntax.specs.Tree.{Entry, e-var, e-name, keyPair}
 use Rattle.typing.specs.Subtype.{Sub}
-use Rattle.typing.specs.Rules.{Has, HasKeys, Fresh, codeOf, keysType}
-use Rattle.typing.specs.Scoped.{Free}
+use Rattle.typing.specs.Rules.{Has, HasKeys, Fresh, codeOf}
+use Rattle.typing.specs.FreeNames.{Free}
 use Rattle.semantics.specs.Machine.{Kind, k-num, k-pair, k-fn, k-cell, k-lim, k-grant, Value, Two, Bind, b-var, b-name, Link, Closure, Frame, Control, enter, hand, Store, Machine, most-bindings}
 use Rattle.semantics.specs.RuntimeTypes.{RTy, rnum, rpair, rcell, rfn, rlim, rgrant, RSub, rkey, rrekey, inst}
 use Rattle.semantics.specs.Chains.{look, Chain}
@@ -25,10 +25,9 @@ pub record TwoTy : Type 0 where
   pub one : RTy
   pub two : RTy
 
-pub record FnTy : Type 0 where
-  pub from : RTy
-  pub to : RTy
-  pub eff : List ℕ
+-- argument, result, and the keys of the effect
+pub data FnTy : Type 0 where
+  fty : RTy → RTy → List ℕ → FnTy
 
 -- the type of each pair, function and cell by number; the upper key of each key; the bindings
 pub record World : Type 0 where
@@ -52,7 +51,7 @@ pub data Typ (W : World) : ℕ → Kind → RTy → Type 0 where
   t-num : {k n : ℕ} → Typ W k (k-num n) (rnum k)
   t-pair : {k p : ℕ} {t : TwoTy} → getElem? (W .pt) p ≡ some t → Typ W k (k-pair p) (rpair k (t .one) (t .two))
   t-cell : {k c : ℕ} {A : RTy} → getElem? (W .ct) c ≡ some A → Typ W k (k-cell c) (rcell k A)
-  t-fn : {k f : ℕ} {t : FnTy} → getElem? (W .ft) f ≡ some t → Typ W k (k-fn f) (rfn k (t .from) (t .to) (t .eff))
+  t-fn : {k f : ℕ} {A B : RTy} {L : List ℕ} → getElem? (W .ft) f ≡ some (fty A B L) → Typ W k (k-fn f) (rfn k A B L)
   t-lim : {k j : ℕ} → 0 < j → Typ W k (k-lim j) (rlim k j)
   t-grant : {k j : ℕ} → 0 < j → Typ W k (k-grant j) (rgrant k j)
 
@@ -140,7 +139,7 @@ pub data FrameOk (S : Src) (W : World) : Cmd Ty → List Value → ℕ → ℕ �
       → Env S W e E Γ → Has S Γ b T t → On (W .keys) (members on) q → ((n : ℕ) → List·Memᴰ n (names t) → On (W .keys) (members on) (look E n) ⊎ Below (W .keys) (look E n) j)
       → FrameOk S W (c-grant a b) [] e on (rgrant q j) (inst (look E) T)
   fo-newkey : {e on x r a b q u : ℕ} {E : List Bind} {Γ : List Entry} {B T : Ty} {t : Effect}
-      → Env S W e E Γ → getElem? (upOf S) r ≡ some u → Fresh (upOf S) Γ r → Has S (e-var x (keysType r) ∷ e-name r ∷ Γ) b B t → Sub (upOf S) B T → Free r T → On (W .keys) (members on) q
+      → Env S W e E Γ → getElem? (upOf S) r ≡ some u → Fresh (upOf S) Γ r → Has S (e-var x (keyPair r) ∷ e-name r ∷ Γ) b B t → Sub (upOf S) B T → Free r T → On (W .keys) (members on) q
       → ((n : ℕ) → List·Memᴰ n (names t) → n ≢ r → On (W .keys) (members on) (look E n)) → (List·Memᴰ r (names t) → On (W .keys) (members on) (look E u))
       → FrameOk S W (c-newkey x r a b T) [] e on (rlim q (look E u)) (inst (look E) T)
   fo-assoc1 : {e on a b q r : ℕ} {E : List Bind} {Γ : List Entry} {A : RTy} {t : Effect}
@@ -172,19 +171,9 @@ pub record CellOk (W : World) (cs : List Value) (i : ℕ) (t : RTy) : Type 0 whe
   pub found : getElem? cs i ≡ some at
   pub fits : Fits W at t
 
-pub record FnOk (S : Src) (W : World) (fs : List Closure) (i : ℕ) (t : FnTy) : Type 0 where
-  pub at : Closure
-  pub found : getElem? fs i ≡ some at
-  pub binds : List Bind
-  pub ctx : List Entry
-  pub arg : Ty
-  pub res : Ty
-  pub used : Effect
-  pub env : Env S W (at .env) binds ctx
-  pub body : Has S (e-var (at .var) arg ∷ ctx) (at .body) res used
-  pub from : t .from ≡ inst (look binds) arg
-  pub to : t .to ≡ inst (look binds) res
-  pub eff : t .eff ≡ map (look binds) (names used)
+pub data FnOk (S : Src) (W : World) (fs : List Closure) (i : ℕ) : FnTy → Type 0 where
+  f-fn : {x : Closure} {E : List Bind} {Γ : List Entry} {A B : Ty} {s : Effect} → getElem? fs i ≡ some x → Env S W (x .env) E Γ → Has S (e-var (x .var) A ∷ Γ) (x .body) B s
+      → FnOk S W fs i (fty (inst (look E) A) (inst (look E) B) (map (look E) (names s)))
 
 pub record StoreOk (S : Src) (W : World) (cells : List Value) (pairs : List Two) (fns : List Closure) : Type 0 where
   pub plen : length pairs ≡ length (W .pt)

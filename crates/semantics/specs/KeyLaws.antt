@@ -1,6 +1,6 @@
 -- What is enabled, exactly: no less than document 01's machine enables, and no more. Safety alone would not notice a machine that enables too much.
 use mathlib.Core.Path.{_≡_, refl, sym, ap, _∙_, subst}
-use Prim.Native.Nat.{ℕ, suc, _^_, _<_}
+use Prim.Native.Nat.{ℕ, zero, suc, _^_, _<_}
 use native.Mathlib.Omega.{arith}
 use mathlib.Core.Bool.{Bool, true, false, false≢true}
 use mathlib.Core.List.{List, [], _∷_, _++_, map, List·Memᴰ, List·Memᴰ·head, List·Memᴰ·tail, Memᴰ·map, Memᴰ·of-map}
@@ -13,20 +13,20 @@ use borrow.Author.Tests.{eq-eqb, eqb-true, eqb-false, lt-ltb}
 use Rattle.order.specs.Bools.{_and_, _or_, and-l, and-r, and3, or-cases}
 use Rattle.order.specs.Order.{Below, here, below}
 use Rattle.order.specs.OrderLaws.{Proper, below-trans, below-zero, below→, →below}
-use Rattle.order.specs.Sets.{bit, members, setOf, keep, some-of}
+use Rattle.order.specs.Sets.{bit, consIf, members, setOf, keep, some-of}
 use Rattle.order.specs.SetLaws.{or→, →or-l, →or-r, bit-or, bit-pow, bit-zero, mem-bit, bit-mem, keep-mem, mem-keep, some-of→, →some-of, mem-setOf, setOf-mem}
-use Rattle.order.specs.Effects.{names}
+use Rattle.order.specs.Effects.{pure, names}
 use Rattle.order.specs.EffectLaws.{eff-pure}
 use Rattle.syntax.specs.Commands.{Cmd, c-num, c-app, c-asg, c-test, c-lim, c-grant}
-use Rattle.syntax.specs.Operands.{nth}
+use Rattle.syntax.specs.Operands.{nth, evaluated}
 use Rattle.syntax.specs.Job.{Src}
-use Rattle.syntax.specs.Tree.{root, past}
+use Rattle.syntax.specs.Tree.{root, predecessor}
 use Rattle.syntax.specs.WellRead.{WellRead}
 use Rattle.typing.specs.Rules.{h-num}
 use Rattle.semantics.specs.Machine.{k-num, k-fn, k-cell, k-lim, k-grant, Value, b-var, Closure, Frame, enter, hand, Machine, most-bindings}
 use Rattle.semantics.specs.Keys.{enabled, upto, narrow, add}
 use Rattle.semantics.specs.Step
-use Rattle.semantics.specs.Step.{Out, o-step, does, free, Plan, room, settle, handing, entering, withCells, withBindings, withFrames, asNum, asFn, asCell, asLim, asGrant, found, one, two, branch, actApp, actAsg, actTest, limitKeys, keysOf, touchAll, actLim, actGrant, worked, act, enterLim, enterCmd, resume, receive, handTo, planOn, plan, step}
+use Rattle.semantics.specs.Step.{Out, o-step, Plan, room, settle, handing, entering, withCells, withBindings, withFrames, asNum, asFn, asCell, asLim, asGrant, found, one, two, branch, actApp, actAsg, actTest, limitKeys, keysOf, touchAll, actLim, actGrant, act, enterAt, enterCmd, resume, receive, handTo, planOn, plan, step}
 use Rattle.semantics.specs.Start.{named, keyNamed, startOf}
 use Rattle.semantics.specs.Enabled.{mem-upto}
 use Rattle.semantics.specs.Begin.{start-ok}
@@ -102,6 +102,19 @@ limit-exactly {up} ok on own k h = (λ e. to (enabled-from up (narrow up on own)
             let t : test k ≡ true = and3 (ltb 0 k) (enabled up on k) (some-of (λ a. below up k a) own) (lt-ltb 0 k (omega arith)) e (→some-of (λ a. below up k a) (w .1) (→below ok (w .2))) in
             some-enabled ok _ k (k, setOf-mem (mem-keep test (mem-upto (length up) k h) t), here)
 
+-- a limit with no keys leaves none
+pub narrow-none : (up : List ℕ) (on : ℕ) → narrow up on [] ≡ 0
+unfolding narrow upto keep consIf setOf some-of _and_
+narrow-none up on = ap setOf (all (length up))
+  where
+    at : (b : Bool) → (b and false) ≡ false
+    at true = refl
+    at false = refl
+
+    all : (n : ℕ) → keep (λ k. ltb 0 k and enabled up on k and false) (upto n) ≡ []
+    all zero = refl
+    all (suc n) = rw (at (ltb 0 n and enabled up on n)) (all n)
+
 -- after a grant: what was enabled, and what is below the granted key
 pub grant-exactly : {up : List ℕ} → Proper up → (j on k : ℕ) → j < length up → (enabled up (add up j on) k ≡ true) ↔ ((enabled up on k ≡ true) ⊎ Below up k j)
 unfolding add
@@ -140,10 +153,10 @@ nothing-exactly up k = (λ e. to (enabled-from up 0 k e), zero-enabled up 0 k)
 
 -- at the start: what is below the key of a right. The tree of keys depends on the names alone, so that its form is that of a job with the same names that does nothing
 idle : Src → Src
-idle S = record { names = S .names; values = S .values; rights = 0; cmds = c-num 0 ∷ [] }
+idle S = record { names = S .names; values = S .values; rights = pure; cmds = c-num 0 ∷ [] }
 
 pub start-proper : (S : Src) → WellRead S → Proper (named S .keys)
-unfolding idle startOf named nth root past
+unfolding idle startOf named nth root predecessor
 start-proper S wr = start-ok (idle S) quiet (h-num {n = 0} last) eff-pure .keys .proper
   where
     quiet : WellRead (idle S)
@@ -195,7 +208,7 @@ module _ {T : Type 0} (code : ℕ → Cmd T) where
     pub control : m .thread .control ≡ hand last
     pub frames : m .thread .frames ≡ (f ∷ fs)
     pub command : code (f .at) ≡ k
-    pub whole : getElem? (worked k) (suc (length (f .hand))) ≡ none
+    pub whole : getElem? (evaluated k) (suc (length (f .hand))) ≡ none
     pub values : (f .hand ++ (last ∷ [])) ≡ vs
 
   -- "brings back its own bindings and enabled keys and .., all in hand, is popped and acts"
@@ -205,44 +218,44 @@ module _ {T : Type 0} (code : ℕ → Cmd T) where
 
   -- "3C with no keys pushes none and enters its body with no key enabled"
   pub limit-none : (m : Machine) {e b : ℕ} → m .thread .control ≡ enter e → code e ≡ c-lim [] b → step code m ≡ o-step (entering b (m .thread .env) 0 m)
-  unfolding step plan planOn enterCmd enterLim settle touchAll Step.touch free does room
-  limit-none m h c = rw (h, c)
+  unfolding step plan planOn enterCmd enterAt evaluated act actLim limitKeys keysOf settle touchAll Step.touch room
+  limit-none m h c = rw (h, c, narrow-none (m .store .keys) (m .thread .on))
 
-  -- 3C: the body is entered with exactly what the limit leaves of the frame's own enabled keys
+  -- 0x3C: the body is entered with exactly what the limit leaves of the frame's own enabled keys
   pub limit-body : {m : Machine} {b : ℕ} {ks js : List ℕ} {vs : List Value} {f : Frame} {fs : List Frame} → Acting m (c-lim ks b) vs f fs → Stand vs js
       → ((v : Value) → List·Memᴰ v vs → enabled (m .store .keys) (f .on) (v .key) ≡ true)
       → step code m ≡ o-step (entering b (f .env) (narrow (m .store .keys) (f .on) js) (withFrames m fs))
-  unfolding act actLim settle free does room
+  unfolding act actLim settle room
   limit-body {m} {vs = vs} {f = f} {fs = fs} a s h = acting a ∙ ap settle (stand-keys s _) ∙ touch-all (resume f fs m) vs _ h
 
-  -- 3D: with exactly what the frame had and the granted key
+  -- 0x3D: with exactly what the frame had and the granted key
   pub grant-body : {m : Machine} {a b j : ℕ} {v : Value} {f : Frame} {fs : List Frame} → Acting m (c-grant a b) (v ∷ []) f fs → v .kind ≡ k-grant j
       → enabled (m .store .keys) (f .on) (v .key) ≡ true
       → step code m ≡ o-step (entering b (f .env) (add (m .store .keys) j (f .on)) (withFrames m fs))
-  unfolding act one actGrant asGrant found settle touchAll Step.touch free does room
+  unfolding act one actGrant asGrant found settle touchAll Step.touch room
   grant-body a e h = acting a ∙ rw (e, h)
 
-  -- 36: "a call uses the caller's enabled keys", the frame's own, and not those where the function was made
+  -- 0x36: "a call uses the caller's enabled keys", the frame's own, and not those where the function was made
   pub call-body : {m : Machine} {a b i : ℕ} {v w : Value} {c : Closure} {f : Frame} {fs : List Frame} → Acting m (c-app a b) (v ∷ w ∷ []) f fs → v .kind ≡ k-fn i
       → enabled (m .store .keys) (f .on) (v .key) ≡ true → getElem? (m .store .functions) i ≡ some c → length (m .store .bindings) < most-bindings
       → step code m ≡ o-step (entering (c .body) (suc (length (m .store .bindings))) (f .on) (withBindings (withFrames m fs) (m .store .bindings ++ (record { bind = b-var (c .var) w; next = c .env } ∷ []))))
-  unfolding act two actApp asFn found settle touchAll Step.touch free does room
+  unfolding act two actApp asFn found settle touchAll Step.touch room
   call-body {m} a e h g r = acting a ∙ rw (e, g, h, lt-ltb (length (m .store .bindings)) most-bindings r)
 
-  -- 38 "hands on the assigned value"
+  -- 0x38 "hands on the assigned value"
   pub assign-hands : {m : Machine} {a b c : ℕ} {v w old : Value} {f : Frame} {fs : List Frame} → Acting m (c-asg a b) (v ∷ w ∷ []) f fs → v .kind ≡ k-cell c
       → enabled (m .store .keys) (f .on) (v .key) ≡ true → getElem? (m .store .cells) c ≡ some old
       → step code m ≡ o-step (handing w (withCells (resume f fs m) (set (m .store .cells) c w)))
-  unfolding act two actAsg asCell found settle touchAll Step.touch free does room
+  unfolding act two actAsg asCell found settle touchAll Step.touch room
   assign-hands a e h g = acting a ∙ rw (e, g, h)
 
-  -- 3B: the second operand for a number above 0, the third for 0, each with the frame's own enabled keys
+  -- 0x3B: the second operand for a number above 0, the third for 0, each with the frame's own enabled keys
   pub test-above : {m : Machine} {a b c n : ℕ} {t : T} {v : Value} {f : Frame} {fs : List Frame} → Acting m (c-test a b c t) (v ∷ []) f fs → v .kind ≡ k-num (suc n)
       → enabled (m .store .keys) (f .on) (v .key) ≡ true → step code m ≡ o-step (entering b (f .env) (f .on) (withFrames m fs))
-  unfolding act one actTest asNum found branch settle touchAll Step.touch free does room
+  unfolding act one actTest asNum found branch settle touchAll Step.touch room
   test-above a e h = acting a ∙ rw (e, h)
 
   pub test-zero : {m : Machine} {a b c : ℕ} {t : T} {v : Value} {f : Frame} {fs : List Frame} → Acting m (c-test a b c t) (v ∷ []) f fs → v .kind ≡ k-num 0
       → enabled (m .store .keys) (f .on) (v .key) ≡ true → step code m ≡ o-step (entering c (f .env) (f .on) (withFrames m fs))
-  unfolding act one actTest asNum found branch settle touchAll Step.touch free does room
+  unfolding act one actTest asNum found branch settle touchAll Step.touch room
   test-zero a e h = acting a ∙ rw (e, h)

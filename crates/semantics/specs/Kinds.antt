@@ -5,17 +5,18 @@ use Prim.Native.Nat.{ℕ}
 use native.Mathlib.Omega.{arith}
 use mathlib.Core.Bool.{Bool, true, false, false≢true}
 use mathlib.Core.List.{List, [], _∷_, map}
+use mathlib.Core.Option.{Option, none, some}
 use mathlib.Core.Logic.{_≢_}
 use lib.ListN.{length, getElem?}
-use Rattle.order.specs.Bools.{_and_, and-l, and-r}
+use Rattle.order.specs.Bools.{and-l, and-r}
 use Rattle.order.specs.Effects.{Effect}
-use Rattle.syntax.specs.Types.{Ty, num, pair, cell, fn, lim, grant}
+use Rattle.syntax.specs.Types.{Ty, num, pair, cell, fn, lim, grant, byType, onCell, onFn, onGrant, onLim, onNum, onPair}
 use Rattle.syntax.specs.Commands.{Cmd, c-num, c-top, c-var, c-pair, c-part, c-fn, c-app, c-new, c-asg, c-read, c-sum, c-test, c-lim, c-grant, c-newkey, c-assoc}
+use Rattle.syntax.specs.Operands.{evaluated}
 use Rattle.syntax.specs.Job.{Src, upOf}
-use Rattle.typing.specs.Least.{Typed, typed, untyped, with, wantNum, wantPair, wantCell, wantFn, wantLim, wantGrant, require, isUpper, keysAt, typeAt}
+use Rattle.typing.specs.Least.{Typed, typed, untyped, with, wantNum, wantPair, wantCell, wantFn, wantLim, wantGrant, require, isUpper, varType, ofVar, keysAt, typeAt}
 use Rattle.semantics.specs.Machine.{Kind, k-num, k-pair, k-fn, k-cell, k-lim, k-grant, Value, Store}
-use Rattle.semantics.specs.Step.{worked}
-use Rattle.semantics.specs.Wants.{a-number, a-pair, a-function, a-cell, a-limit, a-grant, Use, touches, alike, uses, holds, isThere, byKind, yes, no, suits, suit}
+use Rattle.semantics.specs.Wants.{a-number, a-pair, a-function, a-cell, a-limit, a-grant, read, touches, alike, wantsOf, byKind, yes, no, suits, suit}
 
 -- a value of the type is of this kind
 pub data Of : Ty → Kind → Type 0 where
@@ -31,14 +32,20 @@ pub data OfAll : List Ty → List Value → Type 0 where
   of-nil : OfAll [] []
   of-cons : {A : Ty} {v : Value} {As : List Ty} {vs : List Value} → Of A (v .kind) → OfAll As vs → OfAll (A ∷ As) (v ∷ vs)
 
--- "names aside": 3E's key is a limit key of another name than r's upper name
+-- "names aside": 0x3E's key is a limit key of another name than r's upper name; or 0x32's variable is not bound, which is refusal 10
 pub data OtherName (S : Src) (ty : ℕ → Ty) : Cmd Ty → Type 0 where
+  unbound : {x : ℕ} → varType S x ≡ none → OtherName S ty (c-var x)
   other-name : {x r a b q u : ℕ} {T : Ty} → ty a ≡ lim q u → isUpper (getElem? (upOf S) r) u ≡ false → OtherName S ty (c-newkey x r a b T)
 
 no-number : {T : Ty} {e : Effect} {n : ℕ} {A : Type 0} → typed T e ≡ untyped n → A
 no-number h = let z : _≡_ {A = ℕ} 0 1 = cc in absurd (omega arith)
 
--- 12 and 13 are not 11
+no-variable : (o : Option Ty) → ofVar o ≡ untyped 11 → o ≡ none
+unfolding ofVar
+no-variable none h = refl
+no-variable (some T) h = no-number h
+
+-- refusals 12 and 13 are not 11
 no-other : {A : Type 0} (n : ℕ) → n ≢ 11 → (b : Bool) {t : Typed} → (t ≡ untyped 11 → A) → require n b t ≡ untyped 11 → A
 unfolding require
 no-other n d true f h = f h
@@ -47,7 +54,7 @@ no-other n d false f h = absurd (d cc)
 no-12 : {A : Type 0} (b : Bool) {t : Typed} → (t ≡ untyped 11 → A) → require 12 b t ≡ untyped 11 → A
 no-12 b f h = no-other 12 (λ z. omega arith) b f h
 
--- 11 by a condition, or past it
+-- refusal 11 by a condition, or past it
 by-condition : {A : Type 0} (b : Bool) {t : Typed} → (t ≡ untyped 11 → A) → (b ≡ false → A) → require 11 b t ≡ untyped 11 → A
 unfolding require
 by-condition true f g h = f h
@@ -56,7 +63,7 @@ by-condition false f g h = g refl
 -- a kind that suits is the one that typing wants
 module _ (s : Store) {P : Type 0} where
   num-is : {A : Ty} {k : Kind} → Of A k → suits a-number k s ≡ true → (f : ℕ → Typed) → ((q : ℕ) → A ≡ num q → f q ≡ untyped 11 → P) → wantNum A f ≡ untyped 11 → P
-  unfolding suits byKind yes no wantNum
+  unfolding suits byKind yes no wantNum onNum byType
   num-is (of-num {q = q}) h f g e = g q refl e
   num-is of-pair h f g e = absurd (false≢true h)
   num-is of-cell h f g e = absurd (false≢true h)
@@ -65,7 +72,7 @@ module _ (s : Store) {P : Type 0} where
   num-is of-grant h f g e = absurd (false≢true h)
 
   pair-is : {A : Ty} {k : Kind} → Of A k → suits a-pair k s ≡ true → (f : ℕ → Ty → Ty → Typed) → ((q : ℕ) (B C : Ty) → f q B C ≡ untyped 11 → P) → wantPair A f ≡ untyped 11 → P
-  unfolding suits byKind yes no wantPair
+  unfolding suits byKind yes no wantPair onPair byType
   pair-is of-num h f g e = absurd (false≢true h)
   pair-is (of-pair {q = q} {A = B} {B = C}) h f g e = g q B C e
   pair-is of-cell h f g e = absurd (false≢true h)
@@ -74,7 +81,7 @@ module _ (s : Store) {P : Type 0} where
   pair-is of-grant h f g e = absurd (false≢true h)
 
   cell-is : {A : Ty} {k : Kind} → Of A k → suits a-cell k s ≡ true → (f : ℕ → Ty → Typed) → ((q : ℕ) (B : Ty) → f q B ≡ untyped 11 → P) → wantCell A f ≡ untyped 11 → P
-  unfolding suits byKind yes no wantCell
+  unfolding suits byKind yes no wantCell onCell byType
   cell-is of-num h f g e = absurd (false≢true h)
   cell-is of-pair h f g e = absurd (false≢true h)
   cell-is (of-cell {q = q} {A = B}) h f g e = g q B e
@@ -83,7 +90,7 @@ module _ (s : Store) {P : Type 0} where
   cell-is of-grant h f g e = absurd (false≢true h)
 
   fn-is : {A : Ty} {k : Kind} → Of A k → suits a-function k s ≡ true → (f : ℕ → Ty → Ty → Effect → Typed) → ((q : ℕ) (B C : Ty) (l : Effect) → f q B C l ≡ untyped 11 → P) → wantFn A f ≡ untyped 11 → P
-  unfolding suits byKind yes no wantFn
+  unfolding suits byKind yes no wantFn onFn byType
   fn-is of-num h f g e = absurd (false≢true h)
   fn-is of-pair h f g e = absurd (false≢true h)
   fn-is of-cell h f g e = absurd (false≢true h)
@@ -92,7 +99,7 @@ module _ (s : Store) {P : Type 0} where
   fn-is of-grant h f g e = absurd (false≢true h)
 
   lim-is : {A : Ty} {k : Kind} → Of A k → suits a-limit k s ≡ true → (f : ℕ → ℕ → Typed) → ((q r : ℕ) → A ≡ lim q r → f q r ≡ untyped 11 → P) → wantLim A f ≡ untyped 11 → P
-  unfolding suits byKind yes no wantLim
+  unfolding suits byKind yes no wantLim onLim byType
   lim-is of-num h f g e = absurd (false≢true h)
   lim-is of-pair h f g e = absurd (false≢true h)
   lim-is of-cell h f g e = absurd (false≢true h)
@@ -101,7 +108,7 @@ module _ (s : Store) {P : Type 0} where
   lim-is of-grant h f g e = absurd (false≢true h)
 
   grant-is : {A : Ty} {k : Kind} → Of A k → suits a-grant k s ≡ true → (f : ℕ → ℕ → Typed) → ((q r : ℕ) → f q r ≡ untyped 11 → P) → wantGrant A f ≡ untyped 11 → P
-  unfolding suits byKind yes no wantGrant
+  unfolding suits byKind yes no wantGrant onGrant byType
   grant-is of-num h f g e = absurd (false≢true h)
   grant-is of-pair h f g e = absurd (false≢true h)
   grant-is of-cell h f g e = absurd (false≢true h)
@@ -114,21 +121,21 @@ module _ (S : Src) (ty : ℕ → Ty) (ef : ℕ → Effect) (s : Store) where
   abbrev pub tab : ℕ → Typed
   tab e = typed (ty e) (ef e)
 
-  keys-is : {P : Type 0} (ks : List ℕ) {vs : List Value} → OfAll (map ty ks) vs → suit (alike (length vs) (touches a-limit)) vs s ≡ true
+  keys-is : {P : Type 0} (ks : List ℕ) {vs : List Value} → OfAll (map ty ks) vs → suit (alike (length vs) (touches read a-limit)) vs s ≡ true
       → (f : List ℕ → Effect → Typed) → ((rs : List ℕ) (t : Effect) → f rs t ≡ untyped 11 → P) → keysAt tab ks f ≡ untyped 11 → P
   unfolding keysAt with suit alike
   keys-is [] of-nil h f g e = g _ _ e
   keys-is (a ∷ ks) (of-cons k o) h f g e = lim-is s k (and-l _ _ h) _ (λ q r z w. keys-is ks o (and-r _ _ h) _ (λ rs t x. g _ _ x) w) e
 
   -- the theorem
-  pub wrong-is-11 : (k : Cmd Ty) {h : List Value} → OfAll (map ty (worked k)) h → holds (uses k (length h)) (λ us. suit us h s) ≡ true → typeAt S tab k ≡ untyped 11 → OtherName S ty k
-  unfolding uses holds suit worked typeAt with
-  wrong-is-11 (c-num n) o a e = absurd (false≢true a)
-  wrong-is-11 c-top o a e = absurd (false≢true a)
-  wrong-is-11 (c-var x) o a e = absurd (false≢true a)
+  pub wrong-is-11 : (k : Cmd Ty) {h : List Value} → OfAll (map ty (evaluated k)) h → suit (wantsOf k (length h) .uses) h s ≡ true → typeAt S tab k ≡ untyped 11 → OtherName S ty k
+  unfolding wantsOf suit evaluated typeAt with
+  wrong-is-11 (c-num n) o a e = no-number e
+  wrong-is-11 c-top o a e = no-number e
+  wrong-is-11 (c-var x) o a e = unbound (no-variable (varType S x) e)
   wrong-is-11 (c-pair x y) o a e = no-number e
   wrong-is-11 (c-part x i) (of-cons k of-nil) a e = pair-is s k (and-l _ _ a) _ (λ q B C z. no-number z) e
-  wrong-is-11 (c-fn x T b) o a e = absurd (false≢true a)
+  wrong-is-11 (c-fn x T b) o a e = no-number e
   wrong-is-11 (c-app x y) (of-cons k o) a e = fn-is s k (and-l _ _ a) _ (λ q B C l z. no-12 _ no-number z) e
   wrong-is-11 (c-new T x) o a e = no-12 _ no-number e
   wrong-is-11 (c-asg x y) (of-cons k o) a e = cell-is s k (and-l _ _ a) _ (λ q B z. no-12 _ no-number z) e

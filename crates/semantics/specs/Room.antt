@@ -1,15 +1,11 @@
--- "finished" and "needs a place that is not there", each defined apart from the step function; they share with it only which operands are worked out before an act.
-use Prim.Native.Nat.{ℕ, suc}
+-- "finished", and the places that there are, each defined apart from the step function.
+use Prim.Native.Nat.{ℕ, _+_}
 use mathlib.Core.Bool.{Bool, true, false}
 use mathlib.Core.List.{List, [], _∷_}
-use mathlib.Core.Option.{Option, none, some}
-use lib.ListN.{length, getElem?}
-use lib.Dec.{leb}
+use lib.ListN.{length}
+use lib.Dec.{ltb}
 use Rattle.order.specs.Bools.{_or_}
-use Rattle.syntax.specs.Commands.{Cmd, c-num, c-top, c-var, c-pair, c-part, c-fn, c-app, c-new, c-asg, c-read, c-sum, c-test, c-lim, c-grant, c-newkey, c-assoc}
-use Rattle.syntax.specs.Operands.{inner}
 use Rattle.semantics.specs.Machine.{Frame, Control, enter, hand, Machine, most-cells, most-keys, most-pairs, most-functions, most-frames, most-bindings}
-use Rattle.semantics.specs.Step.{worked}
 
 -- "No frame left and a value: done."
 unfoldable pub doneAt : Control → List Frame → Bool
@@ -20,54 +16,19 @@ doneAt (hand v) (f ∷ fs) = false
 unfoldable pub isDone : Machine → Bool
 isDone m = doneAt (m .thread .control) (m .thread .frames)
 
--- no place is left of so many
-unfoldable pub full : ℕ → ℕ → Bool
-full used most = leb most used
+-- so many places of one kind
+pub data Place : Type 0 where
+  cells keys pairs functions frames bindings : ℕ → Place
 
-unfoldable pub lacksEntry : List ℕ → List ℕ → Machine → Bool
-lacksEntry (a ∷ l) bodies m = full (length (m .thread .frames)) most-frames
-lacksEntry [] (b ∷ bodies) m = full (length (m .store .functions)) most-functions
-lacksEntry [] [] m = false
+-- fewer than so many are left
+unfoldable pub lacking : Place → Machine → Bool
+lacking (cells n) m = ltb most-cells (length (m .store .cells) + n)
+lacking (keys n) m = ltb most-keys (length (m .store .keys) + n)
+lacking (pairs n) m = ltb most-pairs (length (m .store .pairs) + n)
+lacking (functions n) m = ltb most-functions (length (m .store .functions) + n)
+lacking (frames n) m = ltb most-frames (length (m .thread .frames) + n)
+lacking (bindings n) m = ltb most-bindings (length (m .store .bindings) + n)
 
-module _ {T : Type 0} where
-  -- entering takes a frame where operands are worked out first; else a function, where the body of a binder is kept (35); else nothing (30, 31, 32, 3C with no keys)
-  unfoldable pub lacksEnter : Cmd T → Machine → Bool
-  lacksEnter k m = lacksEntry (worked k) (inner k) m
-
-  -- 33 takes a pair, 36 a binding, 37 a cell, 3E a key, a pair and two bindings
-  unfoldable pub lacksAct : Cmd T → Machine → Bool
-  lacksAct (c-num n) m = false
-  lacksAct c-top m = false
-  lacksAct (c-var x) m = false
-  lacksAct (c-pair a b) m = full (length (m .store .pairs)) most-pairs
-  lacksAct (c-part a i) m = false
-  lacksAct (c-fn x t b) m = false
-  lacksAct (c-app a b) m = full (length (m .store .bindings)) most-bindings
-  lacksAct (c-new t a) m = full (length (m .store .cells)) most-cells
-  lacksAct (c-asg a b) m = false
-  lacksAct (c-read a) m = false
-  lacksAct (c-sum i a b) m = false
-  lacksAct (c-test a b c t) m = false
-  lacksAct (c-lim ks b) m = false
-  lacksAct (c-grant a b) m = false
-  lacksAct (c-newkey x r a b t) m =
-      full (length (m .store .keys)) most-keys or full (length (m .store .pairs)) most-pairs or full (suc (length (m .store .bindings))) most-bindings
-  lacksAct (c-assoc a b) m = false
-
-  -- a frame that still lacks an operand takes nothing
-  unfoldable pub lacksReceive : Option ℕ → Cmd T → Machine → Bool
-  lacksReceive (some a) k m = false
-  lacksReceive none k m = lacksAct k m
-
-module _ {T : Type 0} (code : ℕ → Cmd T) where
-  unfoldable pub lacksHand : List Frame → Machine → Bool
-  lacksHand [] m = false
-  lacksHand (f ∷ fs) m = lacksReceive (getElem? (worked (code (f .at))) (suc (length (f .hand)))) (code (f .at)) m
-
-  unfoldable pub lacksOn : Control → Machine → Bool
-  lacksOn (enter e) m = lacksEnter (code e) m
-  lacksOn (hand v) m = lacksHand (m .thread .frames) m
-
-  -- the next step needs a place that is not there
-  unfoldable pub lacks : Machine → Bool
-  lacks m = lacksOn (m .thread .control) m
+unfoldable pub anyLacking : List Place → Machine → Bool
+anyLacking [] m = false
+anyLacking (p ∷ ps) m = lacking p m or anyLacking ps m

@@ -3,7 +3,7 @@ use mathlib.Core.Path.{_≡_, refl, sym, _∙_, subst, subst⁻¹}
 use Prim.Native.Nat.{ℕ, zero, suc, _≤_, _<_}
 use native.Mathlib.Omega.{arith}
 use mathlib.Core.Bool.{Bool, true, false}
-use mathlib.Core.List.{List, [], _∷_, _++_, map, List·Memᴰ, List·Memᴰ·not-nil, Memᴰ·cast, append-assoc, append-nil}
+use mathlib.Core.List.{List, [], _∷_, _++_, map, List·Memᴰ, Memᴰ·cast, append-assoc, append-nil}
 use mathlib.Core.Option.{none, some}
 use mathlib.Core.Logic.{_≢_, _⊎_, inl, inr}
 use lib.ListN.{length, getElem?}
@@ -17,24 +17,26 @@ use Rattle.order.specs.Effects.{Effect, names, join, drop, raise}
 use Rattle.order.specs.EffectLaws.{drop-or, raise-off, raise-on}
 use Rattle.syntax.specs.Types.{Ty, fn, keyOf}
 use Rattle.syntax.specs.Commands.{Cmd, c-lim}
+use Rattle.syntax.specs.Operands.{evaluated}
 use Rattle.syntax.specs.Job.{Src, upOf}
-use Rattle.syntax.specs.Tree.{Entry, e-var, e-name}
+use Rattle.syntax.specs.Tree.{Entry, e-var, e-name, keyPair}
 use Rattle.typing.specs.Subtype.{Sub}
-use Rattle.typing.specs.Scoped.{Free, scoped-free}
-use Rattle.typing.specs.Rules.{Has, h-num, h-top, h-var, h-pair, h-part1, h-part2, h-fn, h-app, h-new, h-asg, h-read, h-sum, h-test, h-lim, h-grant, h-newkey, h-assoc, h-sub, HasKeys, k-nil, k-cons, Fresh, codeOf, keysType}
-use Rattle.semantics.specs.Machine.{Kind, k-pair, k-lim, k-grant, Value, unkeyed, Bind, b-var, b-name, Link, Frame, Control, hand, Thread, Store, Machine, most-bindings}
+use Rattle.typing.specs.FreeNames.{Free}
+use Rattle.typing.specs.Scoped.{scoped-free}
+use Rattle.typing.specs.Rules.{Has, h-num, h-top, h-var, h-pair, h-part1, h-part2, h-fn, h-app, h-new, h-asg, h-read, h-sum, h-test, h-lim, h-grant, h-newkey, h-assoc, h-sub, HasKeys, k-nil, k-cons, Fresh, codeOf}
+use Rattle.semantics.specs.Machine.{Kind, k-pair, k-fn, k-lim, k-grant, Value, unkeyed, Bind, b-var, b-name, Link, Frame, Control, hand, Thread, Store, Machine, most-bindings}
 use Rattle.semantics.specs.Keys.{enabled, add}
 use Rattle.semantics.specs.Step
-use Rattle.semantics.specs.Step.{Out, o-step, o-done, o-room, Deed, d-enter, d-push, d-fn, does, free, Plan, p-done, p-try, room, touchAll, settle, asNum, asPair, asFn, asCell, asLim, asGrant, found, one, two}
-use Rattle.semantics.specs.Step.{actPair, partOf, actPart, actApp, actNew, actAsg, actRead, actSum, branch, actTest, limitKeys, keysOf, actLim, actGrant, actNewkey, actAssoc}
-use Rattle.semantics.specs.Step.{worked, act, variable, enterLim, enterCmd, receive, handTo, planOn, plan, step}
-use Rattle.semantics.specs.RuntimeTypes.{RTy, rnum, rpair, rcell, rfn, rlim, rgrant, RSub, r-num, r-pair, r-cell, r-fn, r-lim, r-grant, rkey, rrekey, inst, rsub-refl, rsub-trans, rsub-key, rsub-rekey, inst-rekey, inst-key, under-refl}
+use Rattle.semantics.specs.Step.{Out, o-step, o-done, o-room, Plan, p-done, p-try, room, touchAll, settle, asNum, asPair, asFn, asCell, asLim, asGrant, found, bare, one, two}
+use Rattle.semantics.specs.Step.{actPair, partOf, actPart, actFn, actApp, actNew, actAsg, actRead, actSum, branch, actTest, limitKeys, keysOf, actLim, actGrant, makeKey, actNewkey, actAssoc}
+use Rattle.semantics.specs.Step.{variable, push, act, enterAt, enterCmd, receive, handTo, planOn, plan, step}
+use Rattle.semantics.specs.RuntimeTypes.{RTy, rnum, rpair, rcell, rfn, rlim, rgrant, Under, RSub, r-num, r-pair, r-cell, r-fn, r-lim, r-grant, rkey, rrekey, inst, rsub-refl, rsub-trans, rsub-key, rsub-rekey, inst-rekey, inst-key, under-refl}
 use Rattle.semantics.specs.Chains.{look, lookVar, Chain, ch-cons, chain-le, chain-seek, chain-wider, seam, seam-next, length-two}
-use Rattle.semantics.specs.Invariant.{TwoTy, FnTy, World, worldOf, Ext, Typ, t-num, t-pair, t-cell, t-fn, t-lim, t-grant, Fits, On, on-zero, on-key, OnAll, Covers, EnvOk, eo-var, eo-name, Env, Held, hd-nil, hd-cons, Rest, rest-here, rest-next}
+use Rattle.semantics.specs.Invariant.{TwoTy, FnTy, fty, World, worldOf, Ext, Typ, t-num, t-pair, t-cell, t-fn, t-lim, t-grant, Fits, On, on-zero, on-key, OnAll, Covers, EnvOk, eo-var, eo-name, Env, Held, hd-nil, hd-cons, Rest, rest-here, rest-next}
 use Rattle.semantics.specs.Invariant.{FrameOk, fo-pair1, fo-pair2, fo-part1, fo-part2, fo-app1, fo-app2, fo-new, fo-read, fo-asg1, fo-asg2, fo-sum1, fo-sum2, fo-test, fo-lim, fo-grant, fo-newkey, fo-assoc1, fo-assoc2}
-use Rattle.semantics.specs.Invariant.{StackOk, so-nil, so-cons, ThreadOk, to-enter, to-hand, FnOk, StoreOk, KeysOk, Ok}
+use Rattle.semantics.specs.Invariant.{StackOk, so-nil, so-cons, ThreadOk, to-enter, to-hand, FnOk, f-fn, StoreOk, KeysOk, Ok}
 use Rattle.semantics.specs.Growth.{ext-refl, fits-ext, on-ext, covers-ext, envOk-ext, env-ext, stack-ext}
-use Rattle.semantics.specs.Enabled.{on-more, on-enabled, on-below, on-narrow, keys-snoc, on-under, add-new, add-old, on-name, covers-join-l, covers-join-r, covers-old, covers-touch, covers-map, map-covers, covers-more}
+use Rattle.semantics.specs.Enabled.{on-more, on-enabled, on-below, on-narrow, keys-snoc, on-under, add-new, add-old, on-name, covers-join-l, covers-join-r, covers-old, covers-touch, covers-map, map-covers}
 use Rattle.semantics.specs.Bindings.{fits-sub, inst-off, env-zero, env-one, env-mono, env-sub, env-lt, env-lookup, covers-below, covers-keys, mono-new, up-new}
 use Rattle.semantics.specs.Stores.{world, store-wider, fn-extends, add-fn, pair-extends, add-pair, cell-extends, add-cell, set-cell}
 
@@ -52,17 +54,17 @@ data AllOn (m : Machine) : List ℕ → Type 0 where
 -- the same of a plan: nothing is wrong, the keys that it touches are enabled, and where there is room it does well
 data Sure (S : Src) (W : World) : Plan → Type 0 where
   sure-done : Sure S W p-done
-  sure-try : {ks : List ℕ} {m : Machine} {d : Deed} → AllOn m ks → (free d m ≡ true → Good S W (o-step (does d m))) → Sure S W (p-try ks m d)
+  sure-try : {ks : List ℕ} {free : Bool} {m n : Machine} → AllOn m ks → (free ≡ true → Good S W (o-step n)) → Sure S W (p-try ks free m n)
 
 settled : {S : Src} {W : World} {p : Plan} → Sure S W p → Good S W (settle p)
 unfolding settle touchAll Step.touch room
 settled sure-done = g-done
-settled {S} {W} (sure-try {ks = ks} {m = m} {d = d} a h) = all a
+settled {S} {W} (sure-try {free = free} {m = m} {n = n} a h) = all a
   where
-    all : {ks : List ℕ} → AllOn m ks → Good S W (touchAll ks m (room (free d m) (o-step (does d m))))
-    all no-key = at (free d m) h
+    all : {ks : List ℕ} → AllOn m ks → Good S W (touchAll ks m (room free (o-step n)))
+    all no-key = at free h
       where
-        at : (b : Bool) → (b ≡ true → Good S W (o-step (does d m))) → Good S W (room b (o-step (does d m)))
+        at : (b : Bool) → (b ≡ true → Good S W (o-step n)) → Good S W (room b (o-step n))
         at true h = h refl
         at false h = g-room
     all (and-key e a) = rw e (all a)
@@ -142,20 +144,20 @@ module _ (S : Src) (σ : Store) (pt : List TwoTy) (ft : List FnTy) (ct : List RT
 
     push-ok : (at : ℕ) {a : ℕ} {k : Cmd Ty} {E : List Bind} {Γ : List Entry} {A : Ty} {X U : RTy} {s : Effect}
         → codeOf S at ≡ k → Envs E Γ → Has S Γ a A s → CoversHere E s → RSub (σ .keys) (inst (look E) A) X → FrameOk S W k [] (θ .env) (θ .on) X U → Stack U
-        → Sure S W (p-try [] m (d-push at a))
-    unfolding does
+        → Sure S W (push at a m)
+    unfolding push
     push-ok at q o h c b g k = sure-try no-key (λ z. step-ok (to-enter o h c (so-cons q b g k)))
 
     var-ok : (x : ℕ) {E : List Bind} {Γ : List Entry} {v : Value} {T : RTy}
         → Envs E Γ → lookVar E x ≡ some v → Fits W v T → Stack T → Sure S W (variable x m)
-    unfolding variable found does
+    unfolding variable found
     var-ok x o z f k = let h : θ .env ≤ most-bindings = omega (arith, few, chain-le (o .chain)) in rw (chain-seek (o .chain) most-bindings h x ∙ z) (sure-try no-key (λ r. step-ok (to-hand f k)))
 
     newFn-ok : {x b : ℕ} {E : List Bind} {Γ : List Entry} {T U : Ty} {s : Effect}
-        → Envs E Γ → Has S (e-var x T ∷ Γ) b U s → Stack (inst (look E) (fn 0 T U s)) → Sure S W (p-try [] m (d-fn x b))
-    unfolding does inst
+        → Envs E Γ → Has S (e-var x T ∷ Γ) b U s → Stack (inst (look E) (fn 0 T U s)) → Sure S W (actFn x b m)
+    unfolding actFn inst
     newFn-ok {x = x} {b = b} {E = E} {Γ = Γ} {T = T} {U = U} {s = s} o h k =
-        let t : FnTy = record { from = inst (look E) T; to = inst (look E) U; eff = map (look E) (names s) } in
+        let t : FnTy = fty (inst (look E) T) (inst (look E) U) (map (look E) (names s)) in
         let w = fn-extends st t in
         sure-try no-key (λ z. g-step (record {
           pt = pt;
@@ -163,21 +165,7 @@ module _ (S : Src) (σ : Store) (pt : List TwoTy) (ft : List FnTy) (ct : List RT
           ct = ct;
           keys = ko;
           few = few;
-          store = add-fn st t (record { var = x; body = b; env = θ .env })
-              (λ i q. record {
-                at = record { var = x; body = b; env = θ .env };
-                found = getElem?-at (σ .functions) _ i q;
-                binds = E;
-                ctx = Γ;
-                arg = T;
-                res = U;
-                used = s;
-                env = env-ext w o;
-                body = h;
-                from = refl;
-                to = refl;
-                eff = refl;
-              });
+          store = add-fn st t (record { var = x; body = b; env = θ .env }) (λ i q. f-fn (getElem?-at (σ .functions) _ i q) (env-ext w o) h);
           thread = to-hand (record { exact = rfn 0 (inst (look E) T) (inst (look E) U) (map (look E) (names s)); typ = t-fn (getElem?-at ft t (length (σ .functions)) (st .flen)); sub = r-fn bot kb-refl kb-refl under-refl })
               (stack-ext w k);
         }) w)
@@ -185,9 +173,10 @@ module _ (S : Src) (σ : Store) (pt : List TwoTy) (ft : List FnTy) (ct : List RT
     enterLim-ok : (at : ℕ) {b : ℕ} {E : List Bind} {Γ : List Entry} {ks rs : List ℕ} {T : Ty} {s t : Effect}
         → codeOf S at ≡ c-lim ks b → Envs E Γ → HasKeys S Γ ks rs s → CoversHere E s
         → Has S Γ b T t → CoversHere E t → Covers (σ .keys) (map (look E) rs) (look E) t → Stack (inst (look E) T)
-        → Sure S W (p-try [] m (enterLim at ks b))
-    unfolding enterLim inst does
-    enterLim-ok at q o k-nil cl h c u k = sure-try no-key (λ z. step-ok (to-enter o h (covers-more (λ a m. absurd (List·Memᴰ·not-nil m)) u) k))
+        → Sure S W (enterAt {T = Ty} at ks (c-lim ks b) m)
+    unfolding enterAt act actLim limitKeys keysOf inst
+    enterLim-ok at q o k-nil cl h c u k =
+        sure-try no-key (λ z. step-ok (to-enter o h (record { each = λ n w. on-narrow ko (θ .on) [] (c .each n w) (u .each n w) (env-lt ko (o .ok) n) }) k))
     enterLim-ok at q o (k-cons {q = p} {s = s} {t = t} x ks) cl h c u k =
         let d = covers-old p (join s t) cl in
         push-ok at q o x (covers-join-l s t d) kb-refl
@@ -195,7 +184,7 @@ module _ (S : Src) (σ : Store) (pt : List TwoTy) (ft : List FnTy) (ct : List RT
 
     enter-ok : {a : ℕ} {E : List Bind} {Γ : List Entry} {T : Ty} {n : Effect}
         → Envs E Γ → Has S Γ a T n → CoversHere E n → Stack (inst (look E) T) → Sure S W (enterCmd a (codeOf S a) m)
-    unfolding enterCmd inst does
+    unfolding enterCmd enterAt evaluated act bare inst
     enter-ok o (h-num c) v k = rw c (sure-try no-key (λ z. step-ok (to-hand (record { exact = rnum 0; typ = t-num; sub = r-num bot }) k)))
     enter-ok o (h-top c) v k = let p : 0 < 1 = omega arith in rw c (sure-try no-key (λ z. step-ok (to-hand (record { exact = rlim 0 1; typ = t-lim p; sub = rw (env-one (o .ok)) (r-lim bot) }) k)))
     enter-ok o (h-var c l) v k = let z = env-lookup (o .ok) l in rw c (var-ok _ o (z .1) (z .2) k)
@@ -209,7 +198,7 @@ module _ (S : Src) (σ : Store) (pt : List TwoTy) (ft : List FnTy) (ct : List RT
         let r = covers-join-r l (join s t) w in
         rw c (push-ok _ c o x (covers-join-l s t r) kb-refl
         (fo-app1 o y (covers-join-r s t r) (env-sub (o .ok) z) (covers-touch (env-zero (o .ok)) q (join l (join s t)) v) (covers-map l (covers-join-l l (join s t) w))) k)
-    enter-ok o (h-new c p x y) v k = rw c (push-ok _ c o x v (env-sub (o .ok) y) fo-new (stack-sub (r-cell bot) k))
+    enter-ok o (h-new c p x y) v k = rw c (push-ok _ c o x v (env-sub (o .ok) y) fo-new (stack-sub (r-cell bot kb-refl kb-refl) k))
     enter-ok o (h-asg {q = q} {s = s} {t = t} c x y z) v k =
         let w = covers-old q (join s t) v in
         rw c (push-ok _ c o x (covers-join-l s t w) kb-refl (fo-asg1 o y (covers-join-r s t w) (env-sub (o .ok) z) (covers-touch (env-zero (o .ok)) q (join s t) v)) k)
@@ -249,15 +238,15 @@ module _ (S : Src) (σ : Store) (pt : List TwoTy) (ft : List FnTy) (ct : List RT
     enter-ok o (h-sub d x p u i) v k = enter-ok o d (covers-below ko (o .ok) v u) (stack-sub (env-sub (o .ok) x) k)
 
     part1-ok : {k q : ℕ} {x : Kind} {X A B : RTy} → RSub (σ .keys) X (rpair q A B) → Typ W k x X → OnHere q → Stack A → Sure S W (actPart true (val k x) m)
-    unfolding actPart asPair found partOf does
+    unfolding actPart asPair found partOf
     part1-ok (r-pair b y z) (t-pair {t = t} e) on k = let o = st .ps _ t e in rw (o .found) (sure-try (one-key (on-below ko on b)) (λ z. step-ok (to-hand (fits-sub (o .one) y) k)))
 
     part2-ok : {k q : ℕ} {x : Kind} {X A B : RTy} → RSub (σ .keys) X (rpair q A B) → Typ W k x X → OnHere q → Stack B → Sure S W (actPart false (val k x) m)
-    unfolding actPart asPair found partOf does
+    unfolding actPart asPair found partOf
     part2-ok (r-pair b y z) (t-pair {t = t} e) on k = let o = st .ps _ t e in rw (o .found) (sure-try (one-key (on-below ko on b)) (λ r. step-ok (to-hand (fits-sub (o .two) z) k)))
 
     pair-ok : {v w : Value} {A B : RTy} → Fits W v A → Fits W w B → Stack (rpair 0 A B) → Sure S W (actPair v w m)
-    unfolding actPair does
+    unfolding actPair
     pair-ok {v} {w} {A} {B} f g k =
         let t : TwoTy = record { one = A; two = B } in
         let x = pair-extends st t in
@@ -271,25 +260,22 @@ module _ (S : Src) (σ : Store) (pt : List TwoTy) (ft : List FnTy) (ct : List RT
           thread = to-hand (record { exact = rpair 0 A B; typ = t-pair (getElem?-at pt t (length (σ .pairs)) (st .plen)); sub = kb-refl }) (stack-ext x k);
         }) x)
 
-    app-ok : {k q : ℕ} {x : Kind} {X T U : RTy} {L : List ℕ} {w : Value}
-        → RSub (σ .keys) X (rfn q T U L) → Typ W k x X → OnHere q → OnAll (σ .keys) (members (θ .on)) L → Fits W w T → Stack U → Sure S W (actApp (val k x) w m)
-    unfolding actApp asFn found does free look
-    app-ok {U = U} {w = w} (r-fn b y z u) (t-fn {f = i} {t = t} e) on c g k = rw (o .found) (sure-try (one-key (on-below ko on b)) (λ q. g-step (record {
+    -- the function that the closure i stands for is called
+    call-ok : {k q i : ℕ} {A B T U : RTy} {L M : List ℕ} {w : Value} → FnOk S W (σ .functions) i (fty A B M) → Below (σ .keys) k q → RSub (σ .keys) T A → RSub (σ .keys) B U → Under (σ .keys) M L
+        → OnHere q → OnAll (σ .keys) (members (θ .on)) L → Fits W w T → Stack U → Sure S W (actApp (val k (k-fn i)) w m)
+    unfolding actApp asFn found look
+    call-ok {w = w} (f-fn {x = x} {E = E} {Γ = Γ} {A = A} {s = s} e o h) b y z u on c g k = rw e (sure-try (one-key (on-below ko on b)) (λ q. g-step (record {
       pt = pt;
       ft = ft;
       ct = ct;
       keys = ko;
       few = room-left (ltb-true (length (σ .bindings)) most-bindings q);
       store = store-wider st (σ .keys) B′ wx;
-      thread = to-enter inner (o .body) (covers-ext wx (map-covers (o .used) (subst (λ L. OnAll (σ .keys) (members (θ .on)) L) (o .eff) (on-under ko u c))))
-          (stack-ext wx (stack-sub (subst (λ h. RSub (σ .keys) h U) (o .to) z) k));
+      thread = to-enter inner h (covers-ext wx (map-covers s (on-under ko u c))) (stack-ext wx (stack-sub z k));
     }) wx))
       where
-        o : FnOk S W (σ .functions) i t
-        o = st .fs i t e
-
         l : Link
-        l = record { bind = b-var (o .at .var) w; next = o .at .env }
+        l = record { bind = b-var (x .var) w; next = x .env }
 
         B′ : List Link
         B′ = σ .bindings ++ (l ∷ [])
@@ -300,14 +286,15 @@ module _ (S : Src) (σ : Store) (pt : List TwoTy) (ft : List FnTy) (ct : List RT
         wx : Ext W (world pt ft ct (σ .keys) B′)
         wx = record { pts = λ i a e. e; fts = λ i a e. e; cts = λ i a e. e; ks = λ a b h. h; klen = omega arith; lks = getElem?-append (σ .bindings) (l ∷ []) }
 
-        inner : Env S (world pt ft ct (σ .keys) B′) (suc (length (σ .bindings))) (b-var (o .at .var) w ∷ o .binds) (e-var (o .at .var) (o .arg) ∷ o .ctx)
-        inner = record {
-          chain = ch-cons (getElem?-seam (σ .bindings) l) (chain-le (o .env .chain)) (chain-wider (wx .lks) (o .env .chain));
-          ok = eo-var (envOk-ext wx (o .env .ok)) (subst (λ h. Fits (world pt ft ct (σ .keys) B′) w h) (o .from) (fits-ext wx (fits-sub g y)));
-        }
+        inner : Env S (world pt ft ct (σ .keys) B′) (suc (length (σ .bindings))) (b-var (x .var) w ∷ E) (e-var (x .var) A ∷ Γ)
+        inner = record { chain = ch-cons (getElem?-seam (σ .bindings) l) (chain-le (o .chain)) (chain-wider (wx .lks) (o .chain)); ok = eo-var (envOk-ext wx (o .ok)) (fits-ext wx (fits-sub g y)) }
+
+    app-ok : {k q : ℕ} {x : Kind} {X T U : RTy} {L : List ℕ} {w : Value}
+        → RSub (σ .keys) X (rfn q T U L) → Typ W k x X → OnHere q → OnAll (σ .keys) (members (θ .on)) L → Fits W w T → Stack U → Sure S W (actApp (val k x) w m)
+    app-ok (r-fn b y z u) (t-fn {f = i} {A = A} {B = B} {L = M} e) on c g k = call-ok (st .fs i (fty A B M) e) b y z u on c g k
 
     new-ok : {v : Value} {T : RTy} → Fits W v T → Stack (rcell 0 T) → Sure S W (actNew v m)
-    unfolding actNew does
+    unfolding actNew
     new-ok {v} {T} f k =
         let x = cell-extends st T in
         sure-try no-key (λ z. g-step (record {
@@ -321,36 +308,36 @@ module _ (S : Src) (σ : Store) (pt : List TwoTy) (ft : List FnTy) (ct : List RT
         }) x)
 
     read-ok : {k q : ℕ} {x : Kind} {X A : RTy} → RSub (σ .keys) X (rcell q A) → Typ W k x X → OnHere q → Stack A → Sure S W (actRead (val k x) m)
-    unfolding actRead asCell found does
-    read-ok (r-cell b) (t-cell {A = t} e) on k = let o = st .cs _ t e in rw (o .found) (sure-try (one-key (on-below ko on b)) (λ z. step-ok (to-hand (o .fits) k)))
+    unfolding actRead asCell found
+    read-ok (r-cell b y z) (t-cell {A = t} e) on k = let o = st .cs _ t e in rw (o .found) (sure-try (one-key (on-below ko on b)) (λ r. step-ok (to-hand (fits-sub (o .fits) y) k)))
 
     asg-ok : {k q : ℕ} {x : Kind} {X A : RTy} {w : Value} → RSub (σ .keys) X (rcell q A) → Typ W k x X → OnHere q → Fits W w A → Stack A → Sure S W (actAsg (val k x) w m)
-    unfolding actAsg asCell found does
-    asg-ok {w = w} (r-cell b) (t-cell {A = t} e) on g k =
+    unfolding actAsg asCell found
+    asg-ok {w = w} (r-cell b y z) (t-cell {A = t} e) on g k =
         let o = st .cs _ t e in
-        rw (o .found) (sure-try (one-key (on-below ko on b)) (λ z. g-step (record {
+        rw (o .found) (sure-try (one-key (on-below ko on b)) (λ r. g-step (record {
           pt = pt;
           ft = ft;
           ct = ct;
           keys = ko;
           few = few;
-          store = set-cell st _ t w e g;
+          store = set-cell st _ t w e (fits-sub g z);
           thread = to-hand g k;
         }) (ext-refl W)))
 
     sum-ok : (i : Bool) {k l p q : ℕ} {x y : Kind} {X Y : RTy}
         → RSub (σ .keys) X (rnum p) → Typ W k x X → OnHere p → RSub (σ .keys) Y (rnum q) → Typ W l y Y → OnHere q → Stack (rnum 0) → Sure S W (actSum i (val k x) (val l y) m)
-    unfolding actSum asNum found does
+    unfolding actSum asNum found
     sum-ok i (r-num a) t-num on (r-num b) t-num on′ k =
         sure-try (and-key (touch-ok (on-below ko on a)) (one-key (on-below ko on′ b))) (λ z. step-ok (to-hand (record { exact = rnum 0; typ = t-num; sub = kb-refl }) k))
 
     test-ok : {k q b c : ℕ} {x : Kind} {X : RTy} {B C T : Ty} {E : List Bind} {Γ : List Entry} {s u : Effect}
         → RSub (σ .keys) X (rnum q) → Typ W k x X → OnHere q → Envs E Γ → Has S Γ b B s → CoversHere E s → Sub (upOf S) B T
         → Has S Γ c C u → CoversHere E u → Sub (upOf S) C T → Stack (inst (look E) T) → Sure S W (actTest b c (val k x) m)
-    unfolding actTest asNum found does branch
+    unfolding actTest asNum found branch
     test-ok {b = b} {c = c} (r-num a) (t-num {n = n}) on o h v y g w z k = sure-try (one-key (on-below ko on a)) (λ r. at n)
       where
-        at : (n : ℕ) → Good S W (o-step (does (d-enter (branch n b c)) m))
+        at : (n : ℕ) → Good S W (o-step (Step.entering (branch n b c) (θ .env) (θ .on) m))
         at zero = step-ok (to-enter o g w (stack-sub (env-sub (o .ok) z) k))
         at (suc n) = step-ok (to-enter o h v (stack-sub (env-sub (o .ok) y) k))
 
@@ -373,7 +360,7 @@ module _ (S : Src) (σ : Store) (pt : List TwoTy) (ft : List FnTy) (ct : List RT
 
     limit-ok : {b : ℕ} {E : List Bind} {Γ : List Entry} {js : List ℕ} {vs : List Value} {T : Ty} {t : Effect}
         → Envs E Γ → Held W (members (θ .on)) vs js → Has S Γ b T t → CoversHere E t → Covers (σ .keys) js (look E) t → Stack (inst (look E) T) → Sure S W (actLim b vs m)
-    unfolding actLim does
+    unfolding actLim
     limit-ok {js = js} o hd h c u k =
         subst⁻¹ (λ r. Sure S W r) (held-keys hd _)
         (sure-try (held-touch hd) (λ z. step-ok (to-enter o h (record { each = λ n w. on-narrow ko (θ .on) js (c .each n w) (u .each n w) (env-lt ko (o .ok) n) }) k)))
@@ -381,7 +368,7 @@ module _ (S : Src) (σ : Store) (pt : List TwoTy) (ft : List FnTy) (ct : List RT
     grant-ok : {k q j b : ℕ} {x : Kind} {X : RTy} {T : Ty} {E : List Bind} {Γ : List Entry} {t : Effect}
         → RSub (σ .keys) X (rgrant q j) → Typ W k x X → OnHere q → Envs E Γ → Has S Γ b T t → ((n : ℕ) → List·Memᴰ n (names t) → OnHere (look E n) ⊎ Below (σ .keys) (look E n) j)
         → Stack (inst (look E) T) → Sure S W (actGrant b (val k x) m)
-    unfolding actGrant asGrant found does
+    unfolding actGrant asGrant found
     grant-ok {j = j} {E = E} {t = t} (r-grant b) (t-grant z) on o h c k = sure-try (one-key (on-below ko on b)) (λ q. step-ok (to-enter o h (record { each = λ n w. more n (c n w) }) k))
       where
         -- the granted key is there, since a key below it is
@@ -395,17 +382,17 @@ module _ (S : Src) (σ : Store) (pt : List TwoTy) (ft : List FnTy) (ct : List RT
 
     assoc-ok : {k q j : ℕ} {x : Kind} {X A : RTy} {v : Value}
         → RSub (σ .keys) X (rlim q j) → Typ W k x X → OnHere q → Fits W v A → OnHere (rkey A) → Stack (rrekey j A) → Sure S W (actAssoc v (val k x) m)
-    unfolding actAssoc asLim found does
+    unfolding actAssoc asLim found
     assoc-ok {j = j} (r-lim b) (t-lim z) on f a k =
         sure-try (and-key (touch-ok (on-value f a)) (one-key (on-below ko on b)))
         (λ q. (step-ok (to-hand (record { exact = rrekey j (f .exact); typ = typ-rekey j (f .typ); sub = rsub-rekey j (f .sub) }) k)))
 
     newkey-ok : {k q j x r b u : ℕ} {z : Kind} {X : RTy} {B T : Ty} {E : List Bind} {Γ : List Entry} {t : Effect}
         → RSub (σ .keys) X (rlim q j) → Typ W k z X → j ≡ look E u → OnHere q → Envs E Γ → getElem? (upOf S) r ≡ some u → Fresh (upOf S) Γ r
-        → Has S (e-var x (keysType r) ∷ e-name r ∷ Γ) b B t → Sub (upOf S) B T → Free r T
+        → Has S (e-var x (keyPair r) ∷ e-name r ∷ Γ) b B t → Sub (upOf S) B T → Free r T
         → ((n : ℕ) → List·Memᴰ n (names t) → n ≢ r → OnHere (look E n)) → (List·Memᴰ r (names t) → OnHere (look E u))
         → Stack (inst (look E) T) → Sure S W (actNewkey x r b (val k z) m)
-    unfolding actNewkey asLim found does free look inst
+    unfolding actNewkey makeKey asLim found look inst
     newkey-ok {j = j} {x = x} {r = r} {b = b} {u = u} {T = T} {E = E} {Γ = Γ} {t = t} (r-lim d) (t-lim pos) ju on o e f h y free c cu k =
         sure-try (one-key (on-below ko on d)) (λ full. g-step (record {
           pt = pt ++ (tw ∷ []);
@@ -472,16 +459,16 @@ module _ (S : Src) (σ : Store) (pt : List TwoTy) (ft : List FnTy) (ct : List RT
         named : EnvOk S W′ (b-name r K ∷ E) (e-name r ∷ Γ)
         named = eo-name o′ f (mono-new o′ f e kb) (up-new r o′ e (rw ju at pos) posK) (omega (arith, length-snoc (σ .keys) j))
 
-        sb : RSub ks′ (rpair 0 (rlim 0 K) (rgrant 0 K)) (inst (look (b-name r K ∷ E)) (keysType r))
+        sb : RSub ks′ (rpair 0 (rlim 0 K) (rgrant 0 K)) (inst (look (b-name r K ∷ E)) (keyPair r))
         sb = rw (eq-eqb r r refl) (r-pair bot (r-lim bot) (r-grant bot))
 
-        fits : Fits W′ (unkeyed (k-pair (length (σ .pairs)))) (inst (look (b-name r K ∷ E)) (keysType r))
+        fits : Fits W′ (unkeyed (k-pair (length (σ .pairs)))) (inst (look (b-name r K ∷ E)) (keyPair r))
         fits = record { exact = rpair 0 (rlim 0 K) (rgrant 0 K); typ = t-pair (getElem?-at pt tw (length (σ .pairs)) (st .plen)); sub = sb }
 
         one-more : Chain B′ (suc n) (b-name r K ∷ E)
         one-more = ch-cons (seam (σ .bindings) l1 (l2 ∷ [])) (chain-le (o .chain)) (chain-wider (wx .lks) (o .chain))
 
-        inner : Env S W′ (suc (suc n)) (b-var x (unkeyed (k-pair (length (σ .pairs)))) ∷ b-name r K ∷ E) (e-var x (keysType r) ∷ e-name r ∷ Γ)
+        inner : Env S W′ (suc (suc n)) (b-var x (unkeyed (k-pair (length (σ .pairs)))) ∷ b-name r K ∷ E) (e-var x (keyPair r) ∷ e-name r ∷ Γ)
         inner = record { chain = ch-cons (seam-next (σ .bindings) l1 l2 []) (omega arith) one-more; ok = eo-var named fits }
 
         at : (i : ℕ) → List·Memᴰ i (names t) → (z : Bool) → eqb i r ≡ z → On ks′ (members (θ .on)) (look (b-name r K ∷ E) i)
@@ -507,7 +494,7 @@ module _ (S : Src) (σ : Store) (pt : List TwoTy) (ft : List FnTy) (ct : List RT
       → codeOf S at ≡ c-lim ks b → Env S W e E Γ → Rest ks n rest → n ≡ length ws → HasKeys S Γ rest rs s → Covers (σ .keys) (members on) (look E) s → Held W (members on) ws js
       → Has S Γ b T t → Covers (σ .keys) (members on) (look E) t → Covers (σ .keys) (js ++ map (look E) rs) (look E) t → StackOk S W fs (inst (look E) T)
       → Sure S W (receive (codeOf S) (getElem? ks n) (frame at e on vs) ws fs (machine θ))
-  unfolding receive act inst does
+  unfolding receive act inst
   keys-ok θ at n e on {fs = fs} {E = E} {js = js} vs ws {t = t} q o r l k-nil cl hd h c u k =
       rw (rest-none r, q) (limit-ok (popped (θ .control) e on fs) o hd h c (subst (λ i. Covers (σ .keys) i (look E) t) (append-nil js) u) k)
   keys-ok θ at n e on {ks = ks} vs ws q o r l (k-cons {q = p} {ks = rest} {s = s} {t = t} x more) cl hd h c u k =
@@ -518,8 +505,8 @@ module _ (S : Src) (σ : Store) (pt : List TwoTy) (ft : List FnTy) (ct : List RT
   -- a frame that a value of its type goes to
   receive-ok : (θ : Thread) (at : ℕ) {k : Cmd Ty} {h : List Value} {e on : ℕ} {A B : RTy} {fs : List Frame} (v : Value)
       → codeOf S at ≡ k → FrameOk S W k h e on A B → Fits W v A → StackOk S W fs B
-      → Sure S W (receive (codeOf S) (getElem? (worked k) (suc (length h))) (frame at e on h) (h ++ (v ∷ [])) fs (machine θ))
-  unfolding receive worked act one two inst does
+      → Sure S W (receive (codeOf S) (getElem? (evaluated k) (suc (length h))) (frame at e on h) (h ++ (v ∷ [])) fs (machine θ))
+  unfolding receive evaluated act one two inst
   receive-ok θ at v q (fo-pair1 o h c) g k = sure-try no-key (λ z. step-ok (to-enter o h c (so-cons q kb-refl (fo-pair2 g) k)))
   receive-ok θ at {fs = fs} v q (fo-pair2 {e = e} {on = on} f) g k = rw q (pair-ok (popped (θ .control) e on fs) f g k)
   receive-ok θ at {fs = fs} v q (fo-part1 {e = e} {on = on} p) g k = rw q (part1-ok (popped (θ .control) e on fs) (g .sub) (g .typ) p k)

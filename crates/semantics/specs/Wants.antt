@@ -1,5 +1,5 @@
--- What an act wants of its operands and which of them it touches, by document 01's list, apart from the step; and from it when a step is stuck and when it is denied.
--- Shared with the step are which operands are worked out before an act and how a variable is looked up.
+-- What an act wants of its operands, how it uses them and which places it needs: document 01's list, one row a command, apart from the step; and from it when a step is stuck,
+-- denied or without room. Shared with the step are which operands are evaluated before an act and how a variable is looked up.
 use mathlib.Core.Path.{_≡_}
 use Prim.Native.Nat.{ℕ, zero, suc}
 use mathlib.Core.Bool.{Bool, true, false, cond, not}
@@ -7,53 +7,65 @@ use mathlib.Core.List.{List, [], _∷_, _++_}
 use mathlib.Core.Option.{Option, none, some}
 use lib.ListN.{length, getElem?}
 use Rattle.order.specs.Bools.{_and_}
-use Rattle.order.specs.Sets.{some-of}
+use Rattle.order.specs.Sets.{some-of, all-of}
 use Rattle.syntax.specs.Commands.{Cmd, c-num, c-top, c-var, c-pair, c-part, c-fn, c-app, c-new, c-asg, c-read, c-sum, c-test, c-lim, c-grant, c-newkey, c-assoc}
-use Rattle.syntax.specs.Operands.{usesVar}
+use Rattle.syntax.specs.Operands.{evaluated, usesVar}
 use Rattle.semantics.specs.Machine.{Kind, k-num, k-pair, k-fn, k-cell, k-lim, k-grant, Value, KeySet, Frame, Control, enter, hand, Store, Machine, most-bindings}
 use Rattle.semantics.specs.Keys.{enabled}
-use Rattle.semantics.specs.Step.{seek, worked}
-use Rattle.semantics.specs.Room.{isDone, lacks}
+use Rattle.semantics.specs.Step.{seek}
+use Rattle.semantics.specs.Room.{isDone, Place, cells, keys, pairs, functions, frames, bindings, anyLacking}
 
 -- what a place of a command asks of its value
 pub data Want : Type 0 where
   anything a-number a-pair a-function a-cell a-limit a-grant : Want
 
--- an operand in hand: what it must be, and whether the act touches it
+-- how an act uses a value that it touches; each use is tested alike, by the value's key
+pub data Usage : Type 0 where
+  read write read-and-write : Usage
+
+-- an operand in hand: what it must be, and how the act touches it, if it does
 pub record Use : Type 0 where
   pub want : Want
-  pub touched : Bool
+  pub touch : Option Usage
 
 abbrev pub takes : Want → Use
-takes w = record { want = w; touched = false }
+takes w = record { want = w; touch = none }
 
-abbrev pub touches : Want → Use
-touches w = record { want = w; touched = true }
+abbrev pub touches : Usage → Want → Use
+touches u w = record { want = w; touch = some u }
 
 unfoldable pub alike : ℕ → Use → List Use
 alike zero u = []
 alike (suc n) u = u ∷ alike n u
 
+-- what an act wants: its operands, evaluated, and places
+pub record Wanted : Type 0 where
+  pub uses : List Use
+  pub places : List Place
+
+abbrev pub wants : List Use → List Place → Wanted
+wants us ps = record { uses = us; places = ps }
+
 module _ {T : Type 0} where
   -- "Touched: the pair in 34, the function in 36, the cell in 38 and 39, both numbers in 3A, the number tested in 3B, every key in 3C, 3D, 3E, both operands in 3F."
-  -- 30, 31, 32 and 35 have nothing worked out, and never act. So many values are in hand (a limit takes as many keys as there are).
-  unfoldable pub uses : Cmd T → ℕ → Option (List Use)
-  uses (c-num n) i = none
-  uses c-top i = none
-  uses (c-var v) i = none
-  uses (c-pair a b) i = some (takes anything ∷ takes anything ∷ [])
-  uses (c-part a n) i = some (touches a-pair ∷ [])
-  uses (c-fn v t b) i = none
-  uses (c-app a b) i = some (touches a-function ∷ takes anything ∷ [])
-  uses (c-new t a) i = some (takes anything ∷ [])
-  uses (c-asg a b) i = some (touches a-cell ∷ takes anything ∷ [])
-  uses (c-read a) i = some (touches a-cell ∷ [])
-  uses (c-sum n a b) i = some (touches a-number ∷ touches a-number ∷ [])
-  uses (c-test a b c t) i = some (touches a-number ∷ [])
-  uses (c-lim ks b) i = some (alike i (touches a-limit))
-  uses (c-grant a b) i = some (touches a-grant ∷ [])
-  uses (c-newkey v r a b t) i = some (touches a-limit ∷ [])
-  uses (c-assoc a b) i = some (touches anything ∷ touches a-limit ∷ [])
+  -- So many values are in hand (a limit takes as many keys as there are).
+  unfoldable pub wantsOf : Cmd T → ℕ → Wanted
+  wantsOf (c-num n) i = wants [] []
+  wantsOf c-top i = wants [] []
+  wantsOf (c-var x) i = wants [] []
+  wantsOf (c-pair a b) i = wants (takes anything ∷ takes anything ∷ []) (pairs 1 ∷ [])
+  wantsOf (c-part a n) i = wants (touches read a-pair ∷ []) []
+  wantsOf (c-fn x t b) i = wants [] (functions 1 ∷ [])
+  wantsOf (c-app a b) i = wants (touches read a-function ∷ takes anything ∷ []) (bindings 1 ∷ [])
+  wantsOf (c-new t a) i = wants (takes anything ∷ []) (cells 1 ∷ [])
+  wantsOf (c-asg a b) i = wants (touches write a-cell ∷ takes anything ∷ []) []
+  wantsOf (c-read a) i = wants (touches read a-cell ∷ []) []
+  wantsOf (c-sum n a b) i = wants (touches read a-number ∷ touches read a-number ∷ []) []
+  wantsOf (c-test a b c t) i = wants (touches read a-number ∷ []) []
+  wantsOf (c-lim ks b) i = wants (alike i (touches read a-limit)) []
+  wantsOf (c-grant a b) i = wants (touches read a-grant ∷ []) []
+  wantsOf (c-newkey x r a b t) i = wants (touches read a-limit ∷ []) (keys 1 ∷ pairs 1 ∷ bindings 2 ∷ [])
+  wantsOf (c-assoc a b) i = wants (touches read-and-write anything ∷ touches read a-limit ∷ []) []
 
 unfoldable pub holds : {A : Type 0} → Option A → (A → Bool) → Bool
 holds none f = false
@@ -95,83 +107,83 @@ suit [] (v ∷ vs) s = false
 suit (u ∷ us) [] s = false
 suit (u ∷ us) (v ∷ vs) s = suits (u .want) (v .kind) s and suit us vs s
 
+-- it is touched, for whatever use
+unfoldable pub isTouched : Use → Bool
+isTouched u = holds (u .touch) (λ w. true)
+
 -- the keys of those that are touched, in order
 unfoldable pub touchedIn : List Use → List Value → List ℕ
 touchedIn [] vs = []
 touchedIn (u ∷ us) [] = []
-touchedIn (u ∷ us) (v ∷ vs) = cond (u .touched) (v .key ∷ touchedIn us vs) (touchedIn us vs)
+touchedIn (u ∷ us) (v ∷ vs) = cond (isTouched u) (v .key ∷ touchedIn us vs) (touchedIn us vs)
 
-unfoldable pub touchedOf : Option (List Use) → List Value → List ℕ
-touchedOf none vs = []
-touchedOf (some us) vs = touchedIn us vs
+-- what the next step needs: each value suits its place, and the variable is bound; the keys that it touches, in order; those that are enabled there; places
+pub record Needs : Type 0 where
+  pub suited : Bool
+  pub touched : List ℕ
+  pub on : KeySet
+  pub places : List Place
 
--- one of the keys is not enabled
-unfoldable pub anyShut : List ℕ → KeySet → List ℕ → Bool
-anyShut up on ks = some-of (λ k. not (enabled up on k)) ks
+-- no more than places
+abbrev pub only : List Place → KeySet → Needs
+only ps on = record { suited = true; touched = []; on = on; places = ps }
 
 module _ {T : Type 0} where
-  -- entering is wrong for a variable with no binding alone
-  unfoldable pub wrongEnter : Cmd T → Machine → Bool
-  wrongEnter k m = some-of (λ x. not (holds (seek most-bindings (m .store .bindings) (m .thread .env) x) (λ v. true))) (usesVar k)
+  -- an act, with these values in hand, bindings and enabled keys
+  unfoldable pub acting : Cmd T → List Value → ℕ → KeySet → Store → Needs
+  acting k h env on s =
+      record {
+        suited = suit (wantsOf k (length h) .uses) h s and all-of (λ x. holds (seek most-bindings (s .bindings) env x) (λ v. true)) (usesVar k);
+        touched = touchedIn (wantsOf k (length h) .uses) h;
+        on = on;
+        places = wantsOf k (length h) .places;
+      }
 
-  unfoldable pub wrongAct : Cmd T → List Value → Store → Bool
-  wrongAct k h s = not (holds (uses k (length h)) (λ us. suit us h s))
+  -- entering takes a frame where operands are evaluated first; else it is the act
+  unfoldable pub toEnter : List ℕ → Cmd T → Machine → Needs
+  toEnter [] k m = acting k [] (m .thread .env) (m .thread .on) (m .store)
+  toEnter (a ∷ l) k m = only (frames 1 ∷ []) (m .thread .on)
 
-  -- a frame that still lacks an operand wants and touches nothing
-  unfoldable pub wrongReceive : Option ℕ → Cmd T → List Value → Store → Bool
-  wrongReceive (some a) k h s = false
-  wrongReceive none k h s = wrongAct k h s
-
-  unfoldable pub touchedReceive : Option ℕ → Cmd T → List Value → List ℕ
-  touchedReceive (some a) k h = []
-  touchedReceive none k h = touchedOf (uses k (length h)) h
+  -- a frame that still lacks an operand needs nothing
+  unfoldable pub toReceive : Option ℕ → Cmd T → Frame → List Value → Machine → Needs
+  toReceive (some a) k f h m = only [] (f .on)
+  toReceive none k f h m = acting k h (f .env) (f .on) (m .store)
 
 module _ {T : Type 0} (code : ℕ → Cmd T) where
-  unfoldable pub wrongHand : Value → List Frame → Store → Bool
-  wrongHand v [] s = false
-  wrongHand v (f ∷ fs) s = wrongReceive (getElem? (worked (code (f .at))) (suc (length (f .hand)))) (code (f .at)) (f .hand ++ (v ∷ [])) s
+  unfoldable pub toHand : Value → List Frame → Machine → Needs
+  toHand v [] m = only [] (m .thread .on)
+  toHand v (f ∷ fs) m = toReceive (getElem? (evaluated (code (f .at))) (suc (length (f .hand)))) (code (f .at)) f (f .hand ++ (v ∷ [])) m
 
-  unfoldable pub wrongOn : Control → Machine → Bool
-  wrongOn (enter e) m = wrongEnter (code e) m
-  wrongOn (hand v) m = wrongHand v (m .thread .frames) (m .store)
+  unfoldable pub needsOn : Control → Machine → Needs
+  needsOn (enter e) m = toEnter (evaluated (code e)) (code e) m
+  needsOn (hand v) m = toHand v (m .thread .frames) m
 
+  unfoldable pub needs : Machine → Needs
+  needs m = needsOn (m .thread .control) m
+
+module _ (needs : Machine → Needs) where
   -- a kind is wrong, or an entry that is needed is not there
   unfoldable pub wrong : Machine → Bool
-  wrong m = wrongOn (m .thread .control) m
+  wrong m = not (needs m .suited)
 
-  unfoldable pub touchedHand : Value → List Frame → List ℕ
-  touchedHand v [] = []
-  touchedHand v (f ∷ fs) = touchedReceive (getElem? (worked (code (f .at))) (suc (length (f .hand)))) (code (f .at)) (f .hand ++ (v ∷ []))
-
-  unfoldable pub touchedOn : Control → List Frame → List ℕ
-  touchedOn (enter e) fs = []
-  touchedOn (hand v) fs = touchedHand v fs
-
-  -- the keys that the next step touches, in order
-  unfoldable pub touched : Machine → List ℕ
-  touched m = touchedOn (m .thread .control) (m .thread .frames)
-
--- the keys enabled where it touches them: the newest frame's own
-unfoldable pub onIn : Control → List Frame → KeySet → KeySet
-onIn (enter e) fs on = on
-onIn (hand v) [] on = on
-onIn (hand v) (f ∷ fs) on = f .on
-
-module _ {T : Type 0} (code : ℕ → Cmd T) where
   -- a key that is touched is not enabled
   unfoldable pub shut : Machine → Bool
-  shut m = anyShut (m .store .keys) (onIn (m .thread .control) (m .thread .frames) (m .thread .on)) (touched code m)
+  shut m = some-of (λ k. not (enabled (m .store .keys) (needs m .on) k)) (needs m .touched)
+
+  -- the next step needs a place that is not there
+  unfoldable pub lacks : Machine → Bool
+  lacks m = anyLacking (needs m .places) m
 
   -- "Stuck, denied and no room are the first that fails": kinds, then keys, then room
   abbrev pub Stuck : Machine → Type 0
-  Stuck m = wrong code m ≡ true
+  Stuck m = wrong m ≡ true
 
   abbrev pub Denied : Machine → Type 0
-  Denied m = (wrong code m ≡ false) × (shut m ≡ true)
+  Denied m = (wrong m ≡ false) × (shut m ≡ true)
 
   abbrev pub NoRoom : Machine → Type 0
-  NoRoom m = (wrong code m ≡ false) × (shut m ≡ false) × (lacks code m ≡ true)
+  NoRoom m = (wrong m ≡ false) × (shut m ≡ false) × (lacks m ≡ true)
 
   -- none fails, and the machine is not finished
   abbrev pub Ready : Machine → Type 0
-  Ready m = (isDone m ≡ false) × (wrong code m ≡ false) × (shut m ≡ false) × (lacks code m ≡ false)
+  Ready m = (isDone m ≡ false) × (wrong m ≡ false) × (shut m ≡ false) × (lacks m ≡ false)

@@ -2,23 +2,23 @@
 use mathlib.Core.Path.{_≡_, refl, sym, ap, _∙_, subst, fun-ext}
 use Prim.Native.Nat.{ℕ, _*_, _/_, _≤_, _<_}
 use native.Mathlib.Omega.{arith}
-use mathlib.Core.Bool.{Bool, true, false}
+use mathlib.Core.Bool.{true, false}
 use mathlib.Core.List.{List, _++_}
 use lib.ListN.{length, drop}
-use lib.Dec.{leb}
 use borrow.Author.Tests.{le-leb, lt-leb}
+use Rattle.order.specs.Effects.{ofWord}
 use Rattle.syntax.specs.Types.{Ty}
-use Rattle.syntax.specs.Reading.{Refusal, Read, read}
+use Rattle.syntax.specs.Reading.{Refusal, read}
 use Rattle.syntax.specs.Job.{Job, sourceOf}
 use Rattle.syntax.specs.Commands.{Cmd}
 use Rattle.syntax.specs.Words.{codeIn}
 use Rattle.syntax.specs.WordLaws.{Bytes}
-use Rattle.typing.specs.Verdict.{Verdict, accept, refuse}
+use Rattle.typing.specs.Verdict.{accept, refuse}
 use Rattle.typing.specs.Tables.{Tables, verdictWith, tablesAfter}
 use Rattle.semantics.specs.Machine.{Machine as Clean}
 use Rattle.semantics.specs.Start.{startOf}
-use Rattle.semantics.specs.Calls.{calls}
-use Rattle.semantics.specs.Demand3.{exprOf, callsOf}
+use Rattle.semantics.specs.Calls.{Steps, stepsOf, calls}
+use Rattle.semantics.specs.Demand3.{exprOf, stepsIn, callsOf}
 use Rattle.machine.specs.declared.Machine.{Machine}
 use Rattle.machine.specs.View.{seen}
 use Rattle.calls.specs.Words.{callsIn, resultWords, lastOf, over}
@@ -33,22 +33,22 @@ use Rattle.job.specs.Answer.{shapeOf}
 use Rattle.start.specs.Starts.{builtFrom, ready-built}
 use Rattle.safety.specs.Accepting.{Accepting, accepting}
 use Rattle.session.specs.declared.Held.{Held}
-use Rattle.session.specs.Session.{roomFor, sessionVerdict, sessionTables, Answered, RefusedWith, SessionTo}
+use Rattle.session.specs.Session.{roomFor, sessionVerdict, sessionTables, RefusedWith, SessionTo}
 
-pub made-from : {code : ℕ → Cmd ℕ} {ws a b : List ℕ} {m n last : Clean} → m ≡ n → Made code ws m a b last → Made code ws n a b last
-made-from {code} {ws} {a} {b} {last = last} e x = subst (λ (z : Clean). Made code ws z a b last) e x
+pub made-from : {K : Steps} {ws a b : List ℕ} {m n last : Clean} → m ≡ n → Made K ws m a b last → Made K ws n a b last
+made-from {K} {ws} {a} {b} {last = last} e x = subst (λ (z : Clean). Made K ws z a b last) e x
 
 -- the calls from the start of the job that the tables hold, with its expressions
-answers-are : (J : Job) (h p ws a b : List ℕ) (m last : Clean) → Made (codeIn h p) ws m a b last → m ≡ startOf (sourceOf J) → ((i : ℕ) → codeIn h p i ≡ exprOf J i)
+answers-are : (J : Job) (h p ws a b : List ℕ) (m last : Clean) → Made (stepsOf (codeIn h p)) ws m a b last → m ≡ startOf (sourceOf J) → ((i : ℕ) → codeIn h p i ≡ exprOf J i)
     → b ≡ over a (resultWords (callsOf J (callsIn ws)))
 answers-are J h p ws a b m last x e c =
-    x .answers ∙ ap (λ z. over a (resultWords (calls (codeIn h p) (callsIn ws) z))) e
-    ∙ ap (λ (z : ℕ → Cmd ℕ). over a (resultWords (calls z (callsIn ws) (startOf (sourceOf J))))) (fun-ext c)
+    x .answers ∙ ap (λ z. over a (resultWords (calls (stepsOf (codeIn h p)) (callsIn ws) z))) e
+    ∙ ap (λ (z : ℕ → Cmd ℕ). over a (resultWords (calls (stepsOf z) (callsIn ws) (startOf (sourceOf J))))) (fun-ext c)
 
-last-is : (J : Job) (h p ws a b : List ℕ) (m last : Clean) → Made (codeIn h p) ws m a b last → m ≡ startOf (sourceOf J) → ((i : ℕ) → codeIn h p i ≡ exprOf J i)
-    → last ≡ lastOf (exprOf J) (callsIn ws) (startOf (sourceOf J))
+last-is : (J : Job) (h p ws a b : List ℕ) (m last : Clean) → Made (stepsOf (codeIn h p)) ws m a b last → m ≡ startOf (sourceOf J) → ((i : ℕ) → codeIn h p i ≡ exprOf J i)
+    → last ≡ lastOf (stepsIn J) (callsIn ws) (startOf (sourceOf J))
 last-is J h p ws a b m last x e c =
-    x .machine ∙ ap (λ z. lastOf (codeIn h p) (callsIn ws) z) e ∙ ap (λ (z : ℕ → Cmd ℕ). lastOf z (callsIn ws) (startOf (sourceOf J))) (fun-ext c)
+    x .machine ∙ ap (λ z. lastOf (stepsOf (codeIn h p)) (callsIn ws) z) e ∙ ap (λ (z : ℕ → Cmd ℕ). lastOf (stepsOf z) (callsIn ws) (startOf (sourceOf J))) (fun-ext c)
 
 room-no : (ws a : List ℕ) → length a / 2 < length ws → roomFor ws a ≡ false
 unfolding roomFor
@@ -81,10 +81,10 @@ pub session-refused : (bytes ws a : List ℕ) (r : Checked) (w x : Tables) (n p 
     → RefusedWith n p o → SessionTo bytes ws o w x a a
 unfolding verdictIn
 session-refused bytes ws a r w x n p o h c v f =
-    let e : refuse (record { number = n; place = p }) ≡ verdictWith w bytes = sym (ap (verdictIn (x .types) (x .sets)) v) ∙ c .verdict in
+    let e : refuse (record { number = n; place = p }) ≡ verdictWith w bytes = sym (ap (verdictIn (x .job .types) (x .job .sets)) v) ∙ c .verdict in
     let b = with-room bytes ws a w h in
     record {
-      verdict = ap (verdictIn (x .types) (x .sets)) (f .verdict) ∙ e ∙ sym b;
+      verdict = ap (verdictIn (x .job .types) (x .job .sets)) (f .verdict) ∙ e ∙ sym b;
       tables = c .tables ∙ tables-room bytes ws a w h;
       entry = λ i s k J q. absurd (let g : verdicts.Refused n p ≡ verdicts.Accepted i s = sym (f .verdict) ∙ k in let z : _≡_ {A = ℕ} 0 1 = cc in omega arith);
       refused = λ q k. record { written = refl; machine = f .machine };
@@ -94,7 +94,7 @@ session-refused bytes ws a r w x n p o h c v f =
 fits : (J : Job) (ws a : List ℕ) → length ws ≤ length a / 2
     → over a (resultWords (callsOf J (callsIn ws))) ≡ resultWords (callsOf J (callsIn ws)) ++ drop (2 * length ws) a
 fits J ws a h =
-    let l : length (resultWords (callsOf J (callsIn ws))) ≡ 2 * length ws = result-length (exprOf J) ws (startOf (sourceOf J)) in
+    let l : length (resultWords (callsOf J (callsIn ws))) ≡ 2 * length ws = result-length (stepsIn J) ws (startOf (sourceOf J)) in
     over-fits a (resultWords (callsOf J (callsIn ws))) (omega (arith, l)) ∙ ap (λ (k : ℕ). resultWords (callsOf J (callsIn ws)) ++ drop k a) l
 
 never : {A : Type 0} (t u : List ℕ) (i s : ℕ) (q : Refusal) → verdictIn t u (verdicts.Accepted i s) ≡ refuse q → A
@@ -106,7 +106,7 @@ unfolding shapeOf
 counted l J K e = let z : J ≡ K = cc in ap (λ (L : Job). lastIn l (length (L .cmds))) z
 
 pub session-accepted : (bytes ws a b : List ℕ) (r : Checked) (w x : Tables) (i s : ℕ) (m : Machine) → length ws ≤ length a / 2 → CheckTo bytes r w x → r .verdict ≡ verdicts.Accepted i s
-    → Made (codeIn (x .heads) (x .slots)) ws (builtFrom (r .shape) (x .names) (x .types) (x .values)) a b (seen m)
+    → Made (stepsOf (codeIn (x .job .heads) (x .job .slots))) ws (builtFrom (r .shape) (x .job .names) (x .job .types) (x .job .values)) a b (seen m)
     → Bytes bytes → SessionTo bytes ws (record { verdict = verdicts.Accepted i s; machine = m }) w x a b
 session-accepted bytes ws a b r w x i s m h c v f by = go (accepting bytes by r w x i s c v)
   where
@@ -114,14 +114,14 @@ session-accepted bytes ws a b r w x i s m h c v f by = go (accepting bytes by r 
     number (verdicts.Accepted j t) = j
     number (verdicts.Refused j t) = 0
 
-    go : {T : Ty} → Accepting bytes (r .shape) T s x → SessionTo bytes ws (record { verdict = verdicts.Accepted i s; machine = m }) w x a b
+    go : {T : Ty} → Accepting bytes (r .shape) T (ofWord s) x → SessionTo bytes ws (record { verdict = verdicts.Accepted i s; machine = m }) w x a b
     go y =
-        let e : verdictIn (x .types) (x .sets) (verdicts.Accepted i s) ≡ verdictWith w bytes = sym (ap (verdictIn (x .types) (x .sets)) v) ∙ c .verdict in
+        let e : verdictIn (x .job .types) (x .job .sets) (verdicts.Accepted i s) ≡ verdictWith w bytes = sym (ap (verdictIn (x .job .types) (x .job .sets)) v) ∙ c .verdict in
         record {
           verdict = e ∙ sym (with-room bytes ws a w h);
           tables = c .tables ∙ tables-room bytes ws a w h;
           entry = λ j t k J q. ap number (sym k) ∙ c .entry i s v ∙ ap (λ (g : Shape). lastIn (x .entries) (g .cmds)) (y .ready .shape) ∙ counted (x .entries) (y .job) J (sym (y .is) ∙ q);
-          refused = λ q k. never (x .types) (x .sets) i s q (e ∙ sym (with-room bytes ws a w h) ∙ k);
+          refused = λ q k. never (x .job .types) (x .job .sets) i s q (e ∙ sym (with-room bytes ws a w h) ∙ k);
           accepted =
               λ T t k. record {
                 job = y .job;

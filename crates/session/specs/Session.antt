@@ -14,7 +14,7 @@ use Rattle.typing.specs.Tables.{Tables, verdictWith, tablesAfter}
 use Rattle.semantics.specs.Machine.{Machine as Clean}
 use Rattle.semantics.specs.Start.{startOf}
 use Rattle.semantics.specs.Calls.{Ran}
-use Rattle.semantics.specs.Demand3.{exprOf, callsOf, Allowed}
+use Rattle.semantics.specs.Demand3.{stepsIn, callsOf, Allowed}
 use Rattle.machine.specs.View.{seen}
 use Rattle.calls.specs.Words.{callsIn, resultWords, lastOf}
 use Rattle.initial.specs.Empty.{emptyMachine}
@@ -44,7 +44,7 @@ pub record Answered (bytes words before after : List ℕ) (last : Clean) : Type 
   pub actual : results ≡ callsOf job (callsIn words)
   pub allowed : Allowed job (callsIn words) results
   pub written : after ≡ resultWords results ++ drop (2 * length words) before
-  pub machine : last ≡ lastOf (exprOf job) (callsIn words) (startOf (sourceOf job))
+  pub machine : last ≡ lastOf (stepsIn job) (callsIn words) (startOf (sourceOf job))
 
 -- no call is made, and there is no machine but the empty one
 pub record Unanswered (before after : List ℕ) (last : Clean) : Type 0 where
@@ -57,7 +57,7 @@ pub record RefusedWith (n p : ℕ) (r : Held) : Type 0 where
   pub machine : seen (r .machine) ≡ emptyMachine
 
 pub record SessionTo (bytes words : List ℕ) (r : Held) (w x : Tables) (before after : List ℕ) : Type 0 where
-  pub verdict : verdictIn (x .types) (x .sets) (r .verdict) ≡ sessionVerdict (roomFor words before) w bytes
+  pub verdict : verdictIn (x .job .types) (x .job .sets) (r .verdict) ≡ sessionVerdict (roomFor words before) w bytes
   pub tables : x ≡ sessionTables (roomFor words before) w bytes
   -- the entry that an acceptance names is that of the last expression
   pub entry : (i s : ℕ) → r .verdict ≡ Accepted i s → (J : Job) → reading bytes ≡ read J → i ≡ lastIn (x .entries) (length (J .cmds))

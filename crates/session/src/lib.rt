@@ -3,9 +3,10 @@ use checker::Verdict;
 use job::Shape;
 use machine::Machine;
 ghost use Rattle.syntax.specs.Words.{codeIn};
+ghost use Rattle.semantics.specs.Calls.{stepsOf};
 ghost use Rattle.machine.specs.View.{seen};
 ghost use Rattle.calls.specs.Made.{Made};
-ghost use Rattle.checker.specs.Answer.{tables};
+ghost use Rattle.checker.specs.Lent.{before, after};
 ghost use Rattle.start.specs.Starts.{builtFrom};
 ghost use Rattle.session.specs.Session.{RefusedWith, SessionTo};
 
@@ -26,7 +27,11 @@ fn answer(
     calls: &[u64],
     answers: &mut [u64],
 ) -> Machine
-    ensures { λ r. ⌜ Made (codeIn (now (heads .entry)) (now (slots .entry))) (now (calls .entry)) (builtFrom g (now (names .entry)) (now (types .entry)) (now (values .entry))) (now (answers .entry)) (now (answers .exit)) (seen r) ⌝ }
+    ensures { λ r. ⌜
+        Made (stepsOf (codeIn (now (heads .entry)) (now (slots .entry)))) (now (calls .entry))
+        (builtFrom g (now (names .entry)) (now (types .entry)) (now (values .entry)))
+        (now (answers .entry)) (now (answers .exit)) (seen r)
+        ⌝ }
 {
     let m = start::built(g, names, types, values);
     calls::make_calls(m, heads, slots, calls, answers)
@@ -59,7 +64,12 @@ pub fn session(
     calls: &[u64],
     answers: &mut [u64],
 ) -> Held
-    ensures { λ r. ⌜ SessionTo (now (job .entry)) (now (calls .entry)) r (tables (now (names .entry)) (now (types .entry)) (now (sets .entry)) (now (values .entry)) (now (heads .entry)) (now (slots .entry)) (now (entries .entry)) (now (effects .entry))) (tables (now (names .exit)) (now (types .exit)) (now (sets .exit)) (now (values .exit)) (now (heads .exit)) (now (slots .exit)) (now (entries .exit)) (now (effects .exit))) (now (answers .entry)) (now (answers .exit)) ⌝ }
+    ensures { λ r. ⌜
+        SessionTo (now (job .entry)) (now (calls .entry)) r
+        (before names types sets values heads slots entries effects)
+        (after names types sets values heads slots entries effects)
+        (now (answers .entry)) (now (answers .exit))
+        ⌝ }
 {
     if answers.len() / 2 < calls.len() {
         return refused(1, 0);

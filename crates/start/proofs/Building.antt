@@ -1,10 +1,10 @@
--- The machine of a job's start, from the tables that hold the job.
+-- The machine of a job's start, from the machine's tables.
 use mathlib.Core.Path.{_≡_, sym, ap, _∙_}
 use Prim.Native.Nat.{ℕ}
 use native.Mathlib.Omega.{arith}
 use mathlib.Core.List.{List, []}
 use lib.ListN.{length}
-use Rattle.syntax.specs.Job.{Job, Src}
+use Rattle.syntax.specs.Job.{Src}
 use Rattle.syntax.specs.Tree.{root}
 use Rattle.semantics.specs.Machine.{Value, Two, Closure, Link, Frame, Control, enter, Machine as Clean}
 use Rattle.semantics.specs.Start.{startOf, valued}
@@ -15,13 +15,7 @@ use Rattle.machine.specs.declared.Control.the-variants.{Enter}
 use Rattle.machine.specs.View.{view, tables}
 use Rattle.initial.specs.declared.Started.{Started}
 use Rattle.initial.specs.Begun.{Begun}
-use Rattle.initial.specs.Held.{Holds, filled-holds}
 use Rattle.initial.proofs.Jobs.{capped-le}
-use Rattle.job.specs.declared.Shape.{Shape}
-use Rattle.job.specs.Answer.{shapeOf}
-use Rattle.tree.specs.Holds as tree
-use Rattle.tree.specs.Filled as tree-filled
-use Rattle.start.specs.Starts.{Lent, Ready}
 
 -- a machine from its parts
 abbrev parts : Control → ℕ → ℕ → List Frame → List Value → List ℕ → List Two → List Closure → List Link → Clean
@@ -33,7 +27,10 @@ same-parts f ps fs e e' n n' o o' cs cs' ks ks' bs bs' a b c d g h = cc
 
 pub started : (S : Src) (b : Started) → Begun S b → (fr pa fu : List ℕ)
     → view
-    (record { now = record { control = Enter (record { 0 = b .root }); env = b .nbindings; on = b .on }; frames = 0; cells = b .ncells; keys = b .nkeys; pairs = 0; functions = 0; bindings = b .nbindings })
+    (record {
+      thread = record { now = record { control = Enter (record { 0 = b .root }); env = b .nbindings; on = b .on }; frames = 0 };
+      used = record { cells = b .ncells; keys = b .nkeys; pairs = 0; functions = 0; bindings = b .nbindings };
+    })
     (tables fr (b .cells) (b .keys) pa fu (b .bindings))
     ≡ startOf S
 unfolding view startOf listOf stackOf
@@ -44,16 +41,3 @@ started S b g fr pa fu =
     (rw (capped-le (b .ncells) 256 (omega (arith, g .few-cells))) (g .cells))
     (rw (capped-le (b .nkeys) 128 (g .few-keys)) (g .keys))
     (rw (capped-le (b .nbindings) 1024 (omega (arith, g .few-bindings))) (g .bindings))
-
-pub start-holds : {J : Job} {g : Shape} {n t s v h p : List ℕ} {kn kt ks kv kh kp : ℕ} → Lent J g n t s v h p kn kt ks kv kh kp → Holds J n (g .names) t v (g .values) (g .rights)
-unfolding shapeOf
-start-holds {J} {kn = kn} {kt = kt} {kv = kv} l = rw (l .shape, l .holds .names, l .holds .types, l .holds .values) (filled-holds J (l .fits) kn kt kv)
-
-pub tree-holds : {J : Job} {g : Shape} {n t s v h p : List ℕ} {kn kt ks kv kh kp : ℕ} → Lent J g n t s v h p kn kt ks kv kh kp
-    → tree.Holds J h p (g .cmds) n (g .names) t s (g .types) (g .values)
-unfolding shapeOf
-tree-holds {J} {kn = kn} {kt = kt} {ks = ks} {kh = kh} {kp = kp} l =
-    rw (l .shape, l .holds .names, l .holds .types, l .holds .sets, l .holds .heads, l .holds .slots) (tree-filled.filled-holds J (l .fits) kh kp kn kt ks)
-
-pub ready : {J : Job} {g : Shape} {n t s v h p : List ℕ} {kn kt ks kv kh kp : ℕ} → Lent J g n t s v h p kn kt ks kv kh kp → Ready J g n t v
-ready l = record { ok = l .ok; shape = l .shape; holds = start-holds l }

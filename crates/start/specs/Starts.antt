@@ -1,30 +1,25 @@
--- Starting a job: "It starts any job free of 1 to 10 and answers those numbers otherwise. It never looks at types." What it answers and what it leaves in the lent tables
--- is defined in `semantics/Starting`.
+-- Starting a job: "It starts any job free of 1 to 10 and answers those numbers otherwise. It never looks at types." What it answers is defined in `semantics/Starting`, what it
+-- leaves in the lent tables in `syntax/Loading`.
 use mathlib.Core.Path.{_≡_, ap}
 use Prim.Native.Nat.{ℕ}
 use mathlib.Core.List.{List}
-use mathlib.Core.Option.{Option, none, some}
 use Rattle.syntax.specs.Job.{Job, sourceOf}
-use Rattle.syntax.specs.Reading.{Refusal}
 use Rattle.syntax.specs.ReadLaws.{JobOk}
-use Rattle.syntax.specs.WordLaws.{JobFits}
-use Rattle.syntax.specs.Tree.{treeRefusal}
+use Rattle.syntax.specs.Loading.{JobTables, tablesAfterLoad}
 use Rattle.semantics.specs.Machine.{Machine as Clean}
 use Rattle.semantics.specs.Start.{startOf}
-use Rattle.semantics.specs.Starting.{Started as Outcome, started, unstarted, unless, JobTables, startWith, cleared, tablesAfterStart}
+use Rattle.semantics.specs.Starting.{Started as Outcome, started, unstarted, startWith}
 use Rattle.machine.specs.View.{seen}
 use Rattle.initial.specs.Empty.{machineOf}
 use Rattle.initial.specs.Begun.{sourceIn}
-use Rattle.initial.specs.Held as start
-use Rattle.initial.specs.Held.{held-start}
+use Rattle.initial.specs.Held.{Holds, held-start}
 use Rattle.job.specs.declared.Shape.{Shape}
-use Rattle.job.specs.Answer.{shapeOf, Holds}
+use Rattle.job.specs.declared.Answer.{Answer}
+use Rattle.job.specs.declared.Answer.the-variants as answers
+use Rattle.job.specs.Answer.{shapeOf}
 use Rattle.start.specs.declared.Told.{Told}
 use Rattle.start.specs.declared.Told.the-variants as told
 use Rattle.start.specs.declared.Opened.{Opened}
-
-abbrev pub jobTables : List ℕ → List ℕ → List ℕ → List ℕ → List ℕ → List ℕ → JobTables
-jobTables n t s v h p = record { names = n; types = t; sets = s; values = v; heads = h; slots = p }
 
 -- the machine that an answer stands for, or its refusal by number and place
 abbrev pub toldIn : Told → Clean → Outcome
@@ -38,34 +33,29 @@ startedIn r = toldIn (r .told) (seen (r .machine))
 pub record Starts (bytes : List ℕ) (r : Opened) (w x : JobTables) : Type 0 where
   pub answer : startedIn r ≡ startWith w bytes
   pub machine : seen (r .machine) ≡ machineOf (startWith w bytes)
-  pub tables : x ≡ tablesAfterStart w bytes
+  pub tables : x ≡ tablesAfterLoad w bytes
 
-unfoldable pub clearedIf : Option Refusal → JobTables → JobTables
-clearedIf none w = w
-clearedIf (some r) w = cleared w
+-- by the answer of the load: what is told, and the counts of which the machine is built
+unfoldable pub toldOf : Answer → Told
+toldOf (answers.Job g) = told.Started
+toldOf (answers.Refused k) = told.Refused (k .number) (k .place)
 
--- the same for a job that is read: its tree is judged
-pub record Judged (J : Job) (r : Opened) (w x : JobTables) : Type 0 where
-  pub answer : startedIn r ≡ unless (treeRefusal (sourceOf J)) (startOf (sourceOf J))
-  pub machine : seen (r .machine) ≡ machineOf (unless (treeRefusal (sourceOf J)) (startOf (sourceOf J)))
-  pub tables : x ≡ clearedIf (treeRefusal (sourceOf J)) w
+abbrev pub noCounts : Shape
+noCounts = record { names = 0; types = 0; values = 0; cmds = 0; rights = 0 }
 
--- the tables hold the job that has so many entries
-pub record Lent (J : Job) (g : Shape) (n t s v h p : List ℕ) (kn kt ks kv kh kp : ℕ) : Type 0 where
-  pub ok : JobOk J
-  pub fits : JobFits J
-  pub shape : g ≡ shapeOf J
-  pub holds : Holds J n t s v h p kn kt ks kv kh kp
+unfoldable pub countsIn : Answer → Shape
+countsIn (answers.Job g) = g
+countsIn (answers.Refused k) = noCounts
+
+-- the machine at the start of the job that words hold, with the counts and rights of g; the empty one where the counts are no job's
+unfoldable pub builtFrom : Shape → List ℕ → List ℕ → List ℕ → Clean
+builtFrom g n t v = startOf (sourceIn n (g .names) t v (g .values) (g .rights) (g .cmds))
 
 -- the tables of names, types and host values hold a job that has so many entries; what the table of types holds past its own does not matter
 pub record Ready (J : Job) (g : Shape) (n t v : List ℕ) : Type 0 where
   pub ok : JobOk J
   pub shape : g ≡ shapeOf J
-  pub holds : start.Holds J n (g .names) t v (g .values) (g .rights)
-
--- the machine at the start of the job that words hold, with the counts and rights of g; the empty one where the counts are no job's
-unfoldable pub builtFrom : Shape → List ℕ → List ℕ → List ℕ → Clean
-builtFrom g n t v = startOf (sourceIn n (g .names) t v (g .values) (g .rights) (g .cmds))
+  pub holds : Holds J n (g .names) t v (g .values) (g .rights)
 
 -- of tables that are ready it is the job's own
 pub ready-built : {J : Job} {g : Shape} {n t v : List ℕ} → Ready J g n t v → builtFrom g n t v ≡ startOf (sourceOf J)

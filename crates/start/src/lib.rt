@@ -1,20 +1,24 @@
-// The start of a job: its bytes are read, its tree is checked, and its machine is built. Types are not looked at.
+// The start of a job: it is loaded, and its machine is built. Types are not looked at.
 use initial::Started;
+use job::Answer;
 use job::Shape;
 use machine::Control;
 use machine::Machine;
 use machine::Now;
 use machine::Thread;
-use store::Expr;
+use store::FRAME_WORDS;
+use store::FUNCTION_WORDS;
+use store::PAIR_WORDS;
+use store::Used;
+use table::Expr;
 ghost use mathlib.Core.Path.{_≡_};
-ghost use Prim.Native.Nat.{ℕ};
-ghost use Rattle.syntax.specs.Job.{Job, Src};
+ghost use Rattle.syntax.specs.Job.{Src};
 ghost use Rattle.semantics.specs.Start.{startOf};
 ghost use Rattle.machine.specs.View.{seen};
 ghost use Rattle.initial.specs.Empty.{emptyMachine};
 ghost use Rattle.initial.specs.Begun.{Begun};
-ghost use Rattle.job.specs.Answer.{Zeroed};
-ghost use Rattle.start.specs.Starts.{jobTables, builtFrom, Starts, Judged, Lent};
+ghost use Rattle.load.specs.Lent.{jobBefore, jobAfter};
+ghost use Rattle.start.specs.Starts.{noCounts, countsIn, toldOf, builtFrom, Starts};
 
 // The job is started, or refused with a number and a place.
 pub enum Told {
@@ -39,37 +43,30 @@ fn machine_of(b: Started) -> Machine
         env: b.nbindings,
         on: on,
     };
-    let t = Thread {
-        now: n,
-        frames: 0,
-        cells: b.ncells as u64,
-        keys: b.nkeys as u64,
+    let t = Thread { now: n, frames: 0 };
+    let ncells = b.ncells as u64;
+    let nkeys = b.nkeys as u64;
+    let nbindings = b.nbindings as u64;
+    let used = Used {
+        cells: ncells,
+        keys: nkeys,
         pairs: 0,
         functions: 0,
-        bindings: b.nbindings as u64,
+        bindings: nbindings,
     };
     let cells = b.cells;
     let keys = b.keys;
     let bindings = b.bindings;
     Machine {
         thread: t,
-        frames: [0u64; 1536],
+        used: used,
+        frames: [0u64; FRAME_WORDS],
         cells: cells,
         keys: keys,
-        pairs: [0u64; 1024],
-        functions: [0u64; 512],
+        pairs: [0u64; PAIR_WORDS],
+        functions: [0u64; FUNCTION_WORDS],
         bindings: bindings,
     }
-}
-
-// The machine where no job is started: nothing is bound, nothing is enabled.
-pub fn empty() -> Machine
-    ensures { λ r. ⌜ seen r ≡ emptyMachine ⌝ }
-{
-    let names = [0u16; 1];
-    let words = [0u64; 1];
-    let b = initial::begin(&names, 0, &words, &words, 0, 0, 0);
-    machine_of(b)
 }
 
 // The machine at the start of the job that the words hold; the empty one where the counts are no job's.
@@ -80,69 +77,49 @@ pub fn built(g: Shape, names: &[u16], types: &[u64], values: &[u64]) -> Machine
     machine_of(b)
 }
 
-// All tables zero to their ends.
-fn clear_all(
-    names: &mut [u16],
-    types: &mut [u64],
-    sets: &mut [u64],
-    values: &mut [u64],
-    heads: &mut [u64],
-    slots: &mut [u16],
-)
-    ensures { λ _. ⌜ Zeroed (now (names .entry)) (now (types .entry)) (now (sets .entry)) (now (values .entry)) (now (heads .entry)) (now (slots .entry)) (now (names .exit)) (now (types .exit)) (now (sets .exit)) (now (values .exit)) (now (heads .exit)) (now (slots .exit)) ⌝ }
+// The counts of no job.
+fn no_counts() -> Shape
+    ensures { λ r. ⌜ r ≡ noCounts ⌝ }
 {
-    job::clear16(names);
-    job::clear64(types);
-    job::clear64(sets);
-    job::clear64(values);
-    job::clear64(heads);
-    job::clear16(slots);
-}
-
-// A job that is read: its tree is checked, and where it is refused the tables are cleared.
-fn judged(
-    g: Shape,
-    names: &mut [u16],
-    types: &mut [u64],
-    sets: &mut [u64],
-    values: &mut [u64],
-    heads: &mut [u64],
-    slots: &mut [u16],
-) -> Opened
-    ensures { λ r. ⌜ ((J : Job) (kn kt ks kv kh kp : ℕ) → Lent J g (now (names .entry)) (now (types .entry)) (now (sets .entry)) (now (values .entry)) (now (heads .entry)) (now (slots .entry)) kn kt ks kv kh kp → Judged J r (jobTables (now (names .entry)) (now (types .entry)) (now (sets .entry)) (now (values .entry)) (now (heads .entry)) (now (slots .entry))) (jobTables (now (names .exit)) (now (types .exit)) (now (sets .exit)) (now (values .exit)) (now (heads .exit)) (now (slots .exit)))) ⌝ }
-{
-    let a = tree::tree(
-        heads,
-        slots,
-        g.cmds,
-        names,
-        g.names,
-        types,
-        sets,
-        g.types,
-        g.values,
-    );
-    match a {
-        tree::Answer::Tree => {
-            let m = built(g, names, types, values);
-            Opened {
-                told: Told::Started,
-                machine: m,
-            }
-        }
-        tree::Answer::Refused(n, e) => {
-            let place = e.0 as usize;
-            clear_all(names, types, sets, values, heads, slots);
-            let m = empty();
-            Opened {
-                told: Told::Refused(n, place),
-                machine: m,
-            }
-        }
+    Shape {
+        names: 0,
+        types: 0,
+        values: 0,
+        cmds: 0,
+        rights: 0,
     }
 }
 
-// Number 1, where a table is too short, writes nothing. Every other refusal leaves all tables zero. A job that starts stands in the tables.
+// The machine where no job is started: nothing is bound, nothing is enabled.
+pub fn empty() -> Machine
+    ensures { λ r. ⌜ seen r ≡ emptyMachine ⌝ }
+{
+    let names = [0u16; 1];
+    let words = [0u64; 1];
+    let g = no_counts();
+    built(g, &names, &words, &words)
+}
+
+// The counts of the job that is loaded, or of none.
+fn counts(a: Answer) -> Shape
+    ensures { λ r. ⌜ r ≡ countsIn a ⌝ }
+{
+    match a {
+        Answer::Job(g) => g,
+        Answer::Refused(_) => no_counts(),
+    }
+}
+
+fn told(a: Answer) -> Told
+    ensures { λ r. ⌜ r ≡ toldOf a ⌝ }
+{
+    match a {
+        Answer::Job(_) => Told::Started,
+        Answer::Refused(r) => Told::Refused(r.number, r.place),
+    }
+}
+
+// The job is loaded, with 1 to 10, and its machine is built; that of a refused job is the empty one. The tables are as the load leaves them.
 pub fn start(
     job: &[u8],
     names: &mut [u16],
@@ -152,17 +129,17 @@ pub fn start(
     heads: &mut [u64],
     slots: &mut [u16],
 ) -> Opened
-    ensures { λ r. ⌜ Starts (now (job .entry)) r (jobTables (now (names .entry)) (now (types .entry)) (now (sets .entry)) (now (values .entry)) (now (heads .entry)) (now (slots .entry))) (jobTables (now (names .exit)) (now (types .exit)) (now (sets .exit)) (now (values .exit)) (now (heads .exit)) (now (slots .exit))) ⌝ }
+    ensures { λ r. ⌜
+        Starts (now (job .entry)) r
+        (jobBefore names types sets values heads slots) (jobAfter names types sets values heads slots)
+        ⌝ }
 {
-    let a = job::read(job, names, types, sets, values, heads, slots);
-    match a {
-        job::Answer::Job(g) => judged(g, names, types, sets, values, heads, slots),
-        job::Answer::Refused(r) => {
-            let m = empty();
-            Opened {
-                told: Told::Refused(r.number, r.place),
-                machine: m,
-            }
-        }
+    let a = load::load(job, names, types, sets, values, heads, slots);
+    let t = told(a);
+    let g = counts(a);
+    let m = built(g, names, types, values);
+    Opened {
+        told: t,
+        machine: m,
     }
 }

@@ -1,4 +1,10 @@
 // Values, sets of keys and the entries of the machine's tables, in words of 64 bits.
+use table::Expr;
+use table::Key;
+use table::at8;
+use table::at64;
+use table::put8;
+use table::put64;
 ghost use mathlib.Core.Path.{_≡_};
 ghost use mathlib.Core.Bool.{cond, true};
 ghost use Prim.Native.Nat.{ℕ, _<_, _≤_, _+_, _*_, _%_, _^_};
@@ -10,10 +16,10 @@ ghost use Rattle.order.specs.Order.{below};
 ghost use Rattle.order.specs.Sets.{bit, some-of};
 ghost use Rattle.semantics.specs.Machine.{most-frames, most-cells, most-keys, most-pairs, most-functions, most-bindings};
 ghost use Rattle.semantics.specs.Keys.{enabled, narrow};
-ghost use Rattle.store.specs.Meaning.{keysIn, kindIn, valueIn, twoIn, closureIn, bindingIn, variableIn, nameIn, ownIn};
+ghost use Rattle.store.specs.Meaning.{word-keys, keysIn, kindIn, valueIn, twoIn, closureIn, bindingIn, variableIn, nameIn, ownIn};
 ghost use Rattle.store.specs.Words.{kindAt, wordIn, cellIn, pairIn, functionIn, linkIn, upIn};
 ghost use Rattle.store.specs.Frames.{headAt, heldIn, freshOf, frameIn, Held};
-ghost use Rattle.store.specs.Tables.{Stored, Put, capped, listOf, stackOf};
+ghost use Rattle.store.specs.Tables.{Put, capped, listOf};
 ghost use Rattle.store.specs.Walk.{walk, bothOf, bitsOf, span};
 
 // Room (document 01): how many frames, cells, keys, pairs, functions and bindings there are at most.
@@ -42,11 +48,21 @@ pub const FUNCTION_WORDS: usize = MOST_FUNCTIONS as usize;
 
 pub const BINDING_WORDS: usize = MOST_BINDINGS as usize * 2;
 
-// The number of a key.
-pub struct Key(pub u8);
+// A set of keys is two numbers of so many bits, one a key; the second begins with this key.
+const WORD_KEYS: u64 = 64;
 
-// The number of an expression.
-pub struct Expr(pub u16);
+const SECOND: u8 = WORD_KEYS as u8;
+
+const ALL_KEYS: u8 = MOST_KEYS as u8;
+
+// How many entries of each table that threads share are used. A count has a word of its own: narrower ones would be packed and unpacked at each step.
+pub struct Used {
+    pub cells: u64,
+    pub keys: u64,
+    pub pairs: u64,
+    pub functions: u64,
+    pub bindings: u64,
+}
 
 // A set of keys: bit i of the first number is key i, of the second key 64 + i.
 pub struct Keys(pub u64, pub u64);
@@ -166,42 +182,6 @@ pub fn pack(v: Value) -> u64
     word(key.0, tag, v.payload)
 }
 
-// The number at i; past the end 0.
-pub fn at64(s: &[u64], i: usize) -> u64
-    ensures { λ r. ⌜ r ≡ getD (now (s .entry)) i 0 ⌝ }
-{
-    if i < s.len() { s[i] } else { 0 }
-}
-
-pub fn at16(s: &[u16], i: usize) -> u16
-    ensures { λ r. ⌜ r ≡ getD (now (s .entry)) i 0 ⌝ }
-{
-    if i < s.len() { s[i] } else { 0 }
-}
-
-pub fn at8(s: &[u8], i: usize) -> u8
-    ensures { λ r. ⌜ r ≡ getD (now (s .entry)) i 0 ⌝ }
-{
-    if i < s.len() { s[i] } else { 0 }
-}
-
-// Past the end nothing is stored.
-fn put64(s: &mut [u64], i: usize, x: u64)
-    ensures { λ _. ⌜ Stored (now (s .entry)) (now (s .exit)) i x ⌝ }
-{
-    if i < s.len() {
-        s[i] = x;
-    }
-}
-
-fn put8(s: &mut [u8], i: usize, x: u8)
-    ensures { λ _. ⌜ Stored (now (s .entry)) (now (s .exit)) i x ⌝ }
-{
-    if i < s.len() {
-        s[i] = x;
-    }
-}
-
 // The smaller of a count and the number of places.
 pub fn cap(n: u64, most: u64) -> u64
     ensures { λ r. ⌜ (r ≡ capped n most) × (r ≤ most) ⌝ }
@@ -209,11 +189,11 @@ pub fn cap(n: u64, most: u64) -> u64
     if n < most { n } else { most }
 }
 
-// The upper key of key i.
-pub fn up_at(s: &[u8; KEY_BYTES], i: u8) -> u8
-    ensures { λ r. ⌜ r ≡ upIn (now (s .entry)) i ⌝ }
+// The upper key of key k.
+pub fn up_at(s: &[u8; KEY_BYTES], k: Key) -> Key
+    ensures { λ r. ⌜ r .0 ≡ upIn (now (s .entry)) (k .0) ⌝ }
 {
-    at8(s, i as usize)
+    Key(at8(s, k.0 as usize))
 }
 
 pub fn put_up(t: &mut [u8; KEY_BYTES], i: u16, k: Key)
@@ -374,14 +354,15 @@ pub fn put_held(t: &mut [u64; FRAME_WORDS], i: u16, v: Value)
 }
 
 // Is k in the set?
-pub fn has(on: Keys, k: u8) -> bool
-    ensures { λ r. ⌜ r ≡ bit (keysIn on) k ⌝ }
+pub fn has(on: Keys, k: Key) -> bool
+    ensures { λ r. ⌜ r ≡ bit (keysIn on) (k .0) ⌝ }
 {
-    if k < 64 {
-        return (on.0 >> k) % 2 == 1;
+    let i = k.0;
+    if i < SECOND {
+        return (on.0 >> i) % 2 == 1;
     }
-    if k < 128 {
-        let j = k - 64;
+    if i < ALL_KEYS {
+        let j = i - SECOND;
         return (on.1 >> j) % 2 == 1;
     }
     false
@@ -398,26 +379,26 @@ fn any(on: Keys) -> bool
 }
 
 // Is k, or a key above it in the tree, in the set?
-fn walk_up(keys: &[u8; KEY_BYTES], n: u64, on: Keys, k: u8) -> bool
-    ensures { λ r. ⌜ r ≡ walk (listOf upIn (now (keys .entry)) n) (bit (keysIn on)) (ltb 0 (keysIn on)) n k ⌝ }
+fn walk_up(keys: &[u8; KEY_BYTES], n: u64, on: Keys, k: Key) -> bool
+    ensures { λ r. ⌜ r ≡ walk (listOf upIn (now (keys .entry)) n) (bit (keysIn on)) (ltb 0 (keysIn on)) n (k .0) ⌝ }
 {
     let mut x = k;
     let mut left = n;
     while 0 < left {
-        if x == 0 {
+        if x.0 == 0 {
             return any(on);
         }
         if has(on, x) {
             return true;
         }
-        let i = x as u64;
+        let i = x.0 as u64;
         if n <= i {
             return false;
         }
         x = up_at(keys, x);
         left = left - 1;
     }
-    if x == 0 {
+    if x.0 == 0 {
         return any(on);
     }
     has(on, x)
@@ -431,61 +412,62 @@ pub fn enabled(keys: &[u8; KEY_BYTES], n: u64, on: Keys, k: Key) -> bool
         return true;
     }
     let m = cap(n, MOST_KEYS);
-    walk_up(keys, m, on, k.0)
+    walk_up(keys, m, on, k)
 }
 
 // Is k one of the keys?
-fn is_own(own: Own, k: u8) -> bool
-    ensures { λ r. ⌜ r ≡ some-of (eqb k) (ownIn own) ⌝ }
+fn is_own(own: Own, k: Key) -> bool
+    ensures { λ r. ⌜ r ≡ some-of (eqb (k .0)) (ownIn own) ⌝ }
 {
+    let i = k.0;
     let a = own.0;
     let b = own.1;
     let c = own.2;
     let d = own.3;
-    if k == a.0 {
+    if i == a.0 {
         return true;
     }
-    if k == b.0 {
+    if i == b.0 {
         return true;
     }
-    if k == c.0 {
+    if i == c.0 {
         return true;
     }
-    k == d.0
+    i == d.0
 }
 
 // Is k, or a key above it in the tree, one of the keys?
-fn walk_own(keys: &[u8; KEY_BYTES], n: u64, own: Own, k: u8) -> bool
-    ensures { λ r. ⌜ r ≡ walk (listOf upIn (now (keys .entry)) n) (λ x. some-of (eqb x) (ownIn own)) true n k ⌝ }
+fn walk_own(keys: &[u8; KEY_BYTES], n: u64, own: Own, k: Key) -> bool
+    ensures { λ r. ⌜ r ≡ walk (listOf upIn (now (keys .entry)) n) (λ x. some-of (eqb x) (ownIn own)) true n (k .0) ⌝ }
 {
     let mut x = k;
     let mut left = n;
     while 0 < left {
-        if x == 0 {
+        if x.0 == 0 {
             return true;
         }
         if is_own(own, x) {
             return true;
         }
-        let i = x as u64;
+        let i = x.0 as u64;
         if n <= i {
             return false;
         }
         x = up_at(keys, x);
         left = left - 1;
     }
-    if x == 0 {
+    if x.0 == 0 {
         return true;
     }
     is_own(own, x)
 }
 
 // Is k below both an enabled key and one of the limit's own?
-fn both(keys: &[u8; KEY_BYTES], n: u64, on: Keys, own: Own, k: u8) -> bool
+fn both(keys: &[u8; KEY_BYTES], n: u64, on: Keys, own: Own, k: Key) -> bool
     requires { ⌜ n ≤ most-keys ⌝ }
-    ensures { λ r. ⌜ r ≡ bothOf (listOf upIn (now (keys .entry)) n) (keysIn on) (ownIn own) k ⌝ }
+    ensures { λ r. ⌜ r ≡ bothOf (listOf upIn (now (keys .entry)) n) (keysIn on) (ownIn own) (k .0) ⌝ }
 {
-    if k == 0 {
+    if k.0 == 0 {
         return false;
     }
     if walk_up(keys, n, on, k) {
@@ -495,7 +477,7 @@ fn both(keys: &[u8; KEY_BYTES], n: u64, on: Keys, own: Own, k: u8) -> bool
 }
 
 fn one_bit(yes: bool, j: u8) -> u64
-    requires { ⌜ j < 64 ⌝ }
+    requires { ⌜ j < word-keys ⌝ }
     ensures { λ r. ⌜ r ≡ cond yes (2 ^ j) 0 ⌝ }
 {
     if yes {
@@ -504,27 +486,27 @@ fn one_bit(yes: bool, j: u8) -> u64
     0
 }
 
-// How many of n keys lie from `base` on, 64 at most.
+// How many of n keys lie from `base` on, as many at most as a number holds.
 fn width(n: u64, base: u64) -> u64
-    ensures { λ r. ⌜ (r ≡ span n base) × (r ≤ 64) ⌝ }
+    ensures { λ r. ⌜ (r ≡ span n base) × (r ≤ word-keys) ⌝ }
 {
     if n < base {
         return 0;
     }
     let m = n - base;
-    if m < 64 { m } else { 64 }
+    if m < WORD_KEYS { m } else { WORD_KEYS }
 }
 
 // Of the keys from `base` on, those below both, as bits.
-fn gather(keys: &[u8; KEY_BYTES], n: u64, on: Keys, own: Own, base: u8) -> u64
-    requires { ⌜ (base ≤ 64) × (n ≤ most-keys) ⌝ }
-    ensures { λ r. ⌜ r ≡ bitsOf (bothOf (listOf upIn (now (keys .entry)) n) (keysIn on) (ownIn own)) base (span n base) ⌝ }
+fn gather(keys: &[u8; KEY_BYTES], n: u64, on: Keys, own: Own, base: Key) -> u64
+    requires { ⌜ (base .0 ≤ word-keys) × (n ≤ most-keys) ⌝ }
+    ensures { λ r. ⌜ r ≡ bitsOf (bothOf (listOf upIn (now (keys .entry)) n) (keysIn on) (ownIn own)) (base .0) (span n (base .0)) ⌝ }
 {
-    let m = width(n, base as u64) as u8;
+    let m = width(n, base.0 as u64) as u8;
     let mut acc: u64 = 0;
     let mut j: u8 = 0;
     while j < m {
-        let yes = both(keys, n, on, own, base + j);
+        let yes = both(keys, n, on, own, Key(base.0 + j));
         acc = acc | one_bit(yes, j);
         j = j + 1;
     }
@@ -536,7 +518,10 @@ pub fn narrow(keys: &[u8; KEY_BYTES], n: u64, on: Keys, own: Own) -> Keys
     ensures { λ r. ⌜ keysIn r ≡ narrow (listOf upIn (now (keys .entry)) (capped n most-keys)) (keysIn on) (ownIn own) ⌝ }
 {
     let m = cap(n, MOST_KEYS);
-    Keys(gather(keys, m, on, own, 0), gather(keys, m, on, own, 64))
+    Keys(
+        gather(keys, m, on, own, Key(0)),
+        gather(keys, m, on, own, Key(SECOND)),
+    )
 }
 
 // The set with a key added, if it is one of the n keys that there are.
@@ -548,8 +533,8 @@ pub fn add(n: u64, on: Keys, k: Key) -> Keys
     if m <= i as u64 {
         return on;
     }
-    if i < 64 {
+    if i < SECOND {
         return Keys(one_bit(true, i) | on.0, on.1);
     }
-    Keys(on.0, one_bit(true, i - 64) | on.1)
+    Keys(on.0, one_bit(true, i - SECOND) | on.1)
 }

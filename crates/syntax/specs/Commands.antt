@@ -1,44 +1,46 @@
 -- The commands of a job (document 01, "The bytes of a job"): their bytes, operands and sections, and the expressions that they write.
 use Prim.Native.Nat.{ℕ, _+_, _-_, _*_}
-use mathlib.Core.Bool.{Bool, true, cond}
-use mathlib.Core.List.{List, [], _∷_, map, flatMap}
+use mathlib.Core.Bool.{Bool, true, false, cond}
+use mathlib.Core.List.{List, [], _∷_, flatMap}
 use mathlib.Core.Option.{Option, none, some}
-use lib.ListN.{length, replicate, take, drop}
-use lib.Dec.{eqb}
+use lib.ListN.{length, getD, replicate, take, drop}
+use lib.Dec.{eqb, leb}
+use Rattle.order.specs.Bools.{_and_}
+use Rattle.order.specs.Sets.{all-of}
 
 -- an expression; T is how a type operand is given: by its number, or as a tree
 pub data Cmd (T : Type 0) : Type 0 where
-  -- 30 n
+  -- 0x30 n
   c-num : ℕ → Cmd T
-  -- 31: the top's limit key
+  -- 0x31: the top's limit key
   c-top : Cmd T
-  -- 32 v
+  -- 0x32 v
   c-var : ℕ → Cmd T
-  -- 33 e e
+  -- 0x33 e e
   c-pair : ℕ → ℕ → Cmd T
-  -- 34 e i: part 1 (true) or 2
+  -- 0x34 e i: part 1 (true) or 2
   c-part : ℕ → Bool → Cmd T
-  -- 35 v t e
+  -- 0x35 v t e
   c-fn : ℕ → T → ℕ → Cmd T
-  -- 36 e e: function, argument
+  -- 0x36 e e: function, argument
   c-app : ℕ → ℕ → Cmd T
-  -- 37 t e
+  -- 0x37 t e
   c-new : T → ℕ → Cmd T
-  -- 38 e e: cell, value
+  -- 0x38 e e: cell, value
   c-asg : ℕ → ℕ → Cmd T
-  -- 39 e
+  -- 0x39 e
   c-read : ℕ → Cmd T
-  -- 3A op e e: sum (true) or difference
+  -- 0x3A op e e: sum (true) or difference
   c-sum : Bool → ℕ → ℕ → Cmd T
-  -- 3B e e e t: number, branch if not zero, branch if zero, result type
+  -- 0x3B e e e t: number, branch if not zero, branch if zero, result type
   c-test : ℕ → ℕ → ℕ → T → Cmd T
-  -- 3C c e e e e e: limit keys, body
+  -- 0x3C c e e e e e: limit keys, body
   c-lim : List ℕ → ℕ → Cmd T
-  -- 3D e e: grant key, body
+  -- 0x3D e e: grant key, body
   c-grant : ℕ → ℕ → Cmd T
-  -- 3E v r e e t: variable, local name, limit key above, body, result type
+  -- 0x3E v r e e t: variable, local name, limit key above, body, result type
   c-newkey : ℕ → ℕ → ℕ → ℕ → T → Cmd T
-  -- 3F e e: value, limit key
+  -- 0x3F e e: value, limit key
   c-assoc : ℕ → ℕ → Cmd T
 
 -- the same with another form of type operands
@@ -72,32 +74,52 @@ pub data Op : Type 0 where
 pub data Role : Type 0 where
   -- e: an expression that is evaluated before the act; one that is entered later, in the same scope; one where what the command binds is in scope
   r-evaluated r-entered r-inside : Role
-  -- c: how many of the next four places are used; e e e e: limit keys, evaluated before the act; the places that are not used, FFFF
+  -- c: how many of the next four places are used; e e e e: limit keys, evaluated before the act; the places that are not used, 0xFFFF
   r-count r-keys r-unused : Role
   -- v: a variable that is used; one that is bound, of the type operand; one that is bound, of the limit and grant key of the name that is bound
   r-variable r-parameter r-keypair : Role
   -- r: a local name that is bound, with a key; q, r: a name
   r-local r-name : Role
-  -- t: a type; s: a set of names; n: a number; op, i: a choice of two
-  r-type r-set r-number r-choice : Role
+  -- t: a type; s: a set of names; n: a number
+  r-type r-set r-number : Role
+  -- op, i: a choice from the first number to the second
+  r-choice : ℕ → ℕ → Role
 
--- the widths of what a role stands for; the places of 3C's keys are four, used or not
-unfoldable pub widths : Role → List ℕ
-widths r-evaluated = 2 ∷ []
-widths r-entered = 2 ∷ []
-widths r-inside = 2 ∷ []
-widths r-count = 1 ∷ []
-widths r-keys = 2 ∷ 2 ∷ 2 ∷ 2 ∷ []
-widths r-unused = []
-widths r-variable = 1 ∷ []
-widths r-parameter = 1 ∷ []
-widths r-keypair = 1 ∷ []
-widths r-local = 1 ∷ []
-widths r-name = 1 ∷ []
-widths r-type = 2 ∷ []
-widths r-set = 8 ∷ []
-widths r-number = 4 ∷ []
-widths r-choice = 1 ∷ []
+-- what there is to know of a role: a number of its own, by which roles are compared; the widths of its operands; and whether the numbers from there on are allowed
+pub record Traits : Type 0 where
+  pub code : ℕ
+  pub widths : List ℕ
+  pub allows : List ℕ → Bool
+
+abbrev pub free : ℕ → List ℕ → Traits
+free c ws = record { code = c; widths = ws; allows = λ o. true }
+
+abbrev pub ranged : ℕ → (List ℕ → Bool) → Traits
+ranged c p = record { code = c; widths = 1 ∷ []; allows = p }
+
+-- the places of 0x3C's keys are four, used or not: "c (0 to 4) keys, unused key operands FFFF"
+unfoldable pub traits : Role → Traits
+traits r-evaluated = free 0 (2 ∷ [])
+traits r-entered = free 1 (2 ∷ [])
+traits r-inside = free 2 (2 ∷ [])
+traits r-count = ranged 3 (λ o. leb (getD o 0 0) 4 and all-of (λ e. eqb e 0xFFFF) (drop (getD o 0 0) (take 4 (drop 1 o))))
+traits r-keys = free 4 (2 ∷ 2 ∷ 2 ∷ 2 ∷ [])
+traits r-unused = free 5 []
+traits r-variable = free 6 (1 ∷ [])
+traits r-parameter = free 7 (1 ∷ [])
+traits r-keypair = free 8 (1 ∷ [])
+traits r-local = free 9 (1 ∷ [])
+traits r-name = free 10 (1 ∷ [])
+traits r-type = free 11 (2 ∷ [])
+traits r-set = free 12 (8 ∷ [])
+traits r-number = free 13 (4 ∷ [])
+traits (r-choice lo hi) = ranged 14 (λ o. leb lo (getD o 0 0) and leb (getD o 0 0) hi)
+
+-- every operand is one that its role allows
+unfoldable pub allowed : List Role → List ℕ → Bool
+unfolding traits
+allowed [] o = true
+allowed (r ∷ rs) o = cond (traits r .allows o) (allowed rs (drop (length (traits r .widths)) o)) false
 
 -- "Sections come in this order": names 0, types 1, host values 2, rights 3, expressions 4, the end 5
 pub record Form : Type 0 where
@@ -108,7 +130,7 @@ pub record Form : Type 0 where
 abbrev pub form-of : ℕ → ℕ → List Role → Form
 form-of b s rs = record { byte = b; section = s; roles = rs }
 
--- one row a command: its byte, its section, and what its operands are for, in order
+-- one row a command: its byte, its section, and what its operands are for, in order. In rows of names, types, host values and rights a role says the width alone
 unfoldable pub form : Op → Form
 form o-host = form-of 0x01 0 (r-name ∷ [])
 form o-local = form-of 0x02 0 (r-name ∷ [])
@@ -124,13 +146,13 @@ form x-number = form-of 0x30 4 (r-number ∷ [])
 form x-top = form-of 0x31 4 []
 form x-variable = form-of 0x32 4 (r-variable ∷ [])
 form x-pair = form-of 0x33 4 (r-evaluated ∷ r-evaluated ∷ [])
-form x-part = form-of 0x34 4 (r-evaluated ∷ r-choice ∷ [])
+form x-part = form-of 0x34 4 (r-evaluated ∷ r-choice 1 2 ∷ [])
 form x-function = form-of 0x35 4 (r-parameter ∷ r-type ∷ r-inside ∷ [])
 form x-apply = form-of 0x36 4 (r-evaluated ∷ r-evaluated ∷ [])
 form x-cell = form-of 0x37 4 (r-type ∷ r-evaluated ∷ [])
 form x-assign = form-of 0x38 4 (r-evaluated ∷ r-evaluated ∷ [])
 form x-read = form-of 0x39 4 (r-evaluated ∷ [])
-form x-sum = form-of 0x3A 4 (r-choice ∷ r-evaluated ∷ r-evaluated ∷ [])
+form x-sum = form-of 0x3A 4 (r-choice 0 1 ∷ r-evaluated ∷ r-evaluated ∷ [])
 form x-test = form-of 0x3B 4 (r-evaluated ∷ r-entered ∷ r-entered ∷ r-type ∷ [])
 form x-limit = form-of 0x3C 4 (r-count ∷ r-keys ∷ r-unused ∷ r-entered ∷ [])
 form x-grant = form-of 0x3D 4 (r-evaluated ∷ r-entered ∷ [])
@@ -138,7 +160,7 @@ form x-newkey = form-of 0x3E 4 (r-keypair ∷ r-local ∷ r-evaluated ∷ r-insi
 form x-associate = form-of 0x3F 4 (r-evaluated ∷ r-evaluated ∷ [])
 form o-end = form-of 0xFF 5 []
 
--- what is given for an operand: numbers, one but for 3C's keys; or a type
+-- what is given for an operand: numbers, one but for 0x3C's keys; or a type
 pub data Operand (T : Type 0) : Type 0 where
   numbers : List ℕ → Operand T
   type : T → Operand T
@@ -172,22 +194,17 @@ row (c-grant a b) = row-of x-grant (one a ∷ one b ∷ [])
 row (c-newkey v r a b t) = row-of x-newkey (one v ∷ one r ∷ one a ∷ one b ∷ type t ∷ [])
 row (c-assoc a b) = row-of x-associate (one a ∷ one b ∷ [])
 
-pub record Coded : Type 0 where
-  pub byte : ℕ
-  pub op : Op
-
--- every command byte
-unfoldable pub commands : List Coded
-unfolding form
+-- every command
+unfoldable pub commands : List Op
 commands =
-    map (λ o. record { byte = form o .byte; op = o })
-    (o-host ∷ o-local ∷ o-number ∷ o-pair ∷ o-cell ∷ o-function ∷ o-limit ∷ o-grant ∷ o-value ∷ o-rights
+    o-host ∷ o-local ∷ o-number ∷ o-pair ∷ o-cell ∷ o-function ∷ o-limit ∷ o-grant ∷ o-value ∷ o-rights
     ∷ x-number ∷ x-top ∷ x-variable ∷ x-pair ∷ x-part ∷ x-function ∷ x-apply ∷ x-cell ∷ x-assign ∷ x-read
-    ∷ x-sum ∷ x-test ∷ x-limit ∷ x-grant ∷ x-newkey ∷ x-associate ∷ o-end ∷ [])
+    ∷ x-sum ∷ x-test ∷ x-limit ∷ x-grant ∷ x-newkey ∷ x-associate ∷ o-end ∷ []
 
-unfoldable pub findOp : List Coded → ℕ → Option Op
+unfoldable pub findOp : List Op → ℕ → Option Op
+unfolding form
 findOp [] b = none
-findOp (c ∷ l) b = cond (eqb b (c .byte)) (some (c .op)) (findOp l b)
+findOp (o ∷ l) b = cond (eqb b (form o .byte)) (some o) (findOp l b)
 
 -- the command of a byte, if it is one
 unfoldable pub opOf : ℕ → Option Op
@@ -195,8 +212,8 @@ opOf b = findOp commands b
 
 -- the widths of a command's operands
 unfoldable pub operands : Op → List ℕ
-unfolding form widths flatMap
-operands o = flatMap widths (form o .roles)
+unfolding form traits flatMap
+operands o = flatMap (λ r. traits r .widths) (form o .roles)
 
 unfoldable pub total : List ℕ → ℕ
 total [] = 0

@@ -1,34 +1,16 @@
 -- What the operands of an expression are: expressions, variables, types. Uses, references and scopes go through these; all are read off the command's row.
-use Prim.Native.Nat.{ℕ, zero, suc}
+use Prim.Native.Nat.{ℕ}
 use mathlib.Core.Bool.{Bool, true, false, cond}
 use mathlib.Core.List.{List, [], _∷_, _++_}
+use lib.ListN.{getD}
 use lib.Dec.{eqb}
-use Rattle.syntax.specs.Commands.{Cmd, c-num, Role, r-evaluated, r-entered, r-inside, r-count, r-keys, r-unused, r-variable, r-parameter, r-keypair, r-local, r-name, r-type, r-set, r-number, r-choice}
-use Rattle.syntax.specs.Commands.{form, Operand, numbers, type, row}
-
--- roles by number, so that they can be compared
-unfoldable pub code : Role → ℕ
-code r-evaluated = 0
-code r-entered = 1
-code r-inside = 2
-code r-count = 3
-code r-keys = 4
-code r-unused = 5
-code r-variable = 6
-code r-parameter = 7
-code r-keypair = 8
-code r-local = 9
-code r-name = 10
-code r-type = 11
-code r-set = 12
-code r-number = 13
-code r-choice = 14
+use Rattle.syntax.specs.Commands.{Cmd, c-num, Role, r-evaluated, r-entered, r-inside, r-keys, r-variable, r-parameter, r-keypair, r-local, traits, form, Operand, numbers, type, row}
 
 -- a role is one of the wanted ones; some role is
 unfoldable pub wanted : List Role → Role → Bool
-unfolding code
+unfolding traits
 wanted [] r = false
-wanted (w ∷ ws) r = cond (eqb (code r) (code w)) true (wanted ws r)
+wanted (w ∷ ws) r = cond (eqb (traits r .code) (traits w .code)) true (wanted ws r)
 
 unfoldable pub someWanted : List Role → List Role → Bool
 unfolding wanted
@@ -38,9 +20,7 @@ someWanted ws (r ∷ rs) = cond (wanted ws r) true (someWanted ws rs)
 module _ {T : Type 0} where
   -- the command of an expression; past the end a number
   unfoldable pub nth : List (Cmd T) → ℕ → Cmd T
-  nth [] i = c-num 0
-  nth (k ∷ l) zero = k
-  nth (k ∷ l) (suc i) = nth l i
+  nth l i = getD l i (c-num 0)
 
   -- the numbers given for the wanted roles, in order; those for the last wanted role stand as they are
   unfoldable pub having : List Role → List Role → List (Operand T) → List ℕ

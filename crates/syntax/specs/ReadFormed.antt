@@ -13,8 +13,7 @@ use Rattle.order.specs.Bools.{_and_, _or_, and-l, and-r, or-cases, or-l, or-r, 
 use Rattle.order.specs.SetLaws.{all-of→}
 use Rattle.order.specs.OrderLaws.{Proper, proper-two, proper-snoc, getElem?-append, getElem?-lt, length-snoc}
 use Rattle.order.specs.Effects.{Effect, names}
-use Rattle.order.specs.EffectLaws.{name-mem}
-use Rattle.syntax.specs.Types.{Ty, num, pair, cell, fn, lim, grant, TypeEntry, e-num, e-pair, e-cell, e-fn, e-lim, e-grant, entryTree, treeIn, tree, depth, namesIn}
+use Rattle.syntax.specs.Types.{Ty, num, pair, cell, fn, lim, grant, TypeEntry, e-num, e-pair, e-cell, e-fn, e-lim, e-grant, entryTree, treeIn, tree, depth, namesIn, byType, onNum, onCell, onGrant, onLim}
 use Rattle.syntax.specs.TypeLaws.{Part, of-pair-1, of-pair-2, of-cell, of-fn-1, of-fn-2, Earlier, tree-entry, tree-kept}
 use Rattle.syntax.specs.Commands.{Cmd, c-num, mapCmd}
 pub use Rattle.syntax.specs.RowLaws.{children-map, bindsVar-map, bindsName-map, typesOf-map}
@@ -133,7 +132,7 @@ declared-lt ds q e = ltb-true q (2 + length ds) e
 -- a written set has declared names alone
 set-declared : (ds : List Name) (s : Effect) → setOk ds s ≡ true → {n : ℕ} → List·Memᴰ n (names s) → declared ds n ≡ true
 unfolding setOk
-set-declared ds s h m = all-of→ (declared ds) (and-l _ _ h) (name-mem s m .0)
+set-declared ds s h m = all-of→ (declared ds) (and-l _ _ h) m
 
 zero-declared : (ds : List Name) → declared ds 0 ≡ true
 unfolding declared
@@ -198,7 +197,7 @@ tree-declared ds b i x m = levels-declared ds b (suc i) i x m
 -- Types of host values
 
 unkeyed : (ds : List Name) (q : ℕ) (A : Ty) → openName ds q ≡ true → unkeyedNumber A ≡ true → HostTyped ds (cell q A)
-unfolding unkeyedNumber
+unfolding unkeyedNumber onNum byType
 unkeyed ds q (num p) e h = subst⁻¹ (λ z. HostTyped ds (cell q (num z))) (eqb-true p 0 h) (ht-cell e)
 unkeyed ds q (pair p A B) e h = absurd (false≢true h)
 unkeyed ds q (cell p A) e h = absurd (false≢true h)
@@ -224,7 +223,7 @@ unfolding openName
 zero-open ds = or-l (eqb 0 0) (hostName ds 0) refl
 
 pub host-typed : {ds : List Name} {ts : List TypeEntry} → TypesOk ds ts → (t n : ℕ) → hostTypeOk ds (tree ts t) n ≡ true → HostTyped ds (tree ts t)
-unfolding tree treeIn entryTree typeOk partsOk hostTypeOk
+unfolding tree treeIn entryTree typeOk partsOk hostTypeOk onCell byType onLim onGrant
 host-typed {ds} {ts} b t n e = at (getElem? ts t) (λ x z. and-l _ _ (built-at _ b t x z)) e
   where
     key : (q r : ℕ) → (declared ds q and declared ds r and not (eqb r 0)) ≡ true → (openName ds q and openName ds r and eqb n 0) ≡ true → (openName ds q ≡ true) × (hostName ds r ≡ true)

@@ -12,14 +12,13 @@ use lib.Dec.{eqb, ltb, leb}
 use borrow.Author.Tests.{ltb-false, leb-false, eqb-true, eqb-false, eq-eqb, le-leb}
 use Rattle.order.specs.Bools.{_and_, _or_}
 use Rattle.order.specs.OrderLaws.{getElem?-lt, getElem?-snoc, length-snoc}
-use Rattle.order.specs.Sets.{all-of}
 use Rattle.order.specs.Effects.{Effect}
 use Rattle.syntax.specs.Types.{TypeEntry}
-use Rattle.syntax.specs.Commands.{Cmd, c-part, c-sum, c-lim, Op, o-host, o-local, o-number, o-pair, o-cell, o-function, o-limit, o-grant, o-value, o-rights, o-end, opOf, operands, width, sectionOf, fields}
+use Rattle.syntax.specs.Commands.{Cmd, Op, form, allowed, o-host, o-local, o-number, o-pair, o-cell, o-function, o-limit, o-grant, o-value, o-rights, o-end, opOf, operands, width, sectionOf, fields}
 use Rattle.syntax.specs.Commands.{x-number, x-top, x-variable, x-pair, x-part, x-function, x-apply, x-cell, x-assign, x-read, x-sum, x-test, x-limit, x-grant, x-newkey, x-associate}
 use Rattle.syntax.specs.Job.{Name, HostValue, Job}
 use Rattle.syntax.specs.Reading.{Refusal, State, most-names, most-types, most-variables, most-expressions, nameOk, typeOk, hostValueOk, rightsOk, cmdOk}
-use Rattle.syntax.specs.Reading.{Written, w-name, w-type, w-value, w-rights, w-cmd, w-end, unwritten, partOf, sumOf, limitOf, written, given, enter, misplaced, full}
+use Rattle.syntax.specs.Reading.{Written, w-name, w-type, w-value, w-rights, w-cmd, w-end, unwritten, means, written, given, enter, misplaced, full}
 use Rattle.syntax.specs.Reading.{Step, refuse, proceed, finish, settle, command, Read, refused, read, ended, onward, onOp, readFrom, noJob, reading}
 
 -- a list built one entry after another at its end, each with a test that knows the entries before it
@@ -139,51 +138,43 @@ pub data Wrote : ℕ → Written → Type 0 where
   wrote-end : Wrote 5 w-end
   wrote-none : (sec : ℕ) → Wrote sec unwritten
 
-if-cmd : (b : Bool) (k : Cmd ℕ) {w : Written} → Wrote 4 w → Wrote 4 (cond b (w-cmd k) w)
-if-cmd true k w = wrote-cmd k
-if-cmd false k w = w
-
-wrote-part : (a i : ℕ) → Wrote 4 (partOf a i)
-unfolding partOf
-wrote-part a i = if-cmd (eqb i 1) (c-part a true) (if-cmd (eqb i 2) (c-part a false) (wrote-none 4))
-
-wrote-sum : (i a b : ℕ) → Wrote 4 (sumOf i a b)
-unfolding sumOf
-wrote-sum i a b = if-cmd (eqb i 0) (c-sum true a b) (if-cmd (eqb i 1) (c-sum false a b) (wrote-none 4))
-
-wrote-limit : (c : ℕ) (ks : List ℕ) (b : ℕ) → Wrote 4 (limitOf c ks b)
-unfolding limitOf
-wrote-limit c ks b = if-cmd (leb c 4 and all-of (λ e. eqb e 0xFFFF) (drop c ks)) (c-lim (take c ks) b) (wrote-none 4)
+wrote-means : (op : Op) (o : List ℕ) → Wrote (sectionOf op) (means op o)
+unfolding sectionOf means
+wrote-means o-host o = wrote-name _
+wrote-means o-local o = wrote-name _
+wrote-means o-number o = wrote-type _
+wrote-means o-pair o = wrote-type _
+wrote-means o-cell o = wrote-type _
+wrote-means o-function o = wrote-type _
+wrote-means o-limit o = wrote-type _
+wrote-means o-grant o = wrote-type _
+wrote-means o-value o = wrote-value _
+wrote-means o-rights o = wrote-rights _
+wrote-means x-number o = wrote-cmd _
+wrote-means x-top o = wrote-cmd _
+wrote-means x-variable o = wrote-cmd _
+wrote-means x-pair o = wrote-cmd _
+wrote-means x-part o = wrote-cmd _
+wrote-means x-function o = wrote-cmd _
+wrote-means x-apply o = wrote-cmd _
+wrote-means x-cell o = wrote-cmd _
+wrote-means x-assign o = wrote-cmd _
+wrote-means x-read o = wrote-cmd _
+wrote-means x-sum o = wrote-cmd _
+wrote-means x-test o = wrote-cmd _
+wrote-means x-limit o = wrote-cmd _
+wrote-means x-grant o = wrote-cmd _
+wrote-means x-newkey o = wrote-cmd _
+wrote-means x-associate o = wrote-cmd _
+wrote-means o-end o = wrote-end
 
 pub wrote : (op : Op) (o : List ℕ) → Wrote (sectionOf op) (written op o)
-unfolding sectionOf written
-wrote o-host o = wrote-name _
-wrote o-local o = wrote-name _
-wrote o-number o = wrote-type _
-wrote o-pair o = wrote-type _
-wrote o-cell o = wrote-type _
-wrote o-function o = wrote-type _
-wrote o-limit o = wrote-type _
-wrote o-grant o = wrote-type _
-wrote o-value o = wrote-value _
-wrote o-rights o = wrote-rights _
-wrote x-number o = wrote-cmd _
-wrote x-top o = wrote-cmd _
-wrote x-variable o = wrote-cmd _
-wrote x-pair o = wrote-cmd _
-wrote x-part o = wrote-part _ _
-wrote x-function o = wrote-cmd _
-wrote x-apply o = wrote-cmd _
-wrote x-cell o = wrote-cmd _
-wrote x-assign o = wrote-cmd _
-wrote x-read o = wrote-cmd _
-wrote x-sum o = wrote-sum _ _ _
-wrote x-test o = wrote-cmd _
-wrote x-limit o = wrote-limit _ _ _
-wrote x-grant o = wrote-cmd _
-wrote x-newkey o = wrote-cmd _
-wrote x-associate o = wrote-cmd _
-wrote o-end o = wrote-end
+unfolding written
+wrote op o = at (allowed (form op .roles) o)
+  where
+    at : (b : Bool) → Wrote (sectionOf op) (cond b (means op o) unwritten)
+    at true = wrote-means op o
+    at false = wrote-none (sectionOf op)
 
 -- what holds while reading is in section `sec`
 pub record Sofar (sec : ℕ) (J : Job) : Type 0 where

@@ -13,7 +13,7 @@ use Rattle.syntax.specs.Commands.{Op, form, o-host, o-local, o-number, o
 use Rattle.syntax.specs.Commands.{x-number, x-top, x-variable, x-pair, x-part, x-function, x-apply, x-cell, x-assign, x-read, x-sum, x-test, x-limit, x-grant, x-newkey, x-associate}
 use Rattle.syntax.specs.Job.{Job}
 use Rattle.syntax.specs.Reading.{Refusal, State, nameOk, typeOk, hostValueOk, rightsOk, cmdOk, Written, written, given, enter, misplaced, full}
-use Rattle.syntax.specs.Reading.{Step, refuse, proceed, finish, settle, command, Read, refused, refusedAt, read, ended, onward, onOp, readFrom, noJob, reading}
+use Rattle.syntax.specs.Reading.{Step, refuse, proceed, finish, settle, command, Read, refused, read, ended, onward, onOp, readFrom, noJob, reading}
 use Rattle.syntax.specs.ReadLaws.{Placed, placed, Wrote, wrote-name, wrote-type, wrote-value, wrote-rights, wrote-cmd, wrote-end, wrote-none, wrote, read-ok}
 
 -- the most bytes that follow a command byte, by section
@@ -179,11 +179,6 @@ refused-place s r e = at (reading-comes s) e
     at : {x : Read} → Comes (length s) x → x ≡ refused r → r .place ≤ length s
     at (comes-refused q a b c) z = let h : q ≡ r = cc in subst (λ (y : Refusal). y .place ≤ length s) h c
     at (comes-read J a) z = absurd (let h : _≡_ {A = ℕ} 0 1 = cc in omega arith)
-
--- no bytes: a command is due at 0
-pub reading-nothing : reading [] ≡ refusedAt 4 0
-unfolding reading readFrom
-reading-nothing = refl
 
 -- an entry of each kind has so many bytes at most, the rights 9, the end 1
 pub read-length : (s : List ℕ) (J : Job) → reading s ≡ read J → length s ≤ weight J + 10

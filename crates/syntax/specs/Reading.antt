@@ -1,4 +1,4 @@
--- Reading (document 01, "The bytes of a job" and numbers 2 to 7): the job that the bytes write, or the first refusal.
+-- Reading (document 01, "The bytes of a job" and refusals 2 to 7): the job that the bytes write, or the first refusal.
 use Prim.Native.Nat.{ℕ, zero, suc, _+_, _-_}
 use mathlib.Core.Bool.{Bool, true, false, cond, not}
 use mathlib.Core.List.{List, [], _∷_, _++_}
@@ -6,11 +6,11 @@ use mathlib.Core.Option.{Option, none, some}
 use lib.ListN.{length, getD, getElem?, drop, take}
 use lib.Dec.{eqb, ltb, leb}
 use Rattle.order.specs.Bools.{_and_, _or_}
-use Rattle.order.specs.Sets.{members, all-of}
-use Rattle.order.specs.Effects.{Effect, reduced}
-use Rattle.syntax.specs.Types.{Ty, num, pair, cell, fn, lim, grant, TypeEntry, e-num, e-pair, e-cell, e-fn, e-lim, e-grant, tree, depth}
+use Rattle.order.specs.Sets.{all-of}
+use Rattle.order.specs.Effects.{Effect, ofWord, pure, names, reduced}
+use Rattle.syntax.specs.Types.{Ty, onNum, onCell, onLim, onGrant, TypeEntry, e-num, e-pair, e-cell, e-fn, e-lim, e-grant, tree, depth}
 use Rattle.syntax.specs.Commands.{Cmd, c-num, c-top, c-var, c-pair, c-part, c-fn, c-app, c-new, c-asg, c-read, c-sum, c-test, c-lim, c-grant, c-newkey, c-assoc}
-use Rattle.syntax.specs.Commands.{Op, o-host, o-local, o-number, o-pair, o-cell, o-function, o-limit, o-grant, o-value, o-rights, o-end, opOf, operands, width, sectionOf, fields}
+use Rattle.syntax.specs.Commands.{Op, o-host, o-local, o-number, o-pair, o-cell, o-function, o-limit, o-grant, o-value, o-rights, o-end, form, allowed, opOf, operands, width, sectionOf, fields}
 use Rattle.syntax.specs.Commands.{x-number, x-top, x-variable, x-pair, x-part, x-function, x-apply, x-cell, x-assign, x-read, x-sum, x-test, x-limit, x-grant, x-newkey, x-associate}
 use Rattle.syntax.specs.Operands.{children, typesOf, usesVar, bindsVar, bindsName}
 use Rattle.syntax.specs.Job.{Name, HostValue, Job, uppers}
@@ -63,13 +63,13 @@ localName ds q = leb 2 q and declared ds q and not (hostName ds q)
 
 -- a written set: reduced, of declared names
 unfoldable pub setOk : List Name → Effect → Bool
-setOk ds s = all-of (declared ds) (members s) and reduced (uppers ds) s
+setOk ds s = all-of (declared ds) (names s) and reduced (uppers ds) s
 
--- 01, 02: the upper name is not 0 and declared earlier; a host name's is a host name or 1
+-- 0x01, 0x02: the upper name is not 0 and declared earlier; a host name's is a host name or 1
 unfoldable pub nameOk : List Name → Name → Bool
 nameOk ds d = not (eqb (d .upper) 0) and declared ds (d .upper) and (not (d .host) or hostName ds (d .upper))
 
--- 10 to 15: names declared, r not 0, parts earlier, the set as above; depth at most 16
+-- 0x10 to 0x15: names declared, r not 0, parts earlier, the set as above; depth at most 16
 unfoldable pub partsOk : List Name → ℕ → TypeEntry → Bool
 partsOk ds n (e-num q) = declared ds q
 partsOk ds n (e-pair q a b) = declared ds q and ltb a n and ltb b n
@@ -81,29 +81,21 @@ partsOk ds n (e-grant q r) = declared ds q and declared ds r and not (eqb r 0)
 unfoldable pub typeOk : List Name → List TypeEntry → TypeEntry → Bool
 typeOk ds ts e = partsOk ds (length ts) e and leb (depth (tree (ts ++ (e ∷ [])) (length ts))) most-depth
 
--- 20: a cell of unkeyed numbers, or a limit or grant key (n is then 0), of 0, 1 and host names
+-- 0x20: a cell of unkeyed numbers, or a limit or grant key (n is then 0), of 0, 1 and host names
 unfoldable pub unkeyedNumber : Ty → Bool
-unkeyedNumber (num q) = eqb q 0
-unkeyedNumber (pair q A B) = false
-unkeyedNumber (cell q A) = false
-unkeyedNumber (fn q A B s) = false
-unkeyedNumber (lim q r) = false
-unkeyedNumber (grant q r) = false
+unkeyedNumber T = onNum T (λ q. eqb q 0) false
 
 unfoldable pub hostTypeOk : List Name → Ty → ℕ → Bool
-hostTypeOk ds (num q) n = false
-hostTypeOk ds (pair q A B) n = false
-hostTypeOk ds (cell q A) n = openName ds q and unkeyedNumber A
-hostTypeOk ds (fn q A B s) n = false
-hostTypeOk ds (lim q r) n = openName ds q and openName ds r and eqb n 0
-hostTypeOk ds (grant q r) n = openName ds q and openName ds r and eqb n 0
+hostTypeOk ds T n =
+    let key : ℕ → ℕ → Bool = λ q r. openName ds q and openName ds r and eqb n 0 in
+    onCell T (λ q A. openName ds q and unkeyedNumber A) (onLim T key (onGrant T key false))
 
 unfoldable pub hostValueOk : List Name → List TypeEntry → HostValue ℕ → Bool
 hostValueOk ds ts h = ltb (h .ty) (length ts) and hostTypeOk ds (tree ts (h .ty)) (h .init)
 
--- 21: of 1 and host names
+-- 0x21: of 1 and host names
 unfoldable pub rightsOk : List Name → Effect → Bool
-rightsOk ds s = setOk ds s and all-of (hostName ds) (members s)
+rightsOk ds s = setOk ds s and all-of (hostName ds) (names s)
 
 -- an expression: operands and types earlier, variables below 64, a bound variable not the host's, a bound name local
 unfoldable pub cmdOk : Job → Cmd ℕ → Bool
@@ -124,52 +116,44 @@ pub data Written : Type 0 where
   w-end : Written
   unwritten : Written
 
--- 34: part 1 or 2
-unfoldable pub partOf : ℕ → ℕ → Written
-partOf a i = cond (eqb i 1) (w-cmd (c-part a true)) (cond (eqb i 2) (w-cmd (c-part a false)) unwritten)
+-- what a command's operands mean, in order
+unfoldable pub means : Op → List ℕ → Written
+means o-host o = w-name (record { host = true; upper = getD o 0 0 })
+means o-local o = w-name (record { host = false; upper = getD o 0 0 })
+means o-number o = w-type (e-num (getD o 0 0))
+means o-pair o = w-type (e-pair (getD o 0 0) (getD o 1 0) (getD o 2 0))
+means o-cell o = w-type (e-cell (getD o 0 0) (getD o 1 0))
+means o-function o = w-type (e-fn (getD o 0 0) (getD o 1 0) (getD o 2 0) (ofWord (getD o 3 0)))
+means o-limit o = w-type (e-lim (getD o 0 0) (getD o 1 0))
+means o-grant o = w-type (e-grant (getD o 0 0) (getD o 1 0))
+means o-value o = w-value (record { ty = getD o 0 0; init = getD o 1 0 })
+means o-rights o = w-rights (ofWord (getD o 0 0))
+means x-number o = w-cmd (c-num (getD o 0 0))
+means x-top o = w-cmd c-top
+means x-variable o = w-cmd (c-var (getD o 0 0))
+means x-pair o = w-cmd (c-pair (getD o 0 0) (getD o 1 0))
+means x-part o = w-cmd (c-part (getD o 0 0) (eqb (getD o 1 0) 1))
+means x-function o = w-cmd (c-fn (getD o 0 0) (getD o 1 0) (getD o 2 0))
+means x-apply o = w-cmd (c-app (getD o 0 0) (getD o 1 0))
+means x-cell o = w-cmd (c-new (getD o 0 0) (getD o 1 0))
+means x-assign o = w-cmd (c-asg (getD o 0 0) (getD o 1 0))
+means x-read o = w-cmd (c-read (getD o 0 0))
+means x-sum o = w-cmd (c-sum (eqb (getD o 0 0) 0) (getD o 1 0) (getD o 2 0))
+means x-test o = w-cmd (c-test (getD o 0 0) (getD o 1 0) (getD o 2 0) (getD o 3 0))
+means x-limit o = w-cmd (c-lim (take (getD o 0 0) (take 4 (drop 1 o))) (getD o 5 0))
+means x-grant o = w-cmd (c-grant (getD o 0 0) (getD o 1 0))
+means x-newkey o = w-cmd (c-newkey (getD o 0 0) (getD o 1 0) (getD o 2 0) (getD o 3 0) (getD o 4 0))
+means x-associate o = w-cmd (c-assoc (getD o 0 0) (getD o 1 0))
+means o-end o = w-end
 
--- 3A: sum (0) or difference (1)
-unfoldable pub sumOf : ℕ → ℕ → ℕ → Written
-sumOf op a b = cond (eqb op 0) (w-cmd (c-sum true a b)) (cond (eqb op 1) (w-cmd (c-sum false a b)) unwritten)
-
--- 3C: "c (0 to 4) keys, unused key operands FFFF, then the body"
-unfoldable pub limitOf : ℕ → List ℕ → ℕ → Written
-limitOf c ks b = cond (leb c 4 and all-of (λ e. eqb e 0xFFFF) (drop c ks)) (w-cmd (c-lim (take c ks) b)) unwritten
-
--- by a command's operands, in order
+-- what they write: nothing where one of them is not allowed
 unfoldable pub written : Op → List ℕ → Written
-written o-host o = w-name (record { host = true; upper = getD o 0 0 })
-written o-local o = w-name (record { host = false; upper = getD o 0 0 })
-written o-number o = w-type (e-num (getD o 0 0))
-written o-pair o = w-type (e-pair (getD o 0 0) (getD o 1 0) (getD o 2 0))
-written o-cell o = w-type (e-cell (getD o 0 0) (getD o 1 0))
-written o-function o = w-type (e-fn (getD o 0 0) (getD o 1 0) (getD o 2 0) (getD o 3 0))
-written o-limit o = w-type (e-lim (getD o 0 0) (getD o 1 0))
-written o-grant o = w-type (e-grant (getD o 0 0) (getD o 1 0))
-written o-value o = w-value (record { ty = getD o 0 0; init = getD o 1 0 })
-written o-rights o = w-rights (getD o 0 0)
-written x-number o = w-cmd (c-num (getD o 0 0))
-written x-top o = w-cmd c-top
-written x-variable o = w-cmd (c-var (getD o 0 0))
-written x-pair o = w-cmd (c-pair (getD o 0 0) (getD o 1 0))
-written x-part o = partOf (getD o 0 0) (getD o 1 0)
-written x-function o = w-cmd (c-fn (getD o 0 0) (getD o 1 0) (getD o 2 0))
-written x-apply o = w-cmd (c-app (getD o 0 0) (getD o 1 0))
-written x-cell o = w-cmd (c-new (getD o 0 0) (getD o 1 0))
-written x-assign o = w-cmd (c-asg (getD o 0 0) (getD o 1 0))
-written x-read o = w-cmd (c-read (getD o 0 0))
-written x-sum o = sumOf (getD o 0 0) (getD o 1 0) (getD o 2 0)
-written x-test o = w-cmd (c-test (getD o 0 0) (getD o 1 0) (getD o 2 0) (getD o 3 0))
-written x-limit o = limitOf (getD o 0 0) (take 4 (drop 1 o)) (getD o 5 0)
-written x-grant o = w-cmd (c-grant (getD o 0 0) (getD o 1 0))
-written x-newkey o = w-cmd (c-newkey (getD o 0 0) (getD o 1 0) (getD o 2 0) (getD o 3 0) (getD o 4 0))
-written x-associate o = w-cmd (c-assoc (getD o 0 0) (getD o 1 0))
-written o-end o = w-end
+unfolding form allowed means
+written op o = cond (allowed (form op .roles) o) (means op o) unwritten
 
 -- the job with one entry more, where the entry meets its conditions
 unfoldable pub given : Bool → Job → Option Job
-given true J = some J
-given false J = none
+given b J = cond b (some J) none
 
 unfoldable pub enter : Written → Job → Option Job
 enter (w-name d) J =
@@ -185,7 +169,7 @@ enter (w-cmd k) J =
 enter w-end J = some J
 enter unwritten J = none
 
--- number 3: before or after its section, a second 21, an expression or FF before 21, FF with no expression
+-- refusal 3: before or after its section, a second 0x21, an expression or 0xFF before 0x21, 0xFF with no expression
 unfoldable pub misplaced : State → ℕ → Bool
 misplaced st sec =
     ltb sec (st .section)
@@ -193,7 +177,7 @@ misplaced st sec =
     or (leb 4 sec and ltb (st .section) 3)
     or (eqb sec 5 and eqb (length (st .job .cmds)) 0)
 
--- number 5: one entry more than a limit; the rights and the end have none
+-- refusal 5: one entry more than a limit; the rights and the end have none
 unfoldable pub full : Job → ℕ → Bool
 full J sec =
     (eqb sec 0 and leb most-names (2 + length (J .names)))
@@ -211,7 +195,7 @@ unfoldable pub settle : ℕ → Option Job → Step
 settle sec none = refuse 6
 settle sec (some J) = cond (eqb sec 5) (finish J) (proceed (record { section = sec; job = J }))
 
--- "within one command": 3, 4, 5, 6 in this order; `s` is what follows the command byte
+-- "within one command": refusals 3, 4, 5, 6 in this order; `s` is what follows the command byte
 unfoldable pub command : Op → List ℕ → State → Step
 command op s st =
     cond (misplaced st (sectionOf op)) (refuse 3)
@@ -227,7 +211,7 @@ pub data Read : Type 0 where
 abbrev pub refusedAt : ℕ → ℕ → Read
 refusedAt n p = refused (record { number = n; place = p })
 
--- after FF: 7 where a byte follows
+-- after 0xFF: refusal 7 where a byte follows
 unfoldable pub ended : ℕ → List ℕ → Job → Read
 ended pos [] J = read J
 ended pos (b ∷ s) J = refusedAt 7 pos
@@ -250,7 +234,7 @@ readFrom (suc f) pos st (b ∷ s) =
     onOp (opOf b) pos (λ op. onward (command op s st) pos s (λ next. readFrom f (pos + 1 + width op) next (drop (width op) s)))
 
 abbrev pub noJob : Job
-noJob = record { names = []; types = []; values = []; rights = 0; cmds = [] }
+noJob = record { names = []; types = []; values = []; rights = pure; cmds = [] }
 
 unfoldable pub reading : List ℕ → Read
 reading s = readFrom (suc (length s)) 0 (record { section = 0; job = noJob }) s

@@ -7,43 +7,39 @@ use mathlib.Core.List.{List, [], _∷_, _++_, map, append-nil, List·Memᴰ, Lis
 use mathlib.Core.Logic.{_⊎_, inl, inr}
 use lib.ListN.{length}
 use lib.Dec.{eqb}
-use borrow.Author.Tests.{eq-eqb, eqb-true}
+use borrow.Author.Tests.{eqb-true}
 use Rattle.order.specs.Bools.{_and_, and-l, and-r}
 use Rattle.syntax.specs.Types.{Ty}
 use Rattle.syntax.specs.Commands.{Cmd, c-num, c-top, c-var, c-pair, c-part, c-fn, c-app, c-new, c-asg, c-read, c-sum, c-test, c-lim, c-grant, c-newkey, c-assoc, mapCmd}
-use Rattle.syntax.specs.Commands.{Role, r-parameter, r-keypair, form, Operand, numbers, type, Row, row-of, row}
-use Rattle.syntax.specs.Operands.{code, wanted, someWanted, having, types, ofRoles, plain, inner, children, evaluated, typesOf, bindsVar, bindsName}
+use Rattle.syntax.specs.Commands.{Role, traits, r-parameter, r-keypair, form, Operand, numbers, type, Row, row-of, row}
+use Rattle.syntax.specs.Operands.{wanted, someWanted, having, types, ofRoles, plain, inner, children, typesOf, usesVar, bindsVar, bindsName}
 use Rattle.syntax.specs.Tree.{entriesOf, binds}
 
 -- Roles that are wanted
-
-pub wanted-self : (r : Role) → wanted (r ∷ []) r ≡ true
-unfolding wanted
-wanted-self r = rw (eq-eqb (code r) (code r) refl)
 
 -- every role of the first list is wanted by the second
 unfoldable pub among : List Role → List Role → Bool
 among [] vs = true
 among (w ∷ ws) vs = wanted vs w and among ws vs
 
-wanted-code : (vs : List Role) (r w : Role) → code r ≡ code w → wanted vs r ≡ wanted vs w
+wanted-code : (vs : List Role) (r w : Role) → traits r .code ≡ traits w .code → wanted vs r ≡ wanted vs w
 unfolding wanted
 wanted-code [] r w e = refl
-wanted-code (v ∷ vs) r w e = ap₂ (λ (c : ℕ) (x : Bool). cond (eqb c (code v)) true x) e (wanted-code vs r w e)
+wanted-code (v ∷ vs) r w e = ap₂ (λ (c : ℕ) (x : Bool). cond (eqb c (traits v .code)) true x) e (wanted-code vs r w e)
 
 pub wanted-among : (ws vs : List Role) → among ws vs ≡ true → (r : Role) → wanted ws r ≡ true → wanted vs r ≡ true
 unfolding among wanted
 wanted-among [] vs a r h = absurd (false≢true h)
-wanted-among (w ∷ ws) vs a r h = at (eqb (code r) (code w)) refl h (λ k. wanted-among ws vs (and-r _ _ a) r k)
+wanted-among (w ∷ ws) vs a r h = at (eqb (traits r .code) (traits w .code)) refl h (λ k. wanted-among ws vs (and-r _ _ a) r k)
   where
-    at : (b : Bool) → eqb (code r) (code w) ≡ b → cond b true (wanted ws r) ≡ true → (wanted ws r ≡ true → wanted vs r ≡ true) → wanted vs r ≡ true
-    at true e k f = wanted-code vs r w (eqb-true (code r) (code w) e) ∙ and-l _ _ a
+    at : (b : Bool) → eqb (traits r .code) (traits w .code) ≡ b → cond b true (wanted ws r) ≡ true → (wanted ws r ≡ true → wanted vs r ≡ true) → wanted vs r ≡ true
+    at true e k f = wanted-code vs r w (eqb-true (traits r .code) (traits w .code) e) ∙ and-l _ _ a
     at false e k f = f k
 
 wanted-either : (ws vs : List Role) (r : Role) → wanted (ws ++ vs) r ≡ true → (wanted ws r ≡ true) ⊎ (wanted vs r ≡ true)
 unfolding wanted
 wanted-either [] vs r h = inr h
-wanted-either (w ∷ ws) vs r h = at (eqb (code r) (code w)) h (λ k. wanted-either ws vs r k)
+wanted-either (w ∷ ws) vs r h = at (eqb (traits r .code) (traits w .code)) h (λ k. wanted-either ws vs r k)
   where
     at : (b : Bool) → cond b true (wanted (ws ++ vs) r) ≡ true → (wanted (ws ++ vs) r ≡ true → (wanted ws r ≡ true) ⊎ (wanted vs r ≡ true)) → (cond b true (wanted ws r) ≡ true) ⊎ (wanted vs r ≡ true)
     at true k f = inl refl
@@ -218,13 +214,13 @@ module _ {T U : Type 0} (f : T → U) where
   unfolding ofRoles
   roles-map ws k = ap (λ (r : Row U). having ws (form (r .op) .roles) (r .given)) (row-map k) ∙ having-map ws (form (row k .op) .roles) (row k .given)
 
-  pub evaluated-map : (k : Cmd T) → evaluated (mapCmd f k) ≡ evaluated k
-  unfolding evaluated
-  evaluated-map k = roles-map _ k
-
   pub children-map : (k : Cmd T) → children (mapCmd f k) ≡ children k
   unfolding children plain inner
   children-map k = ap₂ (λ l m. l ++ m) (roles-map _ k) (roles-map _ k)
+
+  pub usesVar-map : (k : Cmd T) → usesVar (mapCmd f k) ≡ usesVar k
+  unfolding usesVar
+  usesVar-map k = roles-map _ k
 
   pub bindsVar-map : (k : Cmd T) → bindsVar (mapCmd f k) ≡ bindsVar k
   unfolding bindsVar

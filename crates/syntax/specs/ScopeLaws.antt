@@ -8,7 +8,7 @@ use mathlib.Core.Logic.{_≢_, _⊎_, inl, inr}
 use lib.Dec.{ltb}
 use borrow.Author.Tests.{lt-ltb}
 use Rattle.order.specs.Effects.{Effect, pure, names, touch, join, drop, raise, reduce}
-use Rattle.order.specs.EffectLaws.{name-mem, mem-name, pure-name, touch-cases, join-cases, reduce-mem, drop-in, raise-cases}
+use Rattle.order.specs.EffectLaws.{pure-name, touch-cases, join-cases, reduce-in, drop-in, raise-cases}
 use Rattle.syntax.specs.Types.{Ty, num, pair, cell, fn, lim, grant, keyOf, rekey, namesIn}
 use Rattle.syntax.specs.Tree.{Entry, e-var, e-name, namesOf, memB, nameIn}
 use Rattle.syntax.specs.Scope.{→memB, nameIn-cases}
@@ -97,9 +97,9 @@ module _ {Γ : List Entry} where
   drop-scoped up r {s} p = record { each = λ n m. p .each n (drop-in up r s m .0) }
 
   pub reduce-scoped : (up : List ℕ) {s : Effect} → ScopedEffect Γ s → ScopedEffect Γ (reduce up s)
-  reduce-scoped up {s} p = record { each = λ n m. let z = name-mem (reduce up s) m in p .each n (mem-name s (reduce-mem up s (z .0) .0) (z .1)) }
+  reduce-scoped up {s} p = record { each = λ n m. p .each n (reduce-in up s m) }
 
-  -- what is in scope in the body of 3E alone is raised
+  -- what is in scope in the body of 0x3E alone is raised
   pub raise-scoped : (r : ℕ) {u x : ℕ} {T : Ty} {s : Effect} → ScopedName Γ u → ScopedEffect (e-var x T ∷ e-name r ∷ Γ) s → ScopedEffect Γ (raise r u s)
   unfolding namesOf
   raise-scoped r {u} {x} {T} {s} k p = record { each = λ n m. at n (raise-cases r u s m) }

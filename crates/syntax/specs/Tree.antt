@@ -1,4 +1,4 @@
--- The expressions as a tree (numbers 8, 9 and 10): each is used once, nothing is bound twice, and what is used is in scope.
+-- The expressions as a tree (refusals 8, 9 and 10): each is used once, nothing is bound twice, and what is used is in scope.
 use Prim.Native.Nat.{ℕ, zero, suc, _+_}
 use mathlib.Core.Bool.{Bool, true, cond, not}
 use mathlib.Core.List.{List, [], _∷_, _++_, map, flatMap, zipWith}
@@ -64,13 +64,13 @@ valueCtx v (h ∷ hs) Γ = valueCtx (suc v) hs (e-var v (h .ty) ∷ Γ)
 unfoldable pub hostCtx : Src → List Entry
 hostCtx S = valueCtx 0 (S .values) (nameCtx 2 (S .names) [])
 
-unfoldable pub past : ℕ → ℕ
-past zero = 0
-past (suc n) = n
+unfoldable pub predecessor : ℕ → ℕ
+predecessor zero = 0
+predecessor (suc n) = n
 
 -- "The last expression is the job."
 unfoldable pub root : Src → ℕ
-root S = past (length (S .cmds))
+root S = predecessor (length (S .cmds))
 
 -- how often c stands in a list; how often it is an operand
 unfoldable pub count : ℕ → List ℕ → ℕ
@@ -81,7 +81,7 @@ unfoldable pub uses : List (Cmd Ty) → ℕ → ℕ
 uses [] c = 0
 uses (k ∷ l) c = count c (children k) + uses l c
 
--- 8: used once, "the last: not at all"
+-- refusal 8: used once, "the last: not at all"
 unfoldable pub usedRight : Src → ℕ → Bool
 usedRight S e = eqb (uses (S .cmds) e) (cond (eqb e (root S)) 0 1)
 
@@ -89,7 +89,7 @@ usedRight S e = eqb (uses (S .cmds) e) (cond (eqb e (root S)) 0 1)
 unfoldable pub boundBy : List (Cmd Ty) → List Entry
 boundBy l = flatMap binds l
 
--- 9: "binds a variable or name bound before"
+-- refusal 9: "binds a variable or name bound before"
 unfoldable pub bindsNew : Src → ℕ → Bool
 bindsNew S e =
     let before = boundBy (take e (S .cmds)) in
@@ -113,7 +113,7 @@ ctx S (suc f) e = cond (eqb e (root S)) (hostCtx S) (scopeIn e (nth (S .cmds) (p
 unfoldable pub nameIn : List Entry → ℕ → Bool
 nameIn Γ n = cond (ltb n 2) true (memB n (namesOf Γ))
 
--- 10: "variable, or name in its type operand, out of scope"
+-- refusal 10: "variable, or name in its type operand, out of scope"
 unfoldable pub inScope : Src → ℕ → Bool
 inScope S e =
     let Γ = ctx S (length (S .cmds)) e in
@@ -136,7 +136,7 @@ numbered number (some e) = some (record { number = number; place = e })
 unfoldable pub lowest : ℕ → (ℕ → Bool) → ℕ → Option Refusal
 lowest number p n = numbered number (firstBad p 0 n)
 
--- "each for all expressions", 8 before 9 before 10
+-- "each for all expressions", refusal 8 before 9 before 10
 unfoldable pub treeRefusal : Src → Option Refusal
 treeRefusal S =
     let n = length (S .cmds) in

@@ -1,4 +1,4 @@
--- What the numbers 8, 9 and 10 are about, as facts of a job and apart from the tests: where each expression is used, what is bound a second time, and what is in scope where an
+-- What refusals 8, 9 and 10 are about, as facts of a job and apart from the tests: where each expression is used, what is bound a second time, and what is in scope where an
 -- expression stands.
 use mathlib.Core.Path.{_≡_}
 use Prim.Native.Nat.{ℕ, _<_}
@@ -12,7 +12,7 @@ use Rattle.syntax.specs.Job.{Src}
 use Rattle.syntax.specs.Tree.{Entry, binds, varsOf, hostCtx, root}
 use Rattle.syntax.specs.WellScoped.{ScopedType}
 
--- 8: "used other than once (the last: not at all)"
+-- refusal 8: "used other than once (the last: not at all)"
 
 -- expression c stands at place i among the operands of expression p
 pub record UsedAt (S : Src) (p i c : ℕ) : Type 0 where
@@ -30,14 +30,14 @@ pub record UsedAsDue (S : Src) (e : ℕ) : Type 0 where
   pub once : e ≢ root S → UsedOnce S e
   pub last : e ≡ root S → (p i : ℕ) → UsedAt S p i e → ⊥
 
--- 9: "binds a variable or name bound before"
+-- refusal 9: "binds a variable or name bound before"
 
 -- what e binds no earlier expression binds
 pub record BindsAnew (S : Src) (e : ℕ) : Type 0 where
   pub variable : (d v : ℕ) → d < e → List·Memᴰ v (bindsVar (nth (S .cmds) d)) → List·Memᴰ v (bindsVar (nth (S .cmds) e)) → ⊥
   pub name : (d r : ℕ) → d < e → List·Memᴰ r (bindsName (nth (S .cmds) d)) → List·Memᴰ r (bindsName (nth (S .cmds) e)) → ⊥
 
--- 10: "variable, or name in its type operand, out of scope"
+-- refusal 10: "variable, or name in its type operand, out of scope"
 
 -- the context in which an expression stands, by the path from the last expression down to it. "The last expression is the job": it stands in the host's context. An operand stands in the
 -- context of its expression, with what that binds where it is the body
@@ -68,7 +68,7 @@ pub record Lowest (S : Src) (P : ℕ → Type 0) (e : ℕ) : Type 0 where
   pub fails : P e → ⊥
   pub before : (d : ℕ) → d < e → P d
 
--- free of 8, 9 and 10
+-- free of refusals 8, 9 and 10
 pub record TreeOk (S : Src) : Type 0 where
   pub used : Each S (UsedAsDue S)
   pub anew : Each S (BindsAnew S)

@@ -4,32 +4,34 @@ use Prim.Native.Nat.{ℕ, zero, suc, _+_, _-_, _*_, _/_, _%_, _^_, _≤_, _<_}
 use native.Mathlib.Nat.{sub-zero, pow-succ', one-le-pow}
 use native.Mathlib.Omega.{arith}
 use mathlib.Core.Bool.{Bool, true, false, cond}
-use mathlib.Core.List.{List, [], _∷_, _++_, map, flatMap, append-assoc, List·Memᴰ, List·Memᴰ·head, List·Memᴰ·tail, List·Memᴰ·not-nil, List·Memᴰ·eq-of-singleton, Memᴰ·append-left, Memᴰ·append-right}
+use mathlib.Core.List.{List, [], _∷_, _++_, map, flatMap, append-assoc, List·Memᴰ, List·Memᴰ·head, List·Memᴰ·not-nil, List·Memᴰ·eq-of-singleton}
 use mathlib.Core.Option.{Option, none, some, Option·none-ne-some, Option·some-injective}
 use mathlib.Core.Logic.{_⊎_, inl, inr}
 use lib.ListN.{length, length-append, length-take, length-replicate, getD, getElem?, set, replicate, take, drop, List·getD-append}
 use lib.Seq.{getD-append-add, getD-drop, set-append-seam}
-use lib.Dec.{eqb, ltb, leb}
+use lib.Dec.{eqb, ltb}
 use borrow.Author.Tests.{ltb-true}
 use Rattle.order.specs.Bools.{_and_, and-l, and-r}
 use Rattle.order.specs.Sets.{all-of}
-use Rattle.order.specs.SetLaws.{all-of→, lt-bit, bit-mem}
-use Rattle.order.specs.Effects.{Effect}
+use Rattle.order.specs.SetLaws.{all-of→}
+use Rattle.order.specs.Effects.{Effect, ofWord, pure}
+use Rattle.order.specs.EffectLaws.{Within, within-names}
 use Rattle.order.specs.OrderLaws.{getElem?-lt, getElem?-snoc, length-snoc}
 use Rattle.syntax.specs.Types.{TypeEntry, e-num, e-pair, e-cell, e-fn, e-lim, e-grant}
 use Rattle.syntax.specs.Commands.{Cmd, c-num, c-top, c-var, c-pair, c-part, c-fn, c-app, c-new, c-asg, c-read, c-sum, c-test, c-lim, c-grant, c-newkey, c-assoc}
 use Rattle.syntax.specs.Commands.{Op, o-host, o-local, o-number, o-pair, o-cell, o-function, o-limit, o-grant, o-value, o-rights, o-end, opOf, operands, width, sectionOf, little, fields}
 use Rattle.syntax.specs.Commands.{x-number, x-top, x-variable, x-pair, x-part, x-function, x-apply, x-cell, x-assign, x-read, x-sum, x-test, x-limit, x-grant, x-newkey, x-associate}
-use Rattle.syntax.specs.Commands.{r-evaluated, r-entered, r-inside, r-count, r-keys, r-unused, r-number, Operand, numbers, type, row}
+use Rattle.syntax.specs.Commands.{r-count, r-number, form, allowed, row}
 use Rattle.syntax.specs.Operands.{nth, wanted, ofRoles, plain, inner, children, typesOf, usesVar, bindsVar, bindsName}
-use Rattle.syntax.specs.RowLaws.{among, roles-among, roles-split}
+use Rattle.syntax.specs.RowLaws.{among, roles-among}
 use Rattle.syntax.specs.Job.{Name, HostValue, Job}
 use Rattle.syntax.specs.Reading.{Refusal, State, declared, localName, setOk, nameOk, partsOk, typeOk, hostValueOk, rightsOk, cmdOk}
-use Rattle.syntax.specs.Reading.{Written, w-name, w-type, w-value, w-rights, w-cmd, w-end, unwritten, partOf, sumOf, limitOf, written, given, enter, misplaced, full}
+use Rattle.syntax.specs.Reading.{Written, w-name, w-type, w-value, w-rights, w-cmd, w-end, unwritten, means, written, given, enter, misplaced, full}
 use Rattle.syntax.specs.Reading.{Step, refuse, proceed, finish, settle, command, Read, refused, read, ended, onward, onOp, readFrom, noJob, reading}
-use Rattle.syntax.specs.Words.{nameWord, typeWord, setWord, valueWord, headBits, headWord, filled, placeRoles, slots, nameWords, typeWords, setWords, valueWords, headWords, slotWords, decode, codeIn}
+use Rattle.syntax.specs.Words.{valueWord, headBits, headWord, filled, slots, valueWords, headWords, slotWords, effectWords, decode, codeIn}
 use Rattle.syntax.specs.ReadLaws.{JobOk, built-at, read-ok}
 use Rattle.syntax.specs.ReadFormed.{declared-lt, nth-at, entry-parts, CmdFormed, cmds-formed}
+use Rattle.syntax.specs.WrittenLaws.{numbersIn, numbersOf}
 
 -- Ranges
 
@@ -48,7 +50,7 @@ pub data TypeFits : TypeEntry → Type 0 where
   t-num : {q : ℕ} → q < 64 → TypeFits (e-num q)
   t-pair : {q a b : ℕ} → q < 64 → a < 256 → b < 256 → TypeFits (e-pair q a b)
   t-cell : {q a : ℕ} → q < 64 → a < 256 → TypeFits (e-cell q a)
-  t-fn : {q a b : ℕ} {s : Effect} → q < 64 → a < 256 → b < 256 → s < 18446744073709551616 → TypeFits (e-fn q a b s)
+  t-fn : {q a b : ℕ} {s : Effect} → q < 64 → a < 256 → b < 256 → Within 64 s → TypeFits (e-fn q a b s)
   t-lim : {q r : ℕ} → q < 64 → r < 64 → TypeFits (e-lim q r)
   t-grant : {q r : ℕ} → q < 64 → r < 64 → TypeFits (e-grant q r)
 
@@ -61,7 +63,7 @@ pub record JobFits (J : Job) : Type 0 where
   pub upper : (i : ℕ) (d : Name) → getElem? (J .names) i ≡ some d → d .upper < 64
   pub types : (i : ℕ) (e : TypeEntry) → getElem? (J .types) i ≡ some e → TypeFits e
   pub values : (i : ℕ) (h : HostValue ℕ) → getElem? (J .values) i ≡ some h → ValueFits h
-  pub rights : J .rights < 18446744073709551616
+  pub rights : Within 64 (J .rights)
   pub cmds : (e : ℕ) → CmdFits (nth (J .cmds) e)
 
 -- Lists filled up
@@ -87,6 +89,15 @@ unfolding filled
 filled-none n = ap (λ (k : ℕ). replicate k 0) (sub-zero n)
 
 -- a store just past what is used is one entry more
+-- an effect is read back from its word
+pub effect-back : (n : ℕ) (l : List Effect) (i : ℕ) → ofWord (getD (filled n 0 (effectWords l)) i 0) ≡ getD l i pure
+effect-back n l i = ap ofWord (filled-at n (effectWords l) i) ∙ at l i
+  where
+    at : (l : List Effect) (i : ℕ) → ofWord (getD (effectWords l) i 0) ≡ getD l i pure
+    at [] i = refl
+    at (s ∷ l) zero = refl
+    at (s ∷ l) (suc i) = at l i
+
 pub filled-set : (n : ℕ) (l : List ℕ) (i x : ℕ) → length l < n → i ≡ length l → set (filled n 0 l) i x ≡ filled n 0 (l ++ (x ∷ []))
 unfolding filled
 filled-set n l i x h e =
@@ -125,12 +136,6 @@ module _ {A : Type 0} (f : A → ℕ) where
   pub word-past : (n : ℕ) (l : List A) (i : ℕ) → getElem? l i ≡ none → getD (filled n 0 (map f l)) i 0 ≡ 0
   word-past n l i e = filled-at n (map f l) i ∙ map-past l i e
 
-  -- a bound of the words of all entries
-  pub words-lt : (b : ℕ) (l : List A) → 0 < b → ((i : ℕ) (a : A) → getElem? l i ≡ some a → f a < b) → (i : ℕ) → getD (map f l) i 0 < b
-  words-lt b [] h g i = h
-  words-lt b (x ∷ l) h g zero = g 0 x refl
-  words-lt b (x ∷ l) h g (suc i) = words-lt b l h (λ n a e. g (suc n) a e) i
-
 -- Expressions read back
 
 -- the parts of a head
@@ -162,60 +167,56 @@ two-high v r h k = let z : (v + 256 * r) / 256 ≡ r = omega arith in ap (λ n. 
 first : {a : ℕ} {l : List ℕ} → List·Memᴰ a (a ∷ l)
 first = List·Memᴰ·head refl
 
--- the numbers of an expression's operands, in the order written
-unfoldable pub numbersIn : List (Operand ℕ) → List ℕ
-numbersIn [] = []
-numbersIn (numbers l ∷ os) = l ++ numbersIn os
-numbersIn (type t ∷ os) = t ∷ numbersIn os
-
-abbrev pub numbersOf : Cmd ℕ → List ℕ
-numbersOf k = numbersIn (row k .given)
-
--- an expression's words: it is read back from its head and its five places, and the head is a word of 64 bits; and its operands: it is what they write, one for each width
+-- an expression's words: it is read back from its head and its five places; and its operands: it is what they write, one for each width
 pub record InWords (k : Cmd ℕ) : Type 0 where
   pub back : decode (headWord k % 256) (headWord k / 256 % 4294967296) (getD (slots k) 0 0) (getD (slots k) 1 0) (getD (slots k) 2 0) (getD (slots k) 3 0) (getD (slots k) 4 0) ≡ k
   pub five : length (slots k) ≡ 5
-  pub low : headWord k < 18446744073709551616
   pub writes : written (row k .op) (numbersOf k) ≡ w-cmd k
   pub wide : length (numbersOf k) ≡ length (operands (row k .op))
 
 pub in-words : (k : Cmd ℕ) → CmdFits k → InWords k
-unfolding headWord slots decode usesVar bindsVar bindsName ofRoles numbersIn row written partOf sumOf limitOf all-of operands _and_
-in-words (c-num n) f = let h = f .number n first in record { back = head-parts 0x30 n 0 0 0 0 0 (omega arith) h; five = refl; low = omega arith; writes = refl; wide = refl }
-in-words c-top f = record { back = head-parts 0x31 0 0 0 0 0 0 (omega arith) (omega arith); five = refl; low = omega arith; writes = refl; wide = refl }
+unfolding headWord slots decode usesVar bindsVar bindsName ofRoles numbersIn row written all-of operands _and_
+in-words (c-num n) f = let h = f .number n first in record { back = head-parts 0x30 n 0 0 0 0 0 (omega arith) h; five = refl; writes = refl; wide = refl }
+in-words c-top f = record { back = head-parts 0x31 0 0 0 0 0 0 (omega arith) (omega arith); five = refl; writes = refl; wide = refl }
 in-words (c-var v) f =
-    let h = f .used-variable v first in record { back = head-parts 0x32 v 0 0 0 0 0 (omega arith) (omega arith) ∙ ap c-var (low-byte v (omega arith)); five = refl; low = omega arith; writes = refl; wide = refl }
-in-words (c-pair a b) f = record { back = head-parts 0x33 0 a b 0 0 0 (omega arith) (omega arith); five = refl; low = omega arith; writes = refl; wide = refl }
-in-words (c-part a true) f = record { back = head-parts 0x34 1 a 0 0 0 0 (omega arith) (omega arith); five = refl; low = omega arith; writes = refl; wide = refl }
-in-words (c-part a false) f = record { back = head-parts 0x34 2 a 0 0 0 0 (omega arith) (omega arith); five = refl; low = omega arith; writes = refl; wide = refl }
+    let h = f .used-variable v first in record { back = head-parts 0x32 v 0 0 0 0 0 (omega arith) (omega arith) ∙ ap c-var (low-byte v (omega arith)); five = refl; writes = refl; wide = refl }
+in-words (c-pair a b) f = record { back = head-parts 0x33 0 a b 0 0 0 (omega arith) (omega arith); five = refl; writes = refl; wide = refl }
+in-words (c-part a true) f = record { back = head-parts 0x34 1 a 0 0 0 0 (omega arith) (omega arith); five = refl; writes = refl; wide = refl }
+in-words (c-part a false) f = record { back = head-parts 0x34 2 a 0 0 0 0 (omega arith) (omega arith); five = refl; writes = refl; wide = refl }
 in-words (c-fn v t b) f =
     let h = f .bound-variable v first in
-    record { back = head-parts 0x35 v b t 0 0 0 (omega arith) (omega arith) ∙ ap (λ n. c-fn n t b) (low-byte v (omega arith)); five = refl; low = omega arith; writes = refl; wide = refl }
-in-words (c-app a b) f = record { back = head-parts 0x36 0 a b 0 0 0 (omega arith) (omega arith); five = refl; low = omega arith; writes = refl; wide = refl }
-in-words (c-new t a) f = record { back = head-parts 0x37 0 a t 0 0 0 (omega arith) (omega arith); five = refl; low = omega arith; writes = refl; wide = refl }
-in-words (c-asg a b) f = record { back = head-parts 0x38 0 a b 0 0 0 (omega arith) (omega arith); five = refl; low = omega arith; writes = refl; wide = refl }
-in-words (c-read a) f = record { back = head-parts 0x39 0 a 0 0 0 0 (omega arith) (omega arith); five = refl; low = omega arith; writes = refl; wide = refl }
-in-words (c-sum true a b) f = record { back = head-parts 0x3A 0 a b 0 0 0 (omega arith) (omega arith); five = refl; low = omega arith; writes = refl; wide = refl }
-in-words (c-sum false a b) f = record { back = head-parts 0x3A 1 a b 0 0 0 (omega arith) (omega arith); five = refl; low = omega arith; writes = refl; wide = refl }
-in-words (c-test a b c t) f = record { back = head-parts 0x3B 0 a b c t 0 (omega arith) (omega arith); five = refl; low = omega arith; writes = refl; wide = refl }
-in-words (c-lim [] b) f = record { back = head-parts 0x3C 0 0xFFFF 0xFFFF 0xFFFF 0xFFFF b (omega arith) (omega arith); five = refl; low = omega arith; writes = refl; wide = refl }
-in-words (c-lim (x ∷ []) b) f = record { back = head-parts 0x3C 1 x 0xFFFF 0xFFFF 0xFFFF b (omega arith) (omega arith); five = refl; low = omega arith; writes = refl; wide = refl }
-in-words (c-lim (x ∷ y ∷ []) b) f = record { back = head-parts 0x3C 2 x y 0xFFFF 0xFFFF b (omega arith) (omega arith); five = refl; low = omega arith; writes = refl; wide = refl }
-in-words (c-lim (x ∷ y ∷ z ∷ []) b) f = record { back = head-parts 0x3C 3 x y z 0xFFFF b (omega arith) (omega arith); five = refl; low = omega arith; writes = refl; wide = refl }
-in-words (c-lim (x ∷ y ∷ z ∷ w ∷ []) b) f = record { back = head-parts 0x3C 4 x y z w b (omega arith) (omega arith); five = refl; low = omega arith; writes = refl; wide = refl }
+    record { back = head-parts 0x35 v b t 0 0 0 (omega arith) (omega arith) ∙ ap (λ n. c-fn n t b) (low-byte v (omega arith)); five = refl; writes = refl; wide = refl }
+in-words (c-app a b) f = record { back = head-parts 0x36 0 a b 0 0 0 (omega arith) (omega arith); five = refl; writes = refl; wide = refl }
+in-words (c-new t a) f = record { back = head-parts 0x37 0 a t 0 0 0 (omega arith) (omega arith); five = refl; writes = refl; wide = refl }
+in-words (c-asg a b) f = record { back = head-parts 0x38 0 a b 0 0 0 (omega arith) (omega arith); five = refl; writes = refl; wide = refl }
+in-words (c-read a) f = record { back = head-parts 0x39 0 a 0 0 0 0 (omega arith) (omega arith); five = refl; writes = refl; wide = refl }
+in-words (c-sum true a b) f = record { back = head-parts 0x3A 0 a b 0 0 0 (omega arith) (omega arith); five = refl; writes = refl; wide = refl }
+in-words (c-sum false a b) f = record { back = head-parts 0x3A 1 a b 0 0 0 (omega arith) (omega arith); five = refl; writes = refl; wide = refl }
+in-words (c-test a b c t) f = record { back = head-parts 0x3B 0 a b c t 0 (omega arith) (omega arith); five = refl; writes = refl; wide = refl }
+in-words (c-lim [] b) f = record { back = head-parts 0x3C 0 0xFFFF 0xFFFF 0xFFFF 0xFFFF b (omega arith) (omega arith); five = refl; writes = refl; wide = refl }
+in-words (c-lim (x ∷ []) b) f = record { back = head-parts 0x3C 1 x 0xFFFF 0xFFFF 0xFFFF b (omega arith) (omega arith); five = refl; writes = refl; wide = refl }
+in-words (c-lim (x ∷ y ∷ []) b) f = record { back = head-parts 0x3C 2 x y 0xFFFF 0xFFFF b (omega arith) (omega arith); five = refl; writes = refl; wide = refl }
+in-words (c-lim (x ∷ y ∷ z ∷ []) b) f = record { back = head-parts 0x3C 3 x y z 0xFFFF b (omega arith) (omega arith); five = refl; writes = refl; wide = refl }
+in-words (c-lim (x ∷ y ∷ z ∷ w ∷ []) b) f = record { back = head-parts 0x3C 4 x y z w b (omega arith) (omega arith); five = refl; writes = refl; wide = refl }
 in-words (c-lim (x ∷ y ∷ z ∷ w ∷ u ∷ ks) b) f = absurd (omega (arith, f .few-keys _ first))
-in-words (c-grant a b) f = record { back = head-parts 0x3D 0 a b 0 0 0 (omega arith) (omega arith); five = refl; low = omega arith; writes = refl; wide = refl }
+in-words (c-grant a b) f = record { back = head-parts 0x3D 0 a b 0 0 0 (omega arith) (omega arith); five = refl; writes = refl; wide = refl }
 in-words (c-newkey v r a b t) f =
     let h = f .bound-variable v first in
     let k = f .bound-name r first in
     record {
       back = head-parts 0x3E (v + 256 * r) a b t 0 0 (omega arith) (omega arith) ∙ (λ i. c-newkey (two-low v r (omega arith) i) (two-high v r (omega arith) (omega arith) i) a b t);
       five = refl;
-      low = omega arith;
       writes = refl;
       wide = refl;
     }
-in-words (c-assoc a b) f = record { back = head-parts 0x3F 0 a b 0 0 0 (omega arith) (omega arith); five = refl; low = omega arith; writes = refl; wide = refl }
+in-words (c-assoc a b) f = record { back = head-parts 0x3F 0 a b 0 0 0 (omega arith) (omega arith); five = refl; writes = refl; wide = refl }
+
+-- the numbers of an expression's operands write it
+pub numbers-write : (k : Cmd ℕ) → CmdFits k → written (row k .op) (numbersOf k) ≡ w-cmd k
+numbers-write k f = in-words k f .writes
+
+pub numbers-wide : (k : Cmd ℕ) → CmdFits k → length (numbersOf k) ≡ length (operands (row k .op))
+numbers-wide k f = in-words k f .wide
 
 -- from any tables that hold its words
 pub decode-back : (heads places : List ℕ) (e : ℕ) (k : Cmd ℕ) → CmdFits k → getD heads e 0 ≡ headWord k → ((i : ℕ) → i < 5 → getD places (e * 5 + i) 0 ≡ getD (slots k) i 0)
@@ -236,7 +237,7 @@ decode-past heads places e h =
 pub slots-length : (k : Cmd ℕ) → CmdFits k → length (slots k) ≡ 5
 slots-length k f = in-words k f .five
 
--- so 3C has four keys at most
+-- so 0x3C has four keys at most
 pub slots-few : (ks : List ℕ) (b : ℕ) → length (slots (c-lim ks b)) ≡ 5 → length ks ≤ 4
 unfolding slots
 slots-few ks b h =
@@ -279,12 +280,6 @@ code-back J j f n m e = at (heads-at (J .cmds) e)
 abbrev pub Bytes : List ℕ → Type 0
 Bytes s = (i : ℕ) → getD s i 0 < 256
 
-pub bytes-take : (n : ℕ) (s : List ℕ) → Bytes s → Bytes (take n s)
-bytes-take zero s h i = omega arith
-bytes-take (suc n) [] h i = omega arith
-bytes-take (suc n) (b ∷ s) h zero = h 0
-bytes-take (suc n) (b ∷ s) h (suc i) = bytes-take n s (λ k. h (suc k)) i
-
 pub bytes-drop : (n : ℕ) (s : List ℕ) → Bytes s → Bytes (drop n s)
 bytes-drop n s h i = omega (arith, getD-drop n s i 0, h (n + i))
 
@@ -315,10 +310,6 @@ data Thin : Written → Type 0 where
   thin-end : Thin w-end
   thin-none : Thin unwritten
 
-if-thin : (b : Bool) (k : Cmd ℕ) {w : Written} → Narrow k → Thin w → Thin (cond b (w-cmd k) w)
-if-thin true k n w = thin-cmd k n
-if-thin false k n w = w
-
 -- neither a number nor keys
 narrow-plain : (k : Cmd ℕ) → ofRoles (r-number ∷ r-count ∷ []) k ≡ [] → Narrow k
 unfolding among wanted _and_
@@ -330,49 +321,48 @@ narrow-plain k e = record { number = λ n m. none (roles-among (r-number ∷ [])
 thin-plain : (k : Cmd ℕ) → ofRoles (r-number ∷ r-count ∷ []) k ≡ [] → Thin (w-cmd k)
 thin-plain k e = thin-cmd k (narrow-plain k e)
 
-thin-part : (a i : ℕ) → Thin (partOf a i)
-unfolding partOf ofRoles
-thin-part a i = if-thin (eqb i 1) (c-part a true) (narrow-plain _ refl) (if-thin (eqb i 2) (c-part a false) (narrow-plain _ refl) thin-none)
+-- at most four keys
+thin-limit : (c : ℕ) (l : List ℕ) (b : ℕ) → Thin (w-cmd (c-lim (take c (take 4 l)) b))
+unfolding ofRoles
+thin-limit c l b = thin-cmd (c-lim (take c (take 4 l)) b) (record { number = λ n m. absurd (List·Memᴰ·not-nil m); few-keys = λ n m. omega (arith, List·Memᴰ·eq-of-singleton m, length-take c (take 4 l), length-take 4 l) })
 
-thin-sum : (i a b : ℕ) → Thin (sumOf i a b)
-unfolding sumOf ofRoles
-thin-sum i a b = if-thin (eqb i 0) (c-sum true a b) (narrow-plain _ refl) (if-thin (eqb i 1) (c-sum false a b) (narrow-plain _ refl) thin-none)
-
-thin-limit : (c : ℕ) (l : List ℕ) (b : ℕ) → Thin (limitOf c (take 4 l) b)
-unfolding limitOf ofRoles
-thin-limit c l b =
-    if-thin (leb c 4 and all-of (λ e. eqb e 0xFFFF) (drop c (take 4 l))) (c-lim (take c (take 4 l)) b)
-    (record { number = λ n m. absurd (List·Memᴰ·not-nil m); few-keys = λ n m. omega (arith, List·Memᴰ·eq-of-singleton m, length-take c (take 4 l), length-take 4 l) }) thin-none
+thin-means : (op : Op) (s : List ℕ) → Bytes s → Thin (means op (fields (operands op) s))
+unfolding means fields operands ofRoles
+thin-means o-host s h = thin-name _
+thin-means o-local s h = thin-name _
+thin-means o-number s h = thin-type _
+thin-means o-pair s h = thin-type _
+thin-means o-cell s h = thin-type _
+thin-means o-function s h = thin-type _
+thin-means o-limit s h = thin-type _
+thin-means o-grant s h = thin-type _
+thin-means o-value s h = thin-value _ (little-lt 4 (drop 2 s) (bytes-drop 2 s h))
+thin-means o-rights s h = thin-rights _
+thin-means x-number s h = thin-cmd (c-num (little (take 4 s))) (record { number = λ n m. omega (arith, List·Memᴰ·eq-of-singleton m, little-lt 4 s h); few-keys = λ c m. absurd (List·Memᴰ·not-nil m) })
+thin-means x-top s h = thin-plain _ refl
+thin-means x-variable s h = thin-plain _ refl
+thin-means x-pair s h = thin-plain _ refl
+thin-means x-part s h = thin-plain _ refl
+thin-means x-function s h = thin-plain _ refl
+thin-means x-apply s h = thin-plain _ refl
+thin-means x-cell s h = thin-plain _ refl
+thin-means x-assign s h = thin-plain _ refl
+thin-means x-read s h = thin-plain _ refl
+thin-means x-sum s h = thin-plain _ refl
+thin-means x-test s h = thin-plain _ refl
+thin-means x-limit s h = let o = fields (operands x-limit) s in thin-limit (getD o 0 0) (drop 1 o) (getD o 5 0)
+thin-means x-grant s h = thin-plain _ refl
+thin-means x-newkey s h = thin-plain _ refl
+thin-means x-associate s h = thin-plain _ refl
+thin-means o-end s h = thin-end
 
 thin-op : (op : Op) (s : List ℕ) → Bytes s → Thin (written op (fields (operands op) s))
-unfolding written fields operands ofRoles
-thin-op o-host s h = thin-name _
-thin-op o-local s h = thin-name _
-thin-op o-number s h = thin-type _
-thin-op o-pair s h = thin-type _
-thin-op o-cell s h = thin-type _
-thin-op o-function s h = thin-type _
-thin-op o-limit s h = thin-type _
-thin-op o-grant s h = thin-type _
-thin-op o-value s h = thin-value _ (little-lt 4 (drop 2 s) (bytes-drop 2 s h))
-thin-op o-rights s h = thin-rights _
-thin-op x-number s h = thin-cmd (c-num (little (take 4 s))) (record { number = λ n m. omega (arith, List·Memᴰ·eq-of-singleton m, little-lt 4 s h); few-keys = λ c m. absurd (List·Memᴰ·not-nil m) })
-thin-op x-top s h = thin-plain _ refl
-thin-op x-variable s h = thin-plain _ refl
-thin-op x-pair s h = thin-plain _ refl
-thin-op x-part s h = thin-part _ _
-thin-op x-function s h = thin-plain _ refl
-thin-op x-apply s h = thin-plain _ refl
-thin-op x-cell s h = thin-plain _ refl
-thin-op x-assign s h = thin-plain _ refl
-thin-op x-read s h = thin-plain _ refl
-thin-op x-sum s h = thin-sum _ _ _
-thin-op x-test s h = thin-plain _ refl
-thin-op x-limit s h = let o = fields (operands x-limit) s in thin-limit (getD o 0 0) (drop 1 o) (getD o 5 0)
-thin-op x-grant s h = thin-plain _ refl
-thin-op x-newkey s h = thin-plain _ refl
-thin-op x-associate s h = thin-plain _ refl
-thin-op o-end s h = thin-end
+unfolding written
+thin-op op s h = at (allowed (form op .roles) (fields (operands op) s))
+  where
+    at : (b : Bool) → Thin (cond b (means op (fields (operands op) s)) unwritten)
+    at true = thin-means op s h
+    at false = thin-none
 
 -- what one command comes to, what reading comes to
 data SlimStep : Step → Type 0 where
@@ -456,9 +446,9 @@ read-slim s J h e = slim-done (slim-from (suc (length s)) 0 (record { section = 
 -- The ranges of a job that is read
 
 -- a set of declared names
-set-lt : (ds : List Name) (s : Effect) → 2 + length ds ≤ 64 → setOk ds s ≡ true → s < 18446744073709551616
+set-lt : (ds : List Name) (s : Effect) → 2 + length ds ≤ 64 → setOk ds s ≡ true → Within 64 s
 unfolding setOk declared
-set-lt ds s h e = lt-bit 64 s (λ i b. omega (arith, ltb-true i (2 + length ds) (all-of→ (λ q. ltb q (2 + length ds)) (and-l _ _ e) (bit-mem s b))))
+set-lt ds s h e = within-names 64 s (omega arith) (λ i m. omega (arith, ltb-true i (2 + length ds) (all-of→ (λ q. ltb q (2 + length ds)) (and-l _ _ e) m)))
 
 name-lt : (ds : List Name) (q : ℕ) → 2 + length ds ≤ 64 → declared ds q ≡ true → q < 64
 name-lt ds q h e = omega (arith, declared-lt ds q e)
@@ -530,14 +520,6 @@ job-fits s J b r =
 
 -- The words themselves
 
--- a name's upper name and whose it is
-pub name-back : (d : Name) → d .upper < 64 → (nameWord d % 256 ≡ d .upper) × (nameWord d / 256 ≡ cond (d .host) 1 2)
-unfolding nameWord
-name-back d h = at (d .upper) (cond (d .host) 1 2) h
-  where
-    at : (u k : ℕ) → u < 64 → ((u + 256 * k) % 256 ≡ u) × ((u + 256 * k) / 256 ≡ k)
-    at u k h = (omega arith, omega arith)
-
 -- a host value's type and starting number
 pub value-back : (h : HostValue ℕ) → ValueFits h → (valueWord h / 256 % 65536 ≡ h .ty) × (valueWord h / 16777216 % 4294967296 ≡ h .init)
 unfolding valueWord
@@ -551,129 +533,9 @@ value-back h f = at (h .ty) (h .init) (f .ty) (f .init)
         let w : n % 4294967296 ≡ n = omega arith in
         (ap (λ k. k % 65536) x ∙ y, ap (λ k. k % 4294967296) z ∙ w)
 
-pub value-lt : (h : HostValue ℕ) → ValueFits h → valueWord h < 18446744073709551616
-unfolding valueWord
-value-lt h f = omega (arith, f .ty, f .init)
-
-pub name-word-lt : (d : Name) → d .upper < 64 → nameWord d < 65536
-unfolding nameWord
-name-word-lt d h = at (d .host)
-  where
-    at : (b : Bool) → d .upper + 256 * cond b 1 2 < 65536
-    at true = omega arith
-    at false = omega arith
-
-pub type-lt : (x : TypeEntry) → TypeFits x → typeWord x < 18446744073709551616
-unfolding typeWord
-type-lt (e-num q) (t-num h) = omega arith
-type-lt (e-pair q a b) (t-pair h k l) = omega arith
-type-lt (e-cell q a) (t-cell h k) = omega arith
-type-lt (e-fn q a b s) (t-fn h k l m) = omega arith
-type-lt (e-lim q r) (t-lim h k) = omega arith
-type-lt (e-grant q r) (t-grant h k) = omega arith
-
-pub set-word-lt : (x : TypeEntry) → TypeFits x → setWord x < 18446744073709551616
-unfolding setWord
-set-word-lt (e-num q) f = omega arith
-set-word-lt (e-pair q a b) f = omega arith
-set-word-lt (e-cell q a) f = omega arith
-set-word-lt (e-fn q a b s) (t-fn h k l m) = m
-set-word-lt (e-lim q r) f = omega arith
-set-word-lt (e-grant q r) f = omega arith
-
-pub head-lt : (k : Cmd ℕ) → CmdFits k → headWord k < 18446744073709551616
-head-lt k f = in-words k f .low
-
--- a list of numbers of two bytes
-data Small : List ℕ → Type 0 where
-  none-small : Small []
-  more-small : {a : ℕ} {l : List ℕ} → a < 65536 → Small l → Small (a ∷ l)
-
-small-at : {l : List ℕ} → Small l → (i : ℕ) → getD l i 0 < 65536
-small-at none-small i = omega arith
-small-at (more-small h s) zero = h
-small-at (more-small h s) (suc i) = small-at s i
-
-small-same : (k x : ℕ) → x < 65536 → Small (replicate k x)
-small-same zero x h = none-small
-small-same (suc k) x h = more-small h (small-same k x h)
-
-small-append : {l m : List ℕ} → Small l → Small m → Small (l ++ m)
-small-append none-small t = t
-small-append (more-small h s) t = more-small h (small-append s t)
-
-small-mem : (l : List ℕ) → ((c : ℕ) → List·Memᴰ c l → c < 65536) → Small l
-small-mem [] f = none-small
-small-mem (x ∷ l) f = more-small (f x first) (small-mem l (λ c m. f c (List·Memᴰ·tail m)))
-
-small-filled : (n x : ℕ) {l : List ℕ} → x < 65536 → Small l → Small (filled n x l)
-unfolding filled
-small-filled n x {l} h s = small-append s (small-same (n - length l) x h)
-
--- 3C's places that are not used
-unused-lt : (k : Cmd ℕ) {n : ℕ} → List·Memᴰ n (ofRoles (r-unused ∷ []) k) → n < 65536
-unfolding ofRoles
-unused-lt (c-lim ks b) m = same (4 - length ks) m
-  where
-    same : (i : ℕ) {n : ℕ} → List·Memᴰ n (replicate i 0xFFFF) → n < 65536
-    same zero m = absurd (List·Memᴰ·not-nil m)
-    same (suc i) (List·Memᴰ·head e) = omega arith
-    same (suc i) (List·Memᴰ·tail m) = same i m
-
-place-lt : (k : Cmd ℕ) → CmdFits k → (c : ℕ) → List·Memᴰ c (ofRoles placeRoles k) → c < 65536
-unfolding children plain inner among wanted _and_
-place-lt k f c m = at (roles-split placeRoles (r-evaluated ∷ r-keys ∷ r-entered ∷ []) (r-inside ∷ r-unused ∷ []) refl k m)
-  where
-    body : List·Memᴰ c (ofRoles (r-inside ∷ []) k) ⊎ List·Memᴰ c (ofRoles (r-unused ∷ []) k) → c < 65536
-    body (inl w) = omega (arith, f .operand c (Memᴰ·append-right (plain k) w))
-    body (inr w) = unused-lt k w
-
-    at : List·Memᴰ c (ofRoles (r-evaluated ∷ r-keys ∷ r-entered ∷ []) k) ⊎ List·Memᴰ c (ofRoles (r-inside ∷ r-unused ∷ []) k) → c < 65536
-    at (inl w) = omega (arith, f .operand c (Memᴰ·append-left (inner k) w))
-    at (inr w) = body (roles-split (r-inside ∷ r-unused ∷ []) (r-inside ∷ []) (r-unused ∷ []) refl k w)
-
-small-slots : (k : Cmd ℕ) → CmdFits k → Small (slots k)
-unfolding slots
-small-slots k f = small-filled 5 0 (omega arith) (small-append (small-mem (ofRoles placeRoles k) (place-lt k f)) (small-mem (typesOf k) (λ t m. omega (arith, f .type-operand t m))))
-
-pub slot-lt : (k : Cmd ℕ) → CmdFits k → (i : ℕ) → getD (slots k) i 0 < 65536
-slot-lt k f i = small-at (small-slots k f) i
-
 -- The tables of a job that fits
 
-nth-of : (l : List (Cmd ℕ)) (i : ℕ) (k : Cmd ℕ) → getElem? l i ≡ some k → nth l i ≡ k
-unfolding nth
-nth-of [] i k e = absurd (Option·none-ne-some k e)
-nth-of (x ∷ l) zero k e = Option·some-injective x k e
-nth-of (x ∷ l) (suc i) k e = nth-of l i k e
-
-small-places : (l : List (Cmd ℕ)) → ((e : ℕ) → CmdFits (nth l e)) → Small (flatMap slots l)
-unfolding flatMap nth
-small-places [] f = none-small
-small-places (k ∷ l) f = small-append (small-slots k (f 0)) (small-places l (λ e. f (suc e)))
-
 module _ (J : Job) (f : JobFits J) where
-  pub heads-lt : (i : ℕ) → getD (headWords J) i 0 < 18446744073709551616
-  heads-lt = words-lt headWord 18446744073709551616 (J .cmds) (omega arith) (λ i k e. head-lt k (subst (λ z. CmdFits z) (nth-of (J .cmds) i k e) (f .cmds i)))
-
-  pub slots-lt : (i : ℕ) → getD (slotWords J) i 0 < 65536
-  slots-lt i = small-at (small-places (J .cmds) (f .cmds)) i
-
-  pub types-lt : (i : ℕ) → getD (typeWords (J .types)) i 0 < 18446744073709551616
-  types-lt = words-lt typeWord 18446744073709551616 (J .types) (omega arith) (λ i x e. type-lt x (f .types i x e))
-
-  pub sets-lt : (i : ℕ) → getD (setWords (J .types)) i 0 < 18446744073709551616
-  sets-lt = words-lt setWord 18446744073709551616 (J .types) (omega arith) (λ i x e. set-word-lt x (f .types i x e))
-
-  pub values-lt : (i : ℕ) → getD (valueWords J) i 0 < 18446744073709551616
-  values-lt = words-lt valueWord 18446744073709551616 (J .values) (omega arith) (λ i h e. value-lt h (f .values i h e))
-
-  -- the words of names 0 and 1 are 0
-  pub names-lt : (i : ℕ) → getD (nameWords J) i 0 < 65536
-  names-lt zero = omega arith
-  names-lt (suc zero) = omega arith
-  names-lt (suc (suc i)) = words-lt nameWord 65536 (J .names) (omega arith) (λ n d e. name-word-lt d (f .upper n d e)) i
-
   -- the type and starting number of a host value, from its table
   pub values-back : (n i : ℕ) (h : HostValue ℕ) → getElem? (J .values) i ≡ some h
       → (getD (filled n 0 (valueWords J)) i 0 / 256 % 65536 ≡ h .ty) × (getD (filled n 0 (valueWords J)) i 0 / 16777216 % 4294967296 ≡ h .init)

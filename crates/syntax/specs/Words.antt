@@ -3,38 +3,41 @@ use Prim.Native.Nat.{ℕ, _+_, _-_, _*_, _/_, _%_}
 use mathlib.Core.Bool.{cond}
 use mathlib.Core.List.{List, [], _∷_, _++_, map, flatMap}
 use mathlib.Core.Option.{Option, none, some}
-use lib.ListN.{length, replicate, getD, take}
+use lib.ListN.{length, replicate, getD, take, drop}
 use lib.Dec.{eqb}
+use Rattle.order.specs.Effects.{Effect, ofWord}
 use Rattle.syntax.specs.Types.{TypeEntry, e-num, e-pair, e-cell, e-fn, e-lim, e-grant}
-use Rattle.syntax.specs.Commands.{Cmd, c-num, c-top, c-var, c-pair, c-part, c-fn, c-app, c-new, c-asg, c-read, c-sum, c-test, c-lim, c-grant, c-newkey, c-assoc, form, row}
-use Rattle.syntax.specs.Commands.{Role, r-evaluated, r-entered, r-inside, r-count, r-keys, r-unused, r-variable, r-parameter, r-keypair, r-local, r-number, r-choice}
-use Rattle.syntax.specs.Operands.{ofRoles, typesOf}
+use Rattle.syntax.specs.Commands.{Cmd, c-num, Op, o-number, o-pair, o-cell, o-function, o-limit, o-grant, traits, form, row, commands, findOp, opOf}
+use Rattle.syntax.specs.Commands.{Role, r-evaluated, r-entered, r-inside, r-count, r-keys, r-unused, r-variable, r-parameter, r-keypair, r-local, r-type, r-number, r-choice}
+use Rattle.syntax.specs.Operands.{wanted, ofRoles, typesOf}
 use Rattle.syntax.specs.Job.{Name, HostValue, Job}
+use Rattle.syntax.specs.Reading.{Written, w-name, w-type, w-value, w-rights, w-cmd, w-end, unwritten, means}
 
 -- the upper name, and 1 for a host name or 2 for a local one
 unfoldable pub nameWord : Name → ℕ
 nameWord d = d .upper + 256 * cond (d .host) 1 2
+
+-- a type entry's command, and its operands in order
+unfoldable pub entryRow : TypeEntry → Op × List ℕ
+entryRow (e-num q) = (o-number, q ∷ [])
+entryRow (e-pair q a b) = (o-pair, q ∷ a ∷ b ∷ [])
+entryRow (e-cell q a) = (o-cell, q ∷ a ∷ [])
+entryRow (e-fn q a b s) = (o-function, q ∷ a ∷ b ∷ s .set ∷ [])
+entryRow (e-lim q r) = (o-limit, q ∷ r ∷ [])
+entryRow (e-grant q r) = (o-grant, q ∷ r ∷ [])
 
 -- command byte, key, first and second part
 abbrev pub typeBits : ℕ → ℕ → ℕ → ℕ → ℕ
 typeBits byte q a b = byte + 256 * q + 65536 * a + 4294967296 * b
 
 unfoldable pub typeWord : TypeEntry → ℕ
-typeWord (e-num q) = typeBits 0x10 q 0 0
-typeWord (e-pair q a b) = typeBits 0x11 q a b
-typeWord (e-cell q a) = typeBits 0x12 q a 0
-typeWord (e-fn q a b s) = typeBits 0x13 q a b
-typeWord (e-lim q r) = typeBits 0x14 q r 0
-typeWord (e-grant q r) = typeBits 0x15 q r 0
+unfolding entryRow form
+typeWord e = typeBits (form (entryRow e .0) .byte) (getD (entryRow e .1) 0 0) (getD (entryRow e .1) 1 0) (getD (entryRow e .1) 2 0)
 
 -- the set of a function's effect stands in a table of its own
 unfoldable pub setWord : TypeEntry → ℕ
-setWord (e-num q) = 0
-setWord (e-pair q a b) = 0
-setWord (e-cell q a) = 0
-setWord (e-fn q a b s) = s
-setWord (e-lim q r) = 0
-setWord (e-grant q r) = 0
+unfolding entryRow
+setWord e = getD (entryRow e .1) 3 0
 
 -- command byte, type, starting number
 unfoldable pub valueWord : HostValue ℕ → ℕ
@@ -49,8 +52,12 @@ packed [] = 0
 packed (x ∷ []) = x
 packed (x ∷ y ∷ l) = x + 256 * packed (y ∷ l)
 
+abbrev pub byteRoles : List Role
+byteRoles = r-variable ∷ r-parameter ∷ r-keypair ∷ r-local ∷ []
+
+-- (roles are compared without their range)
 abbrev pub headRoles : List Role
-headRoles = r-count ∷ r-variable ∷ r-parameter ∷ r-keypair ∷ r-local ∷ r-number ∷ r-choice ∷ []
+headRoles = byteRoles ++ (r-count ∷ r-number ∷ r-choice 0 0 ∷ [])
 
 unfoldable pub headWord : Cmd ℕ → ℕ
 unfolding ofRoles form row packed
@@ -78,6 +85,9 @@ typeWords T = map typeWord T
 abbrev pub setWords : List TypeEntry → List ℕ
 setWords T = map setWord T
 
+abbrev pub effectWords : List Effect → List ℕ
+effectWords l = map (λ s. s .set) l
+
 abbrev pub valueWords : Job → List ℕ
 valueWords J = map valueWord (J .values)
 
@@ -87,25 +97,40 @@ headWords J = map headWord (J .cmds)
 abbrev pub slotWords : Job → List ℕ
 slotWords J = flatMap slots (J .cmds)
 
+-- how many places the expressions of a row have; its type stands behind them
+unfoldable pub placesIn : List Role → ℕ
+unfolding wanted traits flatMap
+placesIn rs = length (flatMap (λ r. cond (wanted placeRoles r) (traits r .widths) []) rs)
+
+-- the operands' numbers, in order, by their roles. x is what the head has of them: those of one byte, the first one lowest, or one that takes all of it; l are the places, and t is the type's
+unfoldable pub numbersBy : List Role → ℕ → List ℕ → ℕ → List ℕ
+unfolding wanted traits
+numbersBy [] x l t = []
+numbersBy (r ∷ rs) x l t =
+    cond (wanted byteRoles r) (x % 256 ∷ numbersBy rs (x / 256) l t)
+    (cond (wanted headRoles r) (x ∷ numbersBy rs x l t)
+    (cond (wanted (r-type ∷ []) r) (t ∷ numbersBy rs x l t)
+    (take (length (traits r .widths)) l ++ numbersBy rs x (drop (length (traits r .widths)) l) t)))
+
+-- the expression that is written; z where none is
+unfoldable pub expression : Cmd ℕ → Written → Cmd ℕ
+expression z (w-name d) = z
+expression z (w-type e) = z
+expression z (w-value h) = z
+expression z (w-rights s) = z
+expression z (w-cmd k) = k
+expression z w-end = z
+expression z unwritten = z
+
 -- the expression that a head and five places stand for; a head with no expression's command byte stands for a number
+unfoldable pub decodeAs : Option Op → ℕ → List ℕ → Cmd ℕ
+unfolding expression means numbersBy placesIn form
+decodeAs none x l = c-num x
+decodeAs (some o) x l = expression (c-num x) (means o (numbersBy (form o .roles) x l (getD l (placesIn (form o .roles)) 0)))
+
 unfoldable pub decode : ℕ → ℕ → ℕ → ℕ → ℕ → ℕ → ℕ → Cmd ℕ
-decode byte x a b c d e =
-    cond (eqb byte 0x31) c-top
-    (cond (eqb byte 0x32) (c-var (x % 256))
-    (cond (eqb byte 0x33) (c-pair a b)
-    (cond (eqb byte 0x34) (c-part a (eqb x 1))
-    (cond (eqb byte 0x35) (c-fn (x % 256) b a)
-    (cond (eqb byte 0x36) (c-app a b)
-    (cond (eqb byte 0x37) (c-new b a)
-    (cond (eqb byte 0x38) (c-asg a b)
-    (cond (eqb byte 0x39) (c-read a)
-    (cond (eqb byte 0x3A) (c-sum (eqb x 0) a b)
-    (cond (eqb byte 0x3B) (c-test a b c d)
-    (cond (eqb byte 0x3C) (c-lim (take x (a ∷ b ∷ c ∷ d ∷ [])) e)
-    (cond (eqb byte 0x3D) (c-grant a b)
-    (cond (eqb byte 0x3E) (c-newkey (x % 256) (x / 256 % 256) a b c)
-    (cond (eqb byte 0x3F) (c-assoc a b)
-    (c-num x)))))))))))))))
+unfolding decodeAs opOf findOp commands
+decode byte x a b c d e = decodeAs (opOf byte) x (a ∷ b ∷ c ∷ d ∷ e ∷ [])
 
 -- expression i of the tables
 unfoldable pub codeIn : List ℕ → List ℕ → ℕ → Cmd ℕ
@@ -119,7 +144,7 @@ entryBits byte q a b s =
     cond (eqb byte 0x10) (some (e-num q))
     (cond (eqb byte 0x11) (some (e-pair q a b))
     (cond (eqb byte 0x12) (some (e-cell q a))
-    (cond (eqb byte 0x13) (some (e-fn q a b s))
+    (cond (eqb byte 0x13) (some (e-fn q a b (ofWord s)))
     (cond (eqb byte 0x14) (some (e-lim q (a % 256)))
     (cond (eqb byte 0x15) (some (e-grant q (a % 256)))
     none)))))

@@ -11,14 +11,14 @@ use Rattle.order.specs.Bools.{_and_}
 use Rattle.order.specs.Sets.{bit, some-of, all-of}
 use Rattle.order.specs.SetLaws.{bit-or, bit-zero}
 use Rattle.syntax.specs.Types.{Ty}
-use Rattle.syntax.specs.Commands.{Cmd, c-num, c-top, c-var, c-pair, c-part, c-fn, c-app, c-new, c-asg, c-read, c-sum, c-test, c-lim, c-grant, c-newkey, c-assoc, mapCmd}
+use Rattle.syntax.specs.Commands.{Cmd, mapCmd}
 use Rattle.syntax.specs.Operands.{nth, bindsVar, bindsName}
 use Rattle.syntax.specs.Words as words
 use Rattle.syntax.specs.Tree.{Entry, e-var, e-name, binds, varsOf, namesOf, memB, boundBy}
 use Rattle.syntax.specs.ReadFormed.{nth-map}
 use Rattle.names.specs.Ancestors.{oneOf}
 use Rattle.tree.specs.Passes.{boundVar, boundName, boundOf, before, isNew}
-use Rattle.tree.specs.Heads.{byteOf, byte-is, one-bit, one-past}
+use Rattle.tree.specs.Heads.{byteOf, byte-is, one-bit, one-past, Sort, is-variable, is-function, is-key, is-plain, asked}
 
 -- the variables, or the names
 unfoldable pub kindOf : Bool → List Entry → List ℕ
@@ -91,53 +91,29 @@ unfoldable nameAt : ℕ → ℕ → ℕ
 nameAt b w = cond (eqb b 0x3E) (w / 65536 % 256) 64
 
 module _ (f : ℕ → Ty) where
-  var-at : (k : Cmd ℕ) → ((v : ℕ) → List·Memᴰ v (bindsVar k) → v < 64) → Own (varsOf (binds (mapCmd f k))) (varAt (byteOf k) (words.headWord k))
+  var-at : {k : Cmd ℕ} → Sort k → ((v : ℕ) → List·Memᴰ v (bindsVar k) → v < 64) → Own (varsOf (binds (mapCmd f k))) (varAt (byteOf k) (words.headWord k))
   unfolding varAt byteOf words.headWord varsOf binds mapCmd bindsVar
-  var-at (c-num n) h = own-none refl refl
-  var-at c-top h = own-none refl refl
-  var-at (c-var v) h = own-none refl refl
-  var-at (c-pair a b) h = own-none refl refl
-  var-at (c-part a i) h = own-none refl refl
-  var-at (c-fn v t b) h = let k = h v (List·Memᴰ·head refl) in let z : v ≡ (0x35 + 256 * v) / 256 % 256 = omega arith in own-one (ap (λ (x : ℕ). x ∷ []) z) (omega arith)
-  var-at (c-app a b) h = own-none refl refl
-  var-at (c-new t a) h = own-none refl refl
-  var-at (c-asg a b) h = own-none refl refl
-  var-at (c-read a) h = own-none refl refl
-  var-at (c-sum i a b) h = own-none refl refl
-  var-at (c-test a b c t) h = own-none refl refl
-  var-at (c-lim ks b) h = own-none refl refl
-  var-at (c-grant a b) h = own-none refl refl
-  var-at (c-newkey v r a b t) h =
+  var-at (is-variable v) h = own-none refl refl
+  var-at (is-function v t b) h = let k = h v (List·Memᴰ·head refl) in let z : v ≡ (0x35 + 256 * v) / 256 % 256 = omega arith in own-one (ap (λ (x : ℕ). x ∷ []) z) (omega arith)
+  var-at (is-key v r a b t) h =
       let k = h v (List·Memᴰ·head refl) in let z : v ≡ (0x3E + 256 * (v + 256 * r)) / 256 % 256 = omega arith in own-one (ap (λ (x : ℕ). x ∷ []) z) (omega arith)
-  var-at (c-assoc a b) h = own-none refl refl
+  var-at (is-plain p) h = own-none (ap varsOf (p .binds-none f)) (rw (p .no-function, p .no-key))
 
-  name-at : (k : Cmd ℕ) → ((v : ℕ) → List·Memᴰ v (bindsVar k) → v < 64) → ((r : ℕ) → List·Memᴰ r (bindsName k) → r < 64) → Own (namesOf (binds (mapCmd f k))) (nameAt (byteOf k) (words.headWord k))
+  name-at : {k : Cmd ℕ} → Sort k → ((v : ℕ) → List·Memᴰ v (bindsVar k) → v < 64) → ((r : ℕ) → List·Memᴰ r (bindsName k) → r < 64) → Own (namesOf (binds (mapCmd f k))) (nameAt (byteOf k) (words.headWord k))
   unfolding nameAt byteOf words.headWord namesOf binds mapCmd bindsVar bindsName
-  name-at (c-num n) h g = own-none refl refl
-  name-at c-top h g = own-none refl refl
-  name-at (c-var v) h g = own-none refl refl
-  name-at (c-pair a b) h g = own-none refl refl
-  name-at (c-part a i) h g = own-none refl refl
-  name-at (c-fn v t b) h g = own-none refl refl
-  name-at (c-app a b) h g = own-none refl refl
-  name-at (c-new t a) h g = own-none refl refl
-  name-at (c-asg a b) h g = own-none refl refl
-  name-at (c-read a) h g = own-none refl refl
-  name-at (c-sum i a b) h g = own-none refl refl
-  name-at (c-test a b c t) h g = own-none refl refl
-  name-at (c-lim ks b) h g = own-none refl refl
-  name-at (c-grant a b) h g = own-none refl refl
-  name-at (c-newkey v r a b t) h g =
+  name-at (is-variable v) h g = own-none refl refl
+  name-at (is-function v t b) h g = own-none refl refl
+  name-at (is-key v r a b t) h g =
       let k = h v (List·Memᴰ·head refl) in
       let q = g r (List·Memᴰ·head refl) in
       let z : r ≡ (0x3E + 256 * (v + 256 * r)) / 65536 % 256 = omega arith in
       own-one (ap (λ (x : ℕ). x ∷ []) z) (omega arith)
-  name-at (c-assoc a b) h g = own-none refl refl
+  name-at (is-plain p) h g = own-none (ap namesOf (p .binds-none f)) (rw (p .no-key))
 
   pub own : (named : Bool) (k : Cmd ℕ) → ((v : ℕ) → List·Memᴰ v (bindsVar k) → v < 64) → ((r : ℕ) → List·Memᴰ r (bindsName k) → r < 64) → Own (kindOf named (binds (mapCmd f k))) (boundOf named (words.headWord k))
   unfolding kindOf boundOf boundVar boundName varAt nameAt
-  own true k h g = subst⁻¹ (λ (b : ℕ). Own (namesOf (binds (mapCmd f k))) (nameAt b (words.headWord k))) (byte-is k) (name-at k h g)
-  own false k h g = subst⁻¹ (λ (b : ℕ). Own (varsOf (binds (mapCmd f k))) (varAt b (words.headWord k))) (byte-is k) (var-at k h)
+  own true k h g = subst⁻¹ (λ (b : ℕ). Own (namesOf (binds (mapCmd f k))) (nameAt b (words.headWord k))) (byte-is k) (name-at (asked k .sort) h g)
+  own false k h g = subst⁻¹ (λ (b : ℕ). Own (varsOf (binds (mapCmd f k))) (varAt b (words.headWord k))) (byte-is k) (var-at (asked k .sort) h)
 
 -- what the expressions before one bind
 

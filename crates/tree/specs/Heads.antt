@@ -7,18 +7,19 @@ use mathlib.Core.Bool.{Bool, true, false, cond}
 use mathlib.Core.List.{List, [], _∷_}
 use lib.ListN.{length, getD}
 use lib.Dec.{eqb, ltb}
-use borrow.Author.Tests.{lt-ltb, le-ltb, ltb-true, ltb-false, ne-eqb, eqb-true}
+use borrow.Author.Tests.{le-ltb, ltb-true, ltb-false, ne-eqb, eqb-true}
 use Rattle.order.specs.Sets.{bit}
 use Rattle.order.specs.SetLaws.{bit-pow, bit-zero, lt-bit, lt-pow}
-use Rattle.syntax.specs.Commands.{Cmd, c-num, c-top, c-var, c-pair, c-part, c-fn, c-app, c-new, c-asg, c-read, c-sum, c-test, c-lim, c-grant, c-newkey, c-assoc, r-count, form, row}
-use Rattle.syntax.specs.Operands.{ofRoles, plain, inner, children}
+use Rattle.syntax.specs.Commands.{Cmd, c-num, c-top, c-var, c-pair, c-part, c-fn, c-app, c-new, c-asg, c-read, c-sum, c-test, c-lim, c-grant, c-newkey, c-assoc, mapCmd, form, row}
+use Rattle.syntax.specs.Operands.{ofRoles, plain, inner, children, typesOf, usesVar}
 use Rattle.syntax.specs.Words.{packed, headRoles, headWord, slots, filled}
 use Rattle.syntax.specs.ReadPlaces.{byte-low}
 use Rattle.syntax.specs.WordLaws.{slots-few}
-use Rattle.syntax.specs.Tree.{count}
+use Rattle.syntax.specs.Types.{Ty}
+use Rattle.syntax.specs.Tree.{count, binds}
 use Rattle.names.specs.Ancestors.{oneOf}
 use Rattle.names.specs.Bits.{one-of}
-use Rattle.tree.specs.Passes.{arityOf, isOperand}
+use Rattle.tree.specs.Passes.{arityOf, isOperand, typePlace}
 
 -- the set of one number
 
@@ -65,33 +66,14 @@ byte-is k = at (form (row k .op) .byte) (packed (ofRoles headRoles k)) (byte-low
 unfoldable pub opAt : ℕ → ℕ → ℕ → Bool
 opAt b q i = cond (eqb b 0x3C) (cond (ltb i q) true (eqb i 4)) (ltb i (arityOf b))
 
--- how many keys a 3C has; 0 for the others
+-- how many keys a 0x3C has; what else a head holds is not asked of the others
 unfoldable pub keysOf : Cmd ℕ → ℕ
-unfolding ofRoles
-keysOf k = getD (ofRoles (r-count ∷ []) k) 0 0
-
-keys-is : (k : Cmd ℕ) (i : ℕ) → opAt (byteOf k) (headWord k / 256) i ≡ opAt (byteOf k) (keysOf k) i
-unfolding opAt byteOf keysOf headWord
-keys-is (c-num n) i = refl
-keys-is c-top i = refl
-keys-is (c-var v) i = refl
-keys-is (c-pair a b) i = refl
-keys-is (c-part a j) i = refl
-keys-is (c-fn v t b) i = refl
-keys-is (c-app a b) i = refl
-keys-is (c-new t a) i = refl
-keys-is (c-asg a b) i = refl
-keys-is (c-read a) i = refl
-keys-is (c-sum j a b) i = refl
-keys-is (c-test a b c t) i = refl
-keys-is (c-lim ks b) i = let z : (0x3C + 256 * length ks) / 256 ≡ length ks = omega arith in ap (λ (q : ℕ). cond (ltb i q) true (eqb i 4)) z
-keys-is (c-grant a b) i = refl
-keys-is (c-newkey v r a b t) i = refl
-keys-is (c-assoc a b) i = refl
+unfolding headWord
+keysOf k = headWord k / 256
 
 pub operand-is : (k : Cmd ℕ) (i : ℕ) → isOperand (headWord k) i ≡ opAt (byteOf k) (keysOf k) i
-unfolding isOperand opAt
-operand-is k i = ap (λ (b : ℕ). opAt b (headWord k / 256) i) (byte-is k) ∙ keys-is k i
+unfolding isOperand opAt keysOf
+operand-is k i = ap (λ (b : ℕ). opAt b (headWord k / 256) i) (byte-is k)
 
 -- a use of c in place i, where the place holds s
 unfoldable pub useAt : Bool → ℕ → ℕ → ℕ
@@ -125,3 +107,51 @@ children-count (c-lim (w ∷ x ∷ y ∷ z ∷ u ∷ l) b) h c = absurd (omega (
 children-count (c-grant a b) h c = omega arith
 children-count (c-newkey v r a b t) h c = omega arith
 children-count (c-assoc a b) h c = omega arith
+
+-- What else the passes ask of a command: the variable that it uses, what it binds and its body, and its type operand
+
+-- the type operand stands in place p, which is 5 where there is none
+pub data TypeAt (ts s : List ℕ) (p : ℕ) : Type 0 where
+  t-none : ts ≡ [] → p ≡ 5 → TypeAt ts s p
+  t-one : (t : ℕ) → ts ≡ t ∷ [] → p < 5 → getD s p 0 ≡ t → TypeAt ts s p
+
+-- a command that neither uses a variable nor binds
+pub record Plain (k : Cmd ℕ) : Type 0 where
+  pub uses-none : usesVar k ≡ []
+  pub binds-none : (f : ℕ → Ty) → binds (mapCmd f k) ≡ []
+  pub no-body : (f : ℕ → Ty) → inner (mapCmd f k) ≡ []
+  pub no-variable : eqb (byteOf k) 0x32 ≡ false
+  pub no-function : eqb (byteOf k) 0x35 ≡ false
+  pub no-key : eqb (byteOf k) 0x3E ≡ false
+
+pub data Sort : Cmd ℕ → Type 0 where
+  is-variable : (v : ℕ) → Sort (c-var v)
+  is-function : (v t b : ℕ) → Sort (c-fn v t b)
+  is-key : (v r a b t : ℕ) → Sort (c-newkey v r a b t)
+  is-plain : {k : Cmd ℕ} → Plain k → Sort k
+
+pub record Asked (k : Cmd ℕ) : Type 0 where
+  pub sort : Sort k
+  pub type-at : TypeAt (typesOf k) (slots k) (typePlace (byteOf k))
+
+plainly : {k : Cmd ℕ} → Plain k → TypeAt (typesOf k) (slots k) (typePlace (byteOf k)) → Asked k
+plainly p t = record { sort = is-plain p; type-at = t }
+
+pub asked : (k : Cmd ℕ) → Asked k
+unfolding usesVar binds inner mapCmd byteOf typesOf slots filled typePlace
+asked (c-num n) = plainly (record { uses-none = refl; binds-none = λ f. refl; no-body = λ f. refl; no-variable = refl; no-function = refl; no-key = refl }) (t-none refl refl)
+asked c-top = plainly (record { uses-none = refl; binds-none = λ f. refl; no-body = λ f. refl; no-variable = refl; no-function = refl; no-key = refl }) (t-none refl refl)
+asked (c-var v) = record { sort = is-variable v; type-at = t-none refl refl }
+asked (c-pair a b) = plainly (record { uses-none = refl; binds-none = λ f. refl; no-body = λ f. refl; no-variable = refl; no-function = refl; no-key = refl }) (t-none refl refl)
+asked (c-part a i) = plainly (record { uses-none = refl; binds-none = λ f. refl; no-body = λ f. refl; no-variable = refl; no-function = refl; no-key = refl }) (t-none refl refl)
+asked (c-fn v t b) = record { sort = is-function v t b; type-at = t-one t refl (omega arith) refl }
+asked (c-app a b) = plainly (record { uses-none = refl; binds-none = λ f. refl; no-body = λ f. refl; no-variable = refl; no-function = refl; no-key = refl }) (t-none refl refl)
+asked (c-new t a) = plainly (record { uses-none = refl; binds-none = λ f. refl; no-body = λ f. refl; no-variable = refl; no-function = refl; no-key = refl }) (t-one t refl (omega arith) refl)
+asked (c-asg a b) = plainly (record { uses-none = refl; binds-none = λ f. refl; no-body = λ f. refl; no-variable = refl; no-function = refl; no-key = refl }) (t-none refl refl)
+asked (c-read a) = plainly (record { uses-none = refl; binds-none = λ f. refl; no-body = λ f. refl; no-variable = refl; no-function = refl; no-key = refl }) (t-none refl refl)
+asked (c-sum i a b) = plainly (record { uses-none = refl; binds-none = λ f. refl; no-body = λ f. refl; no-variable = refl; no-function = refl; no-key = refl }) (t-none refl refl)
+asked (c-test a b c t) = plainly (record { uses-none = refl; binds-none = λ f. refl; no-body = λ f. refl; no-variable = refl; no-function = refl; no-key = refl }) (t-one t refl (omega arith) refl)
+asked (c-lim ks b) = plainly (record { uses-none = refl; binds-none = λ f. refl; no-body = λ f. refl; no-variable = refl; no-function = refl; no-key = refl }) (t-none refl refl)
+asked (c-grant a b) = plainly (record { uses-none = refl; binds-none = λ f. refl; no-body = λ f. refl; no-variable = refl; no-function = refl; no-key = refl }) (t-none refl refl)
+asked (c-newkey v r a b t) = record { sort = is-key v r a b t; type-at = t-one t refl (omega arith) refl }
+asked (c-assoc a b) = plainly (record { uses-none = refl; binds-none = λ f. refl; no-body = λ f. refl; no-variable = refl; no-function = refl; no-key = refl }) (t-none refl refl)

@@ -15,7 +15,7 @@ use Rattle.order.specs.Bools.{_and_, and-l, and-r}
 use Rattle.order.specs.Sets.{bit, some-of}
 use Rattle.order.specs.SetLaws.{bool-ext, bit-or, bit-pow}
 use Rattle.order.specs.Effects.{Effect, names}
-use Rattle.order.specs.EffectLaws.{name-bit, bit-name}
+use Rattle.order.specs.NameSetLaws.{name-bit, bit-name}
 use Rattle.syntax.specs.Types.{Ty, namesIn, TypeEntry, e-num, e-pair, e-cell, e-fn, e-lim, e-grant, entryTree, tree}
 use Rattle.syntax.specs.Job.{Name}
 use Rattle.syntax.specs.Reading.{declared, partsOk}
@@ -32,8 +32,9 @@ use Rattle.tree.specs.Binders.{memB-cons, memB-app}
 one-all : (q n : ℕ) → q < 64 → bit (oneOf q) n ≡ eqb n q
 one-all q n h = ap (λ (x : ℕ). bit x n) (one-of q h) ∙ bit-pow q n
 
-set-names : (s : Effect) (n : ℕ) → n ≢ 0 → bit s n ≡ memB n (names s)
-set-names s n h = bool-ext (bit s n) (memB n (names s)) (λ e. →memB n (names s) (bit-name s e h)) (λ e. name-bit s (memB→ n (names s) e) .0)
+set-names : (s : Effect) (n : ℕ) → n ≢ 0 → bit (s .set) n ≡ memB n (names s)
+unfolding names
+set-names s n h = bool-ext (bit (s .set) n) (memB n (names s)) (λ e. →memB n (names s) (bit-name (s .set) e h)) (λ e. name-bit (s .set) (memB→ n (names s) e) .0)
 
 -- the fields of a type's word
 record Fields (w byte q a b : ℕ) : Type 0 where
@@ -112,10 +113,10 @@ module _ (ds : List Name) (few : 2 + length ds ≤ 64) (T : ℕ → Ty) (m : Lis
       let k : q < 64 = name-lt ds q few (and-l _ _ (and-l _ _ (and-l _ _ p))) in
       let x : a < i = ltb-true a i (and-r _ _ (and-l _ _ (and-l _ _ p))) in
       let y : b < i = ltb-true b i (and-r _ _ (and-l _ _ p)) in
-      ap (λ (x : ℕ). bit x n) (by-fields (fields 0x13 q a b (omega arith) (omega arith) (omega arith) (omega arith)) s m)
-      ∙ bit-or n (oneOf q) (bitOr (bitOr (getD m a 0) (getD m b 0)) s)
+      ap (λ (x : ℕ). bit x n) (by-fields (fields 0x13 q a b (omega arith) (omega arith) (omega arith) (omega arith)) (s .set) m)
+      ∙ bit-or n (oneOf q) (bitOr (bitOr (getD m a 0) (getD m b 0)) (s .set))
       ∙ ap₂ (λ (u v : Bool). u || v) (one-all q n k)
-      (bit-or n (bitOr (getD m a 0) (getD m b 0)) s
+      (bit-or n (bitOr (getD m a 0) (getD m b 0)) (s .set)
       ∙ ap₂ (λ (u v : Bool). u || v) (bit-or n (getD m a 0) (getD m b 0) ∙ ap₂ (λ (u v : Bool). u || v) (f a x) (f b y)) (set-names s n some-name)
       ∙ or-three (memB n (namesIn (T a))) (memB n (namesIn (T b))) (memB n (names s))
       ∙ ap (λ (u : Bool). memB n (namesIn (T a)) || u) (sym (memB-app n (namesIn (T b)) (names s)))

@@ -3,7 +3,7 @@ use mathlib.Core.Path.{_≡_, refl, sym, ap, ap₂, _∙_, subst⁻¹}
 use Prim.Native.Nat.{ℕ, zero, suc, _+_, _-_, _*_, _/_, _%_, _≤_, _<_}
 use native.Mathlib.Omega.{arith}
 use mathlib.Core.Bool.{Bool, true, false, cond, _||_}
-use mathlib.Core.List.{List, [], _∷_, map, flatMap, List·Memᴰ, List·Memᴰ·head, append-nil}
+use mathlib.Core.List.{List, map, flatMap, List·Memᴰ, List·Memᴰ·head, append-nil}
 use mathlib.Core.Option.{Option, none, some, Option·none-ne-some}
 use mathlib.Core.Logic.{_≢_}
 use lib.ListN.{length, getD, length-map}
@@ -14,7 +14,7 @@ use Rattle.order.specs.Bools.{_and_, and-l, and-r}
 use Rattle.order.specs.Sets.{bit, all-of}
 use Rattle.order.specs.SetLaws.{bool-ext, set-ext, bit-or, →or-l, all-of→, →all-of}
 use Rattle.syntax.specs.Types.{Ty, namesIn, tree}
-use Rattle.syntax.specs.Commands.{Cmd, c-num, c-top, c-var, c-pair, c-part, c-fn, c-app, c-new, c-asg, c-read, c-sum, c-test, c-lim, c-grant, c-newkey, c-assoc, mapCmd}
+use Rattle.syntax.specs.Commands.{Cmd, mapCmd}
 use Rattle.syntax.specs.Operands.{nth, typesOf, usesVar, bindsVar, bindsName}
 use Rattle.syntax.specs.Job.{Name, Job, Src, sourceOf, valueOf}
 use Rattle.syntax.specs.Reading.{Refusal, declared, localName}
@@ -22,10 +22,11 @@ use Rattle.syntax.specs.Words as words
 use Rattle.syntax.specs.Tree.{Entry, varsOf, memB, usesName, root, usedRight, bindsNew, ctx, nameIn, inScope, firstBad, orElse, numbered, lowest, treeRefusal}
 use Rattle.syntax.specs.Scope.{memB→, →memB}
 use Rattle.syntax.specs.ReadLaws.{JobOk}
+use Rattle.syntax.specs.RowLaws.{usesVar-map}
 use Rattle.syntax.specs.ReadFormed.{typesOf-map, nth-map, tree-declared, cmds-formed}
 use Rattle.tree.specs.Passes.{isNew, countsBy, rightCount, hostVars, hostNames, masksBy, scopesBy, typePlace, operandNames, varFits, isScoped, scopeRefusal, tableRefusal}
 use Rattle.tree.specs.Holds.{Holds}
-use Rattle.tree.specs.Heads.{byteOf, byte-is}
+use Rattle.tree.specs.Heads.{byteOf, byte-is, TypeAt, t-none, t-one, Sort, is-variable, is-function, is-key, is-plain, asked}
 use Rattle.tree.specs.Uses.{bad-cong, right-is}
 use Rattle.tree.specs.Binders.{new-right}
 use Rattle.tree.specs.Masks.{masks-are}
@@ -38,11 +39,9 @@ unfoldable fitsAt : ℕ → ℕ → ℕ → Bool
 fitsAt b w x = cond (eqb b 0x32) (bit x (w / 256 % 256)) true
 
 module _ (f : ℕ → Ty) (vs : List ℕ) (x : ℕ) (good : (n : ℕ) → n < 64 → bit x n ≡ memB n vs) where
-  var-at : (k : Cmd ℕ) → ((v : ℕ) → List·Memᴰ v (usesVar k) → v < 64) → fitsAt (byteOf k) (words.headWord k) x ≡ all-of (λ v. memB v vs) (usesVar (mapCmd f k))
-  unfolding fitsAt byteOf words.headWord usesVar mapCmd all-of
-  var-at (c-num n) h = refl
-  var-at c-top h = refl
-  var-at (c-var v) h =
+  var-at : {k : Cmd ℕ} → Sort k → ((v : ℕ) → List·Memᴰ v (usesVar k) → v < 64) → fitsAt (byteOf k) (words.headWord k) x ≡ all-of (λ v. memB v vs) (usesVar k)
+  unfolding fitsAt byteOf words.headWord usesVar all-of
+  var-at (is-variable v) h =
       let k = h v (List·Memᴰ·head refl) in
       let z : (0x32 + 256 * v) / 256 % 256 ≡ v = omega arith in
       ap (bit x) z ∙ good v k ∙ at (memB v vs)
@@ -50,51 +49,18 @@ module _ (f : ℕ → Ty) (vs : List ℕ) (x : ℕ) (good : (n : ℕ) → n < 64
       at : (b : Bool) → b ≡ cond b true false
       at true = refl
       at false = refl
-  var-at (c-pair a b) h = refl
-  var-at (c-part a i) h = refl
-  var-at (c-fn v t b) h = refl
-  var-at (c-app a b) h = refl
-  var-at (c-new t a) h = refl
-  var-at (c-asg a b) h = refl
-  var-at (c-read a) h = refl
-  var-at (c-sum i a b) h = refl
-  var-at (c-test a b c t) h = refl
-  var-at (c-lim ks b) h = refl
-  var-at (c-grant a b) h = refl
-  var-at (c-newkey v r a b t) h = refl
-  var-at (c-assoc a b) h = refl
+  var-at (is-function v t b) h = refl
+  var-at (is-key v r a b t) h = refl
+  var-at (is-plain p) h = rw (p .no-variable) (sym (ap (all-of (λ v. memB v vs)) (p .uses-none)))
 
   var-fits : (k : Cmd ℕ) → ((v : ℕ) → List·Memᴰ v (usesVar k) → v < 64) → varFits (words.headWord k) x ≡ all-of (λ v. memB v vs) (usesVar (mapCmd f k))
   unfolding varFits fitsAt
-  var-fits k h = ap (λ (b : ℕ). fitsAt b (words.headWord k) x) (byte-is k) ∙ var-at k h
+  var-fits k h = ap (λ (b : ℕ). fitsAt b (words.headWord k) x) (byte-is k) ∙ var-at (asked k .sort) h ∙ ap (all-of (λ v. memB v vs)) (sym (usesVar-map f k))
 
 -- The type operand
 
-data TypeAt (ts s : List ℕ) (p : ℕ) : Type 0 where
-  t-none : ts ≡ [] → p ≡ 5 → TypeAt ts s p
-  t-one : (t : ℕ) → ts ≡ t ∷ [] → p < 5 → getD s p 0 ≡ t → TypeAt ts s p
-
-type-at : (k : Cmd ℕ) → TypeAt (typesOf k) (words.slots k) (typePlace (byteOf k))
-unfolding typesOf words.slots words.filled typePlace byteOf
-type-at (c-num n) = t-none refl refl
-type-at c-top = t-none refl refl
-type-at (c-var v) = t-none refl refl
-type-at (c-pair a b) = t-none refl refl
-type-at (c-part a i) = t-none refl refl
-type-at (c-fn v t b) = t-one t refl (omega arith) refl
-type-at (c-app a b) = t-none refl refl
-type-at (c-new t a) = t-one t refl (omega arith) refl
-type-at (c-asg a b) = t-none refl refl
-type-at (c-read a) = t-none refl refl
-type-at (c-sum i a b) = t-none refl refl
-type-at (c-test a b c t) = t-one t refl (omega arith) refl
-type-at (c-lim ks b) = t-none refl refl
-type-at (c-grant a b) = t-none refl refl
-type-at (c-newkey v r a b t) = t-one t refl (omega arith) refl
-type-at (c-assoc a b) = t-none refl refl
-
 type-is : (k : Cmd ℕ) → TypeAt (typesOf k) (words.slots k) (typePlace (words.headWord k % 256))
-type-is k = subst⁻¹ (λ (b : ℕ). TypeAt (typesOf k) (words.slots k) (typePlace b)) (byte-is k) (type-at k)
+type-is k = subst⁻¹ (λ (b : ℕ). TypeAt (typesOf k) (words.slots k) (typePlace b)) (byte-is k) (asked k .type-at)
 
 -- all of a list's numbers are in a set, by the set of the list; 0 is in it anyway
 within : (m x : ℕ) (l : List ℕ) (p : ℕ → Bool) → ((n : ℕ) → n ≢ 0 → bit m n ≡ memB n l) → ((n : ℕ) → List·Memᴰ n l → n < 64) → ((n : ℕ) → n < 64 → bit x n ≡ p n) → p 0 ≡ true

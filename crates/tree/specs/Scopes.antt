@@ -13,16 +13,16 @@ use borrow.Author.Tests.{lt-ltb, ltb-true, ltb-false, eq-eqb, ne-eqb, eqb-true, 
 use Rattle.order.specs.Sets.{bit, some-of}
 use Rattle.order.specs.SetLaws.{bit-or}
 use Rattle.syntax.specs.Types.{Ty}
-use Rattle.syntax.specs.Commands.{Cmd, c-num, c-top, c-var, c-pair, c-part, c-fn, c-app, c-new, c-asg, c-read, c-sum, c-test, c-lim, c-grant, c-newkey, c-assoc, mapCmd}
+use Rattle.syntax.specs.Commands.{Cmd, mapCmd}
 use Rattle.syntax.specs.Operands.{nth, plain, inner, children, bindsVar, bindsName}
 use Rattle.syntax.specs.Words as words
 use Rattle.syntax.specs.Job.{Src}
-use Rattle.syntax.specs.Tree.{Entry, binds, varsOf, namesOf, memB, count, hostCtx, past, root, uses, usedRight, parent, scopeIn, ctx, nameIn}
+use Rattle.syntax.specs.Tree.{Entry, binds, varsOf, namesOf, memB, count, hostCtx, predecessor, root, uses, usedRight, parent, scopeIn, ctx, nameIn}
 use Rattle.syntax.specs.Scope.{count-mem, uses-mem, mem-uses, parent-is}
 use Rattle.syntax.specs.ReadFormed.{children-map, nth-map}
 use Rattle.names.specs.Ancestors.{oneOf}
 use Rattle.tree.specs.Passes.{arityOf, isOperand, isBody, boundOf, inheritedBy, putIn, inheritStep, inheritedDown, scopesBy}
-use Rattle.tree.specs.Heads.{byteOf, byte-is, keysOf, opAt, operand-is, useAt, uses5, children-count, one-bit}
+use Rattle.tree.specs.Heads.{byteOf, byte-is, keysOf, opAt, operand-is, useAt, uses5, children-count, one-bit, Sort, is-variable, is-function, is-key, is-plain, asked}
 use Rattle.tree.specs.Binders.{kindOf, kind-app, memB-app, Own, own, own-mem}
 
 -- Operands by place
@@ -110,24 +110,12 @@ place-child k h i l e =
 unfoldable bodyAt : ℕ → ℕ → Bool
 bodyAt b i = cond (eqb b 0x35) (eqb i 0) (cond (eqb b 0x3E) (eqb i 1) false)
 
-body-at : (f : ℕ → Ty) (k : Cmd ℕ) (i : ℕ) → opAt (byteOf k) (keysOf k) i ≡ true → count (getD (words.slots k) i 0) (children k) ≤ 1 → memB (getD (words.slots k) i 0) (inner (mapCmd f k)) ≡ bodyAt (byteOf k) i
-unfolding opAt arityOf byteOf keysOf words.slots words.filled inner mapCmd children plain count bodyAt memB some-of
-body-at f (c-num n) i o h = refl
-body-at f c-top i o h = refl
-body-at f (c-var v) i o h = refl
-body-at f (c-pair a b) i o h = refl
-body-at f (c-part a j) i o h = refl
-body-at f (c-fn v t b) zero o h = rw (eq-eqb b b refl)
-body-at f (c-fn v t b) (suc i) o h = absurd (omega (arith, ltb-true (suc i) 1 o))
-body-at f (c-app a b) i o h = refl
-body-at f (c-new t a) i o h = refl
-body-at f (c-asg a b) i o h = refl
-body-at f (c-read a) i o h = refl
-body-at f (c-sum j a b) i o h = refl
-body-at f (c-test a b c t) i o h = refl
-body-at f (c-lim ks b) i o h = refl
-body-at f (c-grant a b) i o h = refl
-body-at f (c-newkey v r a b t) zero o h = at (eqb a b) refl
+body-at : (f : ℕ → Ty) {k : Cmd ℕ} → Sort k → (i : ℕ) → opAt (byteOf k) (keysOf k) i ≡ true → count (getD (words.slots k) i 0) (children k) ≤ 1 → memB (getD (words.slots k) i 0) (inner (mapCmd f k)) ≡ bodyAt (byteOf k) i
+unfolding opAt arityOf byteOf words.slots words.filled inner mapCmd children plain count bodyAt memB some-of
+body-at f (is-variable v) i o h = refl
+body-at f (is-function v t b) zero o h = rw (eq-eqb b b refl)
+body-at f (is-function v t b) (suc i) o h = absurd (omega (arith, ltb-true (suc i) 1 o))
+body-at f (is-key v r a b t) zero o h = at (eqb a b) refl
   where
     one : Bool → ℕ
     one y = cond y 1 0
@@ -135,13 +123,16 @@ body-at f (c-newkey v r a b t) zero o h = at (eqb a b) refl
     at : (x : Bool) → eqb a b ≡ x → cond (eqb a b) true false ≡ false
     at true e = absurd (omega (arith, h, ap one (eq-eqb a a refl), ap one e))
     at false e = rw e
-body-at f (c-newkey v r a b t) (suc zero) o h = rw (eq-eqb b b refl)
-body-at f (c-newkey v r a b t) (suc (suc i)) o h = absurd (omega (arith, ltb-true (suc (suc i)) 2 o))
-body-at f (c-assoc a b) i o h = refl
+body-at f (is-key v r a b t) (suc zero) o h = rw (eq-eqb b b refl)
+body-at f (is-key v r a b t) (suc (suc i)) o h = absurd (omega (arith, ltb-true (suc (suc i)) 2 o))
+body-at f {k} (is-plain p) i o h = ap (memB (getD (words.slots k) i 0)) (p .no-body f) ∙ sym (none (eqb (byteOf k) 0x35) (eqb (byteOf k) 0x3E) (p .no-function) (p .no-key))
+  where
+    none : (x y : Bool) → x ≡ false → y ≡ false → cond x (eqb i 0) (cond y (eqb i 1) false) ≡ false
+    none x y e d = rw (e, d)
 
 pub body-is : (f : ℕ → Ty) (k : Cmd ℕ) (i : ℕ) → isOperand (words.headWord k) i ≡ true → count (getD (words.slots k) i 0) (children k) ≤ 1 → memB (getD (words.slots k) i 0) (inner (mapCmd f k)) ≡ isBody (words.headWord k) i
 unfolding isBody bodyAt
-body-is f k i o h = body-at f k i (sym (operand-is k i) ∙ o) h ∙ ap (λ (b : ℕ). bodyAt b i) (sym (byte-is k))
+body-is f k i o h = body-at f (asked k .sort) i (sym (operand-is k i) ∙ o) h ∙ ap (λ (b : ℕ). bodyAt b i) (sym (byte-is k))
 
 -- A variable or a name in a scope
 
@@ -174,14 +165,14 @@ module _ (S : Src) (l : List (Cmd ℕ)) (f : ℕ → Ty) (is : S .cmds ≡ map (
   size : length (S .cmds) ≡ length l
   size = ap length is ∙ length-map l (mapCmd f)
 
-  past-is : (n : ℕ) → 0 < n → suc (past n) ≡ n
-  unfolding past
-  past-is zero h = absurd (omega arith)
-  past-is (suc n) h = refl
+  predecessor-is : (n : ℕ) → 0 < n → suc (predecessor n) ≡ n
+  unfolding predecessor
+  predecessor-is zero h = absurd (omega arith)
+  predecessor-is (suc n) h = refl
 
   pub root-is : suc (root S) ≡ length l
   unfolding root
-  root-is = past-is (length (S .cmds)) (omega (arith, size)) ∙ size
+  root-is = predecessor-is (length (S .cmds)) (omega (arith, size)) ∙ size
 
   code-at : (e : ℕ) → nth (S .cmds) e ≡ mapCmd f (nth l e)
   code-at e = ap (λ (m : List (Cmd Ty)). nth m e) is ∙ nth-map f l e

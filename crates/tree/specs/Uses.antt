@@ -14,7 +14,7 @@ use Rattle.syntax.specs.Types.{Ty}
 use Rattle.syntax.specs.Commands.{Cmd, mapCmd}
 use Rattle.syntax.specs.Operands.{nth, children}
 use Rattle.syntax.specs.Words as words
-use Rattle.syntax.specs.Tree.{count, uses, past, firstBad}
+use Rattle.syntax.specs.Tree.{count, uses, predecessor, firstBad}
 use Rattle.syntax.specs.ReadFormed.{children-map, nth-map}
 use Rattle.tree.specs.Passes.{isOperand, oneMore, tallied, countStep, counted, countsBy, rightCount}
 use Rattle.tree.specs.Heads.{byteOf, keysOf, opAt, operand-is, useAt, uses5, children-count}
@@ -146,21 +146,21 @@ module _ (l : List (Cmd ℕ)) (f : ℕ → Ty) (heads places : List ℕ)
   uses-all c = uses-are (length l) c (omega arith) ∙ ap (λ (m : List (Cmd Ty)). uses m c) (ap (λ (k : ℕ). take k (map (mapCmd f) l)) (sym (length-map l (mapCmd f))) ∙ take-length (map (mapCmd f) l))
 
   -- so the test by the counts is the test of 8
-  pub right-is : (e : ℕ) → e < length l → length l ≤ 512 → rightCount (countsBy heads places (length l)) (length l) e ≡ eqb (uses (map (mapCmd f) l) e) (cond (eqb e (past (length (map (mapCmd f) l)))) 0 1)
-  unfolding rightCount past
+  pub right-is : (e : ℕ) → e < length l → length l ≤ 512 → rightCount (countsBy heads places (length l)) (length l) e ≡ eqb (uses (map (mapCmd f) l) e) (cond (eqb e (predecessor (length (map (mapCmd f) l)))) 0 1)
+  unfolding rightCount predecessor
   right-is e h k =
       capped-is (getD (countsBy heads places (length l)) e 0) (usesIn heads places (length l * 5) e) (counts-are heads places (length l) e (omega arith)) (eqb (e + 1) (length l))
       ∙ ap₂ (λ (u : ℕ) (b : Bool). eqb u (cond b 0 1)) (uses-all e) (last (length l) (length-map l (mapCmd f)) h)
     where
-      last : (n : ℕ) → length (map (mapCmd f) l) ≡ n → e < n → eqb (e + 1) n ≡ eqb e (past (length (map (mapCmd f) l)))
+      last : (n : ℕ) → length (map (mapCmd f) l) ≡ n → e < n → eqb (e + 1) n ≡ eqb e (predecessor (length (map (mapCmd f) l)))
       last zero z q = absurd (omega arith)
-      last (suc n) z q = bool-ext (eqb (e + 1) (suc n)) (eqb e (past (length (map (mapCmd f) l)))) to from
+      last (suc n) z q = bool-ext (eqb (e + 1) (suc n)) (eqb e (predecessor (length (map (mapCmd f) l)))) to from
         where
-          top : past (length (map (mapCmd f) l)) ≡ n
-          top = ap past z
+          top : predecessor (length (map (mapCmd f) l)) ≡ n
+          top = ap predecessor z
 
-          to : eqb (e + 1) (suc n) ≡ true → eqb e (past (length (map (mapCmd f) l))) ≡ true
+          to : eqb (e + 1) (suc n) ≡ true → eqb e (predecessor (length (map (mapCmd f) l))) ≡ true
           to x = eq-eqb e _ (omega (arith, eqb-true (e + 1) (suc n) x, top))
 
-          from : eqb e (past (length (map (mapCmd f) l))) ≡ true → eqb (e + 1) (suc n) ≡ true
+          from : eqb e (predecessor (length (map (mapCmd f) l))) ≡ true → eqb (e + 1) (suc n) ≡ true
           from x = eq-eqb (e + 1) (suc n) (omega (arith, eqb-true e _ x, top))

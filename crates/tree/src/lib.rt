@@ -14,7 +14,6 @@ use table::second_of;
 ghost use mathlib.Core.Path.{_≡_};
 ghost use Prim.Native.Nat.{_+_, _*_, _≤_, _<_};
 ghost use mathlib.Core.Bool.{true, false, cond, not};
-ghost use lib.ListN.{getD};
 ghost use lib.Bits.{bitOr};
 ghost use lib.Dec.{eqb};
 ghost use Rattle.order.specs.Sets.{bit};

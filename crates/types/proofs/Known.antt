@@ -9,10 +9,11 @@ use mathlib.Core.Logic.{_≢_, _⊎_, inl, inr, ⊎-elim}
 use lib.ListN.{length, getD, set, replicate}
 use lib.Dec.{eqb}
 use borrow.Author.Tests.{eqb-true, ne-eqb}
+use Rattle.order.specs.Effects.{sameEffect}
 use Rattle.syntax.specs.Words.{entryIn}
 use Rattle.syntax.specs.WordLaws.{zeros-at}
 use Rattle.typing.specs.Entries.{sameIn, subIn, superIn}
-use Rattle.names.specs.Ancestors.{belowBy, effBelowBy}
+use Rattle.names.specs.Ancestors.{belowBy, effBelowBy, effectsBy}
 use Rattle.types.specs.Known.{Known, pick, turnedOf, keysBy, headsBy, leavesOf, comparedIn, packOf}
 use Rattle.types.proofs.Words.{byKind, levelOf, firstOf, secondOf, of-words}
 
@@ -61,15 +62,15 @@ module _ (anc types sets : List ℕ) where
 
   level-sub : (d a b : ℕ) → LevelAt 1 d a b
   unfolding comparedIn keysBy turnedOf pick subIn entryIn
-  level-sub d a b = of-words (belowBy anc) (effBelowBy anc) _ _ _ (getD types a 0) (getD types b 0) (getD sets a 0) (getD sets b 0)
+  level-sub d a b = of-words (belowBy anc) (effectsBy anc) _ _ _ (getD types a 0) (getD types b 0) (getD sets a 0) (getD sets b 0)
 
   level-super : (d a b : ℕ) → LevelAt 2 d a b
   unfolding comparedIn keysBy turnedOf pick subIn entryIn
-  level-super d a b = of-words (λ p q. belowBy anc q p) (λ s t. effBelowBy anc t s) _ _ _ (getD types a 0) (getD types b 0) (getD sets a 0) (getD sets b 0)
+  level-super d a b = of-words (λ p q. belowBy anc q p) (λ s t. effectsBy anc t s) _ _ _ (getD types a 0) (getD types b 0) (getD sets a 0) (getD sets b 0)
 
   level-same : (r d a b : ℕ) → eqb r 1 ≡ false → eqb r 2 ≡ false → LevelAt r d a b
   unfolding comparedIn keysBy turnedOf pick sameIn entryIn
-  level-same r d a b p q = simp (p, q) (of-words (λ p q. eqb p q) (λ s t. eqb s t) _ _ _ (getD types a 0) (getD types b 0) (getD sets a 0) (getD sets b 0))
+  level-same r d a b p q = simp (p, q) (of-words (λ p q. eqb p q) (λ s t. sameEffect s t) _ _ _ (getD types a 0) (getD types b 0) (getD sets a 0) (getD sets b 0))
 
   pub level-at : (r d a b : ℕ) → LevelAt r d a b
   level-at r d a b = at (eqb r 1) refl (eqb r 2) refl
@@ -145,10 +146,10 @@ module _ (anc types sets : List ℕ) (a b d : ℕ) (e : d ≡ 0) where
   unfolding sameIn
   same-none = rw e
 
-  pub below-none : false ≡ subIn (belowBy anc) (effBelowBy anc) d (entryIn types sets) a b
+  pub below-none : false ≡ subIn (belowBy anc) (effectsBy anc) d (entryIn types sets) a b
   unfolding subIn
   below-none = rw e
 
-  pub above-none : false ≡ superIn (belowBy anc) (effBelowBy anc) d (entryIn types sets) a b
+  pub above-none : false ≡ superIn (belowBy anc) (effectsBy anc) d (entryIn types sets) a b
   unfolding subIn
   above-none = rw e

@@ -8,7 +8,7 @@ use mathlib.Core.Option.{none}
 use lib.Dec.{eqb}
 use borrow.Author.Tests.{eqb-true, eqb-false, ne-eqb}
 use Rattle.order.specs.Bools.{_and_}
-use Rattle.order.specs.Effects.{Effect}
+use Rattle.order.specs.Effects.{Effect, ofWord}
 use Rattle.syntax.specs.Words.{entryBits}
 use Rattle.typing.specs.Entries.{ifNum, ifPair, ifCell, ifFn, ifLim, ifGrant, levelBy}
 use Rattle.types.specs.Known.{leafBy, leavesOf}
@@ -90,7 +90,7 @@ module _ (q a b s : ℕ) where
   if-cell k-grant f = refl
   if-cell {l} (k-none n0 n1 n2 n3 n4 n5) f = rw (bits-none n0 n1 n2 n3 n4 n5, ne-eqb 0x12 l (back n2))
 
-  if-fn : {l : ℕ} → Kind l → (f : ℕ → ℕ → ℕ → Effect → Bool) → ifFn (entryBits l q a b s) f ≡ cond (eqb 0x13 l) (f q a b s) false
+  if-fn : {l : ℕ} → Kind l → (f : ℕ → ℕ → ℕ → Effect → Bool) → ifFn (entryBits l q a b s) f ≡ cond (eqb 0x13 l) (f q a b (ofWord s)) false
   unfolding entryBits ifFn
   if-fn k-num f = refl
   if-fn k-pair f = refl
@@ -187,12 +187,12 @@ levelOf ky ef rec arg eq x y s t =
 module _ (ky : ℕ → ℕ → Bool) (ef : Effect → Effect → Bool) (rec arg eq : ℕ → ℕ → Bool) where
   of-kinds : {k l : ℕ} → Kind k → Kind l → (p a b s q c d t : ℕ)
       → levelBy ky ef rec arg eq (entryBits k p a b s) (entryBits l q c d t) ≡
-      byKind (cond (eqb k l) (ky p q) false) k (cond (rec a c) (rec b d) false) (eq a c) (cond (ef s t) (cond (arg a c) (rec b d) false) false) (leafBy k (eqb (a % 256) (c % 256)))
+      byKind (cond (eqb k l) (ky p q) false) k (cond (rec a c) (rec b d) false) (eq a c) (cond (ef (ofWord s) (ofWord t)) (cond (arg a c) (rec b d) false) false) (leafBy k (eqb (a % 256) (c % 256)))
   unfolding levelBy entryBits byKind leafBy
   of-kinds {l = l} k-num h p a b s q c d t = rw (if-num q c d t h (λ r. ky p r)) (one (cond (eqb 0x10 l) (ky p q) false))
   of-kinds {l = l} k-pair h p a b s q c d t = rw (if-pair q c d t h (λ r x y. ky p r and rec a x and rec b y)) (and-three (eqb 0x11 l) (ky p q) (rec a c) (rec b d))
   of-kinds {l = l} k-cell h p a b s q c d t = rw (if-cell q c d t h (λ r x. ky p r and eq a x)) (and-two (eqb 0x12 l) (ky p q) (eq a c))
-  of-kinds {l = l} k-fn h p a b s q c d t = rw (if-fn q c d t h (λ r x y u. ky p r and arg a x and rec b y and ef s u)) (and-four (eqb 0x13 l) (ky p q) (arg a c) (rec b d) (ef s t))
+  of-kinds {l = l} k-fn h p a b s q c d t = rw (if-fn q c d t h (λ r x y u. ky p r and arg a x and rec b y and ef (ofWord s) u)) (and-four (eqb 0x13 l) (ky p q) (arg a c) (rec b d) (ef (ofWord s) (ofWord t)))
   of-kinds {l = l} k-lim h p a b s q c d t = rw (if-lim q c d t h (λ r x. ky p r and eqb (a % 256) x)) (and-two (eqb 0x14 l) (ky p q) (eqb (a % 256) (c % 256)))
   of-kinds {l = l} k-grant h p a b s q c d t = rw (if-grant q c d t h (λ r x. ky p r and eqb (a % 256) x)) (and-two (eqb 0x15 l) (ky p q) (eqb (a % 256) (c % 256)))
   of-kinds {k} {l} (k-none n0 n1 n2 n3 n4 n5) h p a b s q c d t =
@@ -200,5 +200,5 @@ module _ (ky : ℕ → ℕ → Bool) (ef : Effect → Effect → Bool) (rec arg 
       (never (cond (eqb k l) (ky p q) false))
 
   pub of-words : (x y s t : ℕ)
-      → levelBy ky ef rec arg eq (entryBits (x % 256) (x / 256 % 256) (firstOf x) (secondOf x) s) (entryBits (y % 256) (y / 256 % 256) (firstOf y) (secondOf y) t) ≡ levelOf ky ef rec arg eq x y s t
+      → levelBy ky ef rec arg eq (entryBits (x % 256) (x / 256 % 256) (firstOf x) (secondOf x) s) (entryBits (y % 256) (y / 256 % 256) (firstOf y) (secondOf y) t) ≡ levelOf ky (λ i j. ef (ofWord i) (ofWord j)) rec arg eq x y s t
   of-words x y s t = rw (← name-in-first x, ← name-in-first y) (of-kinds (kindOf (x % 256)) (kindOf (y % 256)) _ _ _ _ _ _ _ _)

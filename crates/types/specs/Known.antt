@@ -8,7 +8,7 @@ use lib.ListN.{getD, set}
 use lib.Dec.{eqb}
 use Rattle.syntax.specs.Words.{entryIn}
 use Rattle.typing.specs.Entries.{sameIn, subIn, superIn}
-use Rattle.names.specs.Ancestors.{belowBy, effBelowBy}
+use Rattle.names.specs.Ancestors.{belowBy, effectsBy}
 
 -- comparisons by number: 1 is below, 2 above, any other equality
 unfoldable pub pick : {A : Type 0} → ℕ → A → A → A → A
@@ -25,7 +25,7 @@ keysBy bl rel p q = pick rel (eqb p q) (bl p q) (bl q p)
 -- the comparison of entries a and b of the tables, at most d levels down
 unfoldable pub comparedIn : List ℕ → List ℕ → List ℕ → ℕ → ℕ → ℕ → ℕ → Bool
 comparedIn anc types sets rel d a b =
-    pick rel (sameIn d (entryIn types sets) a b) (subIn (belowBy anc) (effBelowBy anc) d (entryIn types sets) a b) (superIn (belowBy anc) (effBelowBy anc) d (entryIn types sets) a b)
+    pick rel (sameIn d (entryIn types sets) a b) (subIn (belowBy anc) (effectsBy anc) d (entryIn types sets) a b) (superIn (belowBy anc) (effectsBy anc) d (entryIn types sets) a b)
 
 -- the heads of two words: the kinds are the same, and the keys compare
 unfoldable pub headsBy : (ℕ → ℕ → Bool) → ℕ → ℕ → ℕ → Bool

@@ -13,7 +13,7 @@ ghost use lib.ListN.{getD, set};
 ghost use lib.Dec.{eqb};
 ghost use Rattle.syntax.specs.Words.{entryIn};
 ghost use Rattle.typing.specs.Entries.{sameIn, subIn, superIn};
-ghost use Rattle.names.specs.Ancestors.{belowBy, effBelowBy};
+ghost use Rattle.names.specs.Ancestors.{belowBy, effBelowBy, effectsBy};
 ghost use Rattle.types.specs.Entry.{entryOf};
 ghost use Rattle.types.specs.Known.{Known, Stays, headsBy, keysBy, leavesOf, packOf, slotOf};
 
@@ -200,7 +200,7 @@ pub fn below<'a>(
     known: &mut [u64],
 ) -> bool
     requires { ⌜ Known (now anc) (now types) (now sets) (now known) ⌝ }
-    ensures { λ r. ⌜ (r ≡ subIn (belowBy (now (anc .entry))) (effBelowBy (now (anc .entry))) d (entryIn (now (types .entry)) (now (sets .entry))) a b)
+    ensures { λ r. ⌜ (r ≡ subIn (belowBy (now (anc .entry))) (effectsBy (now (anc .entry))) d (entryIn (now (types .entry)) (now (sets .entry))) a b)
         × Known (now (anc .entry)) (now (types .entry)) (now (sets .entry)) (now (known .exit)) ⌝ }
 {
     if d == 0 {
@@ -253,7 +253,7 @@ fn above<'a>(
     known: &mut [u64],
 ) -> bool
     requires { ⌜ Known (now anc) (now types) (now sets) (now known) ⌝ }
-    ensures { λ r. ⌜ (r ≡ superIn (belowBy (now (anc .entry))) (effBelowBy (now (anc .entry))) d (entryIn (now (types .entry)) (now (sets .entry))) a b)
+    ensures { λ r. ⌜ (r ≡ superIn (belowBy (now (anc .entry))) (effectsBy (now (anc .entry))) d (entryIn (now (types .entry)) (now (sets .entry))) a b)
         × Known (now (anc .entry)) (now (types .entry)) (now (sets .entry)) (now (known .exit)) ⌝ }
 {
     if d == 0 {

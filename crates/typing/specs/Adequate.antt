@@ -2,12 +2,12 @@
 use mathlib.Core.Path.{_≡_, refl, sym, ap, _∙_, subst}
 use Prim.Native.Nat.{ℕ, zero, suc, _<_}
 use native.Mathlib.Omega.{arith}
-use mathlib.Core.Bool.{Bool, true, false, false≢true}
+use mathlib.Core.Bool.{Bool, true, false, false≢true, cond}
 use mathlib.Core.List.{List, [], _∷_, _++_, List·Memᴰ, List·Memᴰ·head, List·Memᴰ·tail, Memᴰ·append-left, Memᴰ·append-right}
 use mathlib.Core.Option.{Option, none, some}
 use lib.ListN.{length, getElem?}
 use borrow.Author.Tests.{eqb-true}
-use Rattle.order.specs.Effects.{Effect, pure, touch, join, reduce, EffBelow}
+use Rattle.order.specs.Effects.{Effect, pure, touch, join, reduce}
 use Rattle.order.specs.EffectLaws.{below-reduce, effBelow→}
 use Rattle.syntax.specs.Types.{Ty, pair}
 use Rattle.syntax.specs.Commands.{Cmd, c-num, c-top, c-var, c-pair, c-part, c-fn, c-app, c-new, c-asg, c-read, c-sum, c-test, c-lim, c-grant, c-newkey, c-assoc}
@@ -16,13 +16,15 @@ use Rattle.syntax.specs.Job.{Src, upOf}
 use Rattle.syntax.specs.Formed.{Formed}
 use Rattle.syntax.specs.Tree.{Entry, binds}
 use Rattle.syntax.specs.WellScoped.{ScopedType}
+use Rattle.syntax.specs.ScopeLaws.{reduce-scoped}
 use Rattle.syntax.specs.TreeFacts.{Ctx, x-plain, x-inner, TreeOk}
 use Rattle.syntax.specs.Context.{plain-lt, inner-lt, ctx-le, root-lt, ctx-uses}
 use Rattle.typing.specs.Rules.{Has, h-num, h-top, h-var, h-pair, h-part1, h-part2, h-fn, h-app, h-new, h-asg, h-read, h-sum, h-test, h-lim, h-grant, h-newkey, h-assoc, h-sub, HasKeys, k-nil, k-cons}
 use Rattle.typing.specs.SubtypeLaws.{sub-refl, subTy→}
-use Rattle.typing.specs.Least.{Typed, typed, isUpper, pick, varType, keysAt, typeAt, get, typesTo, typeOf}
+use Rattle.typing.specs.Least.{Typed, typed, isUpper, varType, keysAt, typeAt, get, typesTo, typeOf}
 use Rattle.typing.specs.Scoped.{ctx-type, ctx-var}
-use Rattle.typing.specs.Scoping as scope
+use Rattle.typing.specs.RulesScoped.{ScopedContext, lim-in, rules-scoped}
+use Rattle.typing.specs.Scoping.{ctx-scoped, newkey-fresh}
 use Rattle.typing.specs.Filled.{seen, typeOf-is, typed-ty, typed-eff, of-var, by-with, by-require, by-num, by-pair, by-cell, by-fn, by-lim, by-grant}
 
 is-upper : (o : Option ℕ) (u : ℕ) → isUpper o u ≡ true → o ≡ some u
@@ -37,12 +39,11 @@ module _ (S : Src) (ok : Formed S) (tree : TreeOk S) where
   cast : {Γ : List Entry} {e : ℕ} {A B : Ty} {s : Effect} → A ≡ B → Has S Γ e A s → Has S Γ e B s
   cast {Γ} {e} {s = s} h d = subst (λ (U : Ty). Has S Γ e U s) h d
 
-  -- "Effects join and are then reduced": what the rule gives comes below what is worked out, which is in scope
-  less : {Γ : List Entry} {e : ℕ} {A T : Ty} {s t : Effect} → scope.Good S Γ T t → typed A (reduce (upOf S) s) ≡ typed T t → Has S Γ e A s → Has S Γ e T t
-  less {T = T} {s = s} w h d = h-sub (cast (typed-ty h) d) (sub-refl T) (w .ty .scoped) (subst (λ (u : Effect). EffBelow (upOf S) s u) (typed-eff h) (below-reduce (ok .proper) s)) (w .eff)
+  -- "Effects join and are then reduced": what the rule gives, which is in scope, comes below what is worked out
+  less : {Γ : List Entry} {e : ℕ} {A T : Ty} {s t : Effect} → ScopedContext Γ → typed A (reduce (upOf S) s) ≡ typed T t → Has S Γ e A s → Has S Γ e T t
+  less {A = A} {s = s} g h d = let z = rules-scoped S ok d g in same h (h-sub d (sub-refl A) (z .ty) (below-reduce (ok .proper) s) (reduce-scoped (upOf S) (z .eff)))
 
-  part : {Γ : List Entry} {e a q : ℕ} {A B : Ty} {s : Effect} (i : Bool) → nth (S .cmds) e ≡ c-part a i → Has S Γ a (pair q A B) s → Has S Γ e (pick i A B) (touch q s)
-  unfolding pick
+  part : {Γ : List Entry} {e a q : ℕ} {A B : Ty} {s : Effect} (i : Bool) → nth (S .cmds) e ≡ c-part a i → Has S Γ a (pair q A B) s → Has S Γ e (cond i A B) (touch q s)
   part true c d = h-part1 c d
   part false c d = h-part2 c d
 
@@ -60,52 +61,51 @@ module _ (S : Src) (ok : Formed S) (tree : TreeOk S) where
       g (r ∷ rs) (touch q (join t u)) (k-cons (cast hl (p a (List·Memᴰ·head refl) K t hk)) d) h)))
 
   at : (tab : ℕ → Typed) {Γ : List Entry} {e : ℕ} (k : Cmd Ty) → nth (S .cmds) e ≡ k → OperandIH tab Γ (plain k) → OperandIH tab (binds k ++ Γ) (inner k)
-      → ((c : ℕ) → List·Memᴰ c (plain k) → (T : Ty) (s : Effect) → tab c ≡ typed T s → scope.GoodTy S Γ T) → ((T : Ty) → List·Memᴰ T (typesOf k) → ScopedType Γ T) → Ctx S e Γ
-      → (T : Ty) (s : Effect) → scope.Good S Γ T s → typeAt S tab k ≡ typed T s → Has S Γ e T s
+      → ((T : Ty) → List·Memᴰ T (typesOf k) → ScopedType Γ T) → ScopedContext Γ → Ctx S e Γ → (T : Ty) (s : Effect) → typeAt S tab k ≡ typed T s → Has S Γ e T s
   unfolding typeAt plain inner binds typesOf
-  at tab (c-num n) c p i g o d T s w h = same h (h-num c)
-  at tab c-top c p i g o d T s w h = same h (h-top c)
-  at tab (c-var x) c p i g o d T s w h = let l = ctx-var S ok tree d c in same (of-var (varType S x) (ctx-type S ok tree d (l .1)) h) (h-var c (l .1))
-  at tab (c-pair a b) c p i g o d T s w h =
+  at tab (c-num n) c p i o g d T s h = same h (h-num c)
+  at tab c-top c p i o g d T s h = same h (h-top c)
+  at tab (c-var x) c p i o g d T s h = let l = ctx-var S ok tree d c in same (of-var (varType S x) (ctx-type S ok tree d (l .1)) h) (h-var c (l .1))
+  at tab (c-pair a b) c p i o g d T s h =
       by-with (tab a) _ h (λ A t ha h. by-with (tab b) _ h (λ B u hb h.
-      less w h (h-pair c (p a (List·Memᴰ·head refl) A t ha) (p b (List·Memᴰ·tail (List·Memᴰ·head refl)) B u hb))))
-  at tab (c-part a j) c p i g o d T s w h =
+      less g h (h-pair c (p a (List·Memᴰ·head refl) A t ha) (p b (List·Memᴰ·tail (List·Memᴰ·head refl)) B u hb))))
+  at tab (c-part a j) c p i o g d T s h =
       by-with (tab a) _ h (λ P t ha h. by-pair P _ h (λ q A B hp h.
-      less w h (part j c (cast hp (p a (List·Memᴰ·head refl) P t ha)))))
-  at tab (c-fn x A b) c p i g o d T s w h = by-with (tab b) _ h (λ U t hb h. same h (h-fn c (o A (List·Memᴰ·head refl)) (i b (List·Memᴰ·head refl) U t hb)))
-  at tab (c-app f a) c p i g o d T s w h =
+      less g h (part j c (cast hp (p a (List·Memᴰ·head refl) P t ha)))))
+  at tab (c-fn x A b) c p i o g d T s h = by-with (tab b) _ h (λ U t hb h. same h (h-fn c (o A (List·Memᴰ·head refl)) (i b (List·Memᴰ·head refl) U t hb)))
+  at tab (c-app f a) c p i o g d T s h =
       by-with (tab f) _ h (λ F t hf h. by-with (tab a) _ h (λ A u ha h. by-fn F _ h (λ q P U l hp h. by-require 12 _ _ h (λ y h.
-      less w h (h-app c (cast hp (p f (List·Memᴰ·head refl) F t hf)) (p a (List·Memᴰ·tail (List·Memᴰ·head refl)) A u ha) (subTy→ (upOf S) A P y))))))
-  at tab (c-new U a) c p i g o d T s w h =
+      less g h (h-app c (cast hp (p f (List·Memᴰ·head refl) F t hf)) (p a (List·Memᴰ·tail (List·Memᴰ·head refl)) A u ha) (subTy→ (upOf S) A P y))))))
+  at tab (c-new U a) c p i o g d T s h =
       by-with (tab a) _ h (λ A t ha h. by-require 12 _ _ h (λ y h.
       same h (h-new c (o U (List·Memᴰ·head refl)) (p a (List·Memᴰ·head refl) A t ha) (subTy→ (upOf S) A U y))))
-  at tab (c-asg a b) c p i g o d T s w h =
+  at tab (c-asg a b) c p i o g d T s h =
       by-with (tab a) _ h (λ C t ha h. by-with (tab b) _ h (λ A u hb h. by-cell C _ h (λ q U hc h. by-require 12 _ _ h (λ y h.
-      less w h (h-asg c (cast hc (p a (List·Memᴰ·head refl) C t ha)) (p b (List·Memᴰ·tail (List·Memᴰ·head refl)) A u hb) (subTy→ (upOf S) A U y))))))
-  at tab (c-read a) c p i g o d T s w h =
+      less g h (h-asg c (cast hc (p a (List·Memᴰ·head refl) C t ha)) (p b (List·Memᴰ·tail (List·Memᴰ·head refl)) A u hb) (subTy→ (upOf S) A U y))))))
+  at tab (c-read a) c p i o g d T s h =
       by-with (tab a) _ h (λ C t ha h. by-cell C _ h (λ q U hc h.
-      less w h (h-read c (cast hc (p a (List·Memᴰ·head refl) C t ha)))))
-  at tab (c-sum j a b) c p i g o d T s w h =
+      less g h (h-read c (cast hc (p a (List·Memᴰ·head refl) C t ha)))))
+  at tab (c-sum j a b) c p i o g d T s h =
       by-with (tab a) _ h (λ A t ha h. by-with (tab b) _ h (λ B u hb h. by-num A _ h (λ q hq h. by-num B _ h (λ r hr h.
-      less w h (h-sum c (cast hq (p a (List·Memᴰ·head refl) A t ha)) (cast hr (p b (List·Memᴰ·tail (List·Memᴰ·head refl)) B u hb)))))))
-  at tab (c-test a b z U) c p i g o d T s w h =
+      less g h (h-sum c (cast hq (p a (List·Memᴰ·head refl) A t ha)) (cast hr (p b (List·Memᴰ·tail (List·Memᴰ·head refl)) B u hb)))))))
+  at tab (c-test a b z U) c p i o g d T s h =
       by-with (tab a) _ h (λ A t ha h. by-with (tab b) _ h (λ B u hb h. by-with (tab z) _ h (λ C v hz h.
       by-num A _ h (λ q hq h. by-require 12 _ _ h (λ y h. by-require 12 _ _ h (λ y′ h.
-      less w h (h-test c (o U (List·Memᴰ·head refl)) (cast hq (p a (List·Memᴰ·head refl) A t ha)) (p b (List·Memᴰ·tail (List·Memᴰ·head refl)) B u hb)
+      less g h (h-test c (o U (List·Memᴰ·head refl)) (cast hq (p a (List·Memᴰ·head refl) A t ha)) (p b (List·Memᴰ·tail (List·Memᴰ·head refl)) B u hb)
       (p z (List·Memᴰ·tail (List·Memᴰ·tail (List·Memᴰ·head refl))) C v hz) (subTy→ (upOf S) B U y) (subTy→ (upOf S) C U y′))))))))
-  at tab (c-lim ks b) c p i g o d T s w h =
+  at tab (c-lim ks b) c p i o g d T s h =
       keys tab ks (λ a m. p a (Memᴰ·append-left (b ∷ []) m)) _ h (λ rs t hk h. by-with (tab b) _ h (λ U u hb h. by-require 13 _ _ h (λ y h.
-      less w h (h-lim c hk (p b (Memᴰ·append-right ks (List·Memᴰ·head refl)) U u hb) (effBelow→ (upOf S) u _ y)))))
-  at tab (c-grant a b) c p i g o d T s w h =
+      less g h (h-lim c hk (p b (Memᴰ·append-right ks (List·Memᴰ·head refl)) U u hb) (effBelow→ (upOf S) u _ y)))))
+  at tab (c-grant a b) c p i o g d T s h =
       by-with (tab a) _ h (λ A t ha h. by-with (tab b) _ h (λ U u hb h. by-grant A _ h (λ q r hg h.
-      less w h (h-grant c (cast hg (p a (List·Memᴰ·head refl) A t ha)) (p b (List·Memᴰ·tail (List·Memᴰ·head refl)) U u hb)))))
-  at tab (c-newkey x r a b U) c p i g o d T s w h =
+      less g h (h-grant c (cast hg (p a (List·Memᴰ·head refl) A t ha)) (p b (List·Memᴰ·tail (List·Memᴰ·head refl)) U u hb)))))
+  at tab (c-newkey x r a b U) c p i o g d T s h =
       by-with (tab a) _ h (λ A t ha h. by-with (tab b) _ h (λ B u hb h. by-lim A _ h (λ q v hl h. by-require 11 _ _ h (λ y h. by-require 12 _ _ h (λ y′ h.
-      less w h (h-newkey c (o U (List·Memᴰ·head refl)) (cast hl (p a (List·Memᴰ·head refl) A t ha)) (is-upper (getElem? (upOf S) r) v y) (scope.lim-parts (scope.cast hl (g a (List·Memᴰ·head refl) A t ha)) .1)
-      (scope.newkey-fresh S ok tree d c) (i b (List·Memᴰ·head refl) B u hb) (subTy→ (upOf S) B U y′)))))))
-  at tab (c-assoc a b) c p i g o d T s w h =
+      less g h (h-newkey c (o U (List·Memᴰ·head refl)) (cast hl (p a (List·Memᴰ·head refl) A t ha)) (is-upper (getElem? (upOf S) r) v y) (lim-in (rules-scoped S ok (cast hl (p a (List·Memᴰ·head refl) A t ha)) g .ty))
+      (newkey-fresh S ok tree d c) (i b (List·Memᴰ·head refl) B u hb) (subTy→ (upOf S) B U y′)))))))
+  at tab (c-assoc a b) c p i o g d T s h =
       by-with (tab a) _ h (λ A t ha h. by-with (tab b) _ h (λ B u hb h. by-lim B _ h (λ q r hl h.
-      less w h (h-assoc c (p a (List·Memᴰ·head refl) A t ha) (cast hl (p b (List·Memᴰ·tail (List·Memᴰ·head refl)) B u hb))))))
+      less g h (h-assoc c (p a (List·Memᴰ·head refl) A t ha) (cast hl (p b (List·Memᴰ·tail (List·Memᴰ·head refl)) B u hb))))))
 
   -- operands are earlier, so by the number of the expression
   upto : (f e : ℕ) {Γ : List Entry} → e < f → e < length (S .cmds) → Ctx S e Γ → (T : Ty) (s : Effect) → typeOf S e ≡ typed T s → Has S Γ e T s
@@ -114,8 +114,7 @@ module _ (S : Src) (ok : Formed S) (tree : TreeOk S) where
       at (get (typesTo S e)) (nth (S .cmds) e) refl
       (λ c m U t y. upto f c (omega (arith, plain-lt S ok m)) (omega (arith, plain-lt S ok m)) (x-plain m d) U t (sym (seen S e c (omega arith) (plain-lt S ok m)) ∙ y))
       (λ c m U t y. upto f c (omega (arith, inner-lt S ok m)) (omega (arith, inner-lt S ok m)) (x-inner m d) U t (sym (seen S e c (omega arith) (inner-lt S ok m)) ∙ y))
-      (λ c m U t y. scope.scoping S ok tree (x-plain m d) (sym (seen S e c (omega arith) (plain-lt S ok m)) ∙ y) .ty)
-      (λ U m. ctx-uses S ok tree d .type-operand U m) d T s (scope.scoping S ok tree d g) (sym (typeOf-is S e l) ∙ g)
+      (λ U m. ctx-uses S ok tree d .type-operand U m) (ctx-scoped S ok tree d) d T s (sym (typeOf-is S e l) ∙ g)
 
   -- every expression, in its context
   pub adequate : {e : ℕ} {Γ : List Entry} → Ctx S e Γ → {T : Ty} {s : Effect} → typeOf S e ≡ typed T s → Has S Γ e T s

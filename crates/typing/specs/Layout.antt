@@ -3,11 +3,11 @@
 use Prim.Native.Nat.{ℕ, suc, _+_}
 use mathlib.Core.Bool.{true, false, cond}
 use mathlib.Core.List.{List, [], _∷_, _++_, map, flatMap, zipWith}
-use mathlib.Core.Option.{Option, none, some}
+use mathlib.Core.Option.{Option}
 use lib.ListN.{length, getD, getElem?}
 use lib.Dec.{eqb}
 use Rattle.order.specs.Effects.{Effect}
-use Rattle.syntax.specs.Types.{TypeEntry, e-num, e-pair, e-cell, e-fn, e-lim, e-grant}
+use Rattle.syntax.specs.Types.{TypeEntry, e-num, e-pair, e-cell, e-fn, e-lim, e-grant, byEntry}
 use Rattle.syntax.specs.Commands.{Cmd, c-num, c-top, c-var, c-pair, c-part, c-fn, c-app, c-new, c-asg, c-read, c-sum, c-test, c-lim, c-grant, c-newkey, c-assoc, r-parameter, r-keypair}
 use Rattle.syntax.specs.Operands.{ofRoles, typesOf, bindsName}
 use Rattle.syntax.specs.Job.{HostValue, Job}
@@ -60,33 +60,18 @@ varEntry J v = entryOf (boundVars (length (J .types)) (J .cmds) ++ hostVars 0 (J
 
 -- the first part of an entry: of a pair, of a cell, the argument of a function, a key's own name
 unfoldable pub firstPart : Option TypeEntry → ℕ
-firstPart none = 0
-firstPart (some (e-num q)) = 0
-firstPart (some (e-pair q a b)) = a
-firstPart (some (e-cell q a)) = a
-firstPart (some (e-fn q a b s)) = a
-firstPart (some (e-lim q r)) = r
-firstPart (some (e-grant q r)) = r
+unfolding byEntry
+firstPart o = byEntry 0 (λ q. 0) (λ q a b. a) (λ q a. a) (λ q a b s. a) (λ q r. r) (λ q r. r) o
 
 -- the second: of a pair, the result of a function
 unfoldable pub secondPart : Option TypeEntry → ℕ
-secondPart none = 0
-secondPart (some (e-num q)) = 0
-secondPart (some (e-pair q a b)) = b
-secondPart (some (e-cell q a)) = 0
-secondPart (some (e-fn q a b s)) = b
-secondPart (some (e-lim q r)) = 0
-secondPart (some (e-grant q r)) = 0
+unfolding byEntry
+secondPart o = byEntry 0 (λ q. 0) (λ q a b. b) (λ q a. 0) (λ q a b s. b) (λ q r. 0) (λ q r. 0) o
 
 -- an entry with another key
 unfoldable pub rekeyed : ℕ → Option TypeEntry → TypeEntry
-rekeyed k none = e-num k
-rekeyed k (some (e-num q)) = e-num k
-rekeyed k (some (e-pair q a b)) = e-pair k a b
-rekeyed k (some (e-cell q a)) = e-cell k a
-rekeyed k (some (e-fn q a b s)) = e-fn k a b s
-rekeyed k (some (e-lim q r)) = e-lim k r
-rekeyed k (some (e-grant q r)) = e-grant k r
+unfolding byEntry
+rekeyed k o = byEntry (e-num k) (λ q. e-num k) (λ q a b. e-pair k a b) (λ q a. e-cell k a) (λ q a b s. e-fn k a b s) (λ q r. e-lim k r) (λ q r. e-grant k r) o
 
 -- an expression's type: a new entry, or one already there
 pub data Points : Type 0 where

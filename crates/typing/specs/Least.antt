@@ -1,12 +1,12 @@
--- The least type and effect of each expression: what the checker computes, and the numbers 11, 12 and 13.
+-- The least type and effect of each expression: what the checker computes, and refusals 11, 12 and 13.
 use Prim.Native.Nat.{ℕ, zero, suc}
-use mathlib.Core.Bool.{Bool, true, false, cond}
+use mathlib.Core.Bool.{Bool, false, cond}
 use mathlib.Core.List.{List, [], _∷_, _++_}
 use mathlib.Core.Option.{Option, none, some}
-use lib.ListN.{length, getElem?}
+use lib.ListN.{length, getD, getElem?}
 use lib.Dec.{eqb}
 use Rattle.order.specs.Effects.{Effect, pure, ofNames, touch, join, drop, raise, reduce, effBelow}
-use Rattle.syntax.specs.Types.{Ty, num, pair, cell, fn, lim, grant, keyOf, rekey}
+use Rattle.syntax.specs.Types.{Ty, num, pair, cell, fn, lim, onNum, onPair, onCell, onFn, onLim, onGrant, keyOf, rekey}
 use Rattle.syntax.specs.Commands.{Cmd, c-num, c-top, c-var, c-pair, c-part, c-fn, c-app, c-new, c-asg, c-read, c-sum, c-test, c-lim, c-grant, c-newkey, c-assoc}
 use Rattle.syntax.specs.Operands.{nth}
 use Rattle.syntax.specs.Job.{Src, upOf}
@@ -24,67 +24,32 @@ unfoldable pub with : Typed → (Ty → Effect → Typed) → Typed
 with (typed T s) f = f T s
 with (untyped n) f = untyped n
 
--- 11: an operand of the wrong kind
+-- refusal 11: an operand of the wrong kind
 unfoldable pub wantNum : Ty → (ℕ → Typed) → Typed
-wantNum (num q) f = f q
-wantNum (pair q A B) f = untyped 11
-wantNum (cell q A) f = untyped 11
-wantNum (fn q A B s) f = untyped 11
-wantNum (lim q r) f = untyped 11
-wantNum (grant q r) f = untyped 11
+wantNum T f = onNum T f (untyped 11)
 
 unfoldable pub wantPair : Ty → (ℕ → Ty → Ty → Typed) → Typed
-wantPair (num q) f = untyped 11
-wantPair (pair q A B) f = f q A B
-wantPair (cell q A) f = untyped 11
-wantPair (fn q A B s) f = untyped 11
-wantPair (lim q r) f = untyped 11
-wantPair (grant q r) f = untyped 11
+wantPair T f = onPair T f (untyped 11)
 
 unfoldable pub wantCell : Ty → (ℕ → Ty → Typed) → Typed
-wantCell (num q) f = untyped 11
-wantCell (pair q A B) f = untyped 11
-wantCell (cell q A) f = f q A
-wantCell (fn q A B s) f = untyped 11
-wantCell (lim q r) f = untyped 11
-wantCell (grant q r) f = untyped 11
+wantCell T f = onCell T f (untyped 11)
 
 unfoldable pub wantFn : Ty → (ℕ → Ty → Ty → Effect → Typed) → Typed
-wantFn (num q) f = untyped 11
-wantFn (pair q A B) f = untyped 11
-wantFn (cell q A) f = untyped 11
-wantFn (fn q A B s) f = f q A B s
-wantFn (lim q r) f = untyped 11
-wantFn (grant q r) f = untyped 11
+wantFn T f = onFn T f (untyped 11)
 
 unfoldable pub wantLim : Ty → (ℕ → ℕ → Typed) → Typed
-wantLim (num q) f = untyped 11
-wantLim (pair q A B) f = untyped 11
-wantLim (cell q A) f = untyped 11
-wantLim (fn q A B s) f = untyped 11
-wantLim (lim q r) f = f q r
-wantLim (grant q r) f = untyped 11
+wantLim T f = onLim T f (untyped 11)
 
 unfoldable pub wantGrant : Ty → (ℕ → ℕ → Typed) → Typed
-wantGrant (num q) f = untyped 11
-wantGrant (pair q A B) f = untyped 11
-wantGrant (cell q A) f = untyped 11
-wantGrant (fn q A B s) f = untyped 11
-wantGrant (lim q r) f = untyped 11
-wantGrant (grant q r) f = f q r
+wantGrant T f = onGrant T f (untyped 11)
 
 -- a condition, and the number given where it fails
 unfoldable pub require : ℕ → Bool → Typed → Typed
-require n true t = t
-require n false t = untyped n
+require n b t = cond b t (untyped n)
 
 unfoldable pub isUpper : Option ℕ → ℕ → Bool
 isUpper none u = false
 isUpper (some w) u = eqb u w
-
-unfoldable pub pick : Bool → Ty → Ty → Ty
-pick true A B = A
-pick false A B = B
 
 -- the type of a variable, wherever it is bound
 unfoldable pub typeIn : List Entry → ℕ → Option Ty
@@ -99,7 +64,7 @@ unfoldable pub ofVar : Option Ty → Typed
 ofVar none = untyped 11
 ofVar (some T) = typed T pure
 
--- the limit keys of 3C: their names, and the effect of working them out and touching them
+-- the limit keys of 0x3C: their names, and the effect of evaluating them and touching them
 unfoldable pub keysAt : (ℕ → Typed) → List ℕ → (List ℕ → Effect → Typed) → Typed
 keysAt tab [] f = f [] pure
 keysAt tab (a ∷ ks) f = with (tab a) (λ K s. wantLim K (λ q r. keysAt tab ks (λ rs t. f (r ∷ rs) (touch q (join s t)))))
@@ -110,7 +75,7 @@ typeAt S tab (c-num n) = typed (num 0) pure
 typeAt S tab c-top = typed (lim 0 1) pure
 typeAt S tab (c-var x) = ofVar (varType S x)
 typeAt S tab (c-pair a b) = with (tab a) (λ A s. with (tab b) (λ B t. typed (pair 0 A B) (reduce (upOf S) (join s t))))
-typeAt S tab (c-part a i) = with (tab a) (λ P s. wantPair P (λ q A B. typed (pick i A B) (reduce (upOf S) (touch q s))))
+typeAt S tab (c-part a i) = with (tab a) (λ P s. wantPair P (λ q A B. typed (cond i A B) (reduce (upOf S) (touch q s))))
 typeAt S tab (c-fn x T b) = with (tab b) (λ U s. typed (fn 0 T U s) pure)
 typeAt S tab (c-app f a) =
     with (tab f) (λ F s. with (tab a) (λ A t. wantFn F (λ q T U l. require 12 (subTy (upOf S) A T) (typed U (reduce (upOf S) (touch q (join l (join s t))))))))
@@ -134,9 +99,7 @@ typeAt S tab (c-assoc a b) =
 
 -- what is written in a list of results; past its end there is none, and 0 is no refusal's number
 unfoldable pub get : List Typed → ℕ → Typed
-get [] e = untyped 0
-get (x ∷ l) zero = x
-get (x ∷ l) (suc e) = get l e
+get l e = getD l e (untyped 0)
 
 -- one expression more
 unfoldable pub extend : Src → ℕ → List Typed → List Typed

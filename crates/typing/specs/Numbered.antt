@@ -3,11 +3,11 @@
 use Prim.Native.Nat.{ℕ, suc}
 use mathlib.Core.Bool.{Bool, true, false, cond}
 use mathlib.Core.List.{List, [], _∷_, _++_}
-use mathlib.Core.Option.{Option, none, some}
+use mathlib.Core.Option.{Option}
 use lib.ListN.{length, getD, getElem?}
 use Rattle.order.specs.Order.{below}
 use Rattle.order.specs.Effects.{Effect, pure, touch, join, drop, raise, reduce, effBelow}
-use Rattle.syntax.specs.Types.{TypeEntry, e-num, e-pair, e-cell, e-fn, e-lim, e-grant}
+use Rattle.syntax.specs.Types.{TypeEntry, e-num, e-pair, e-cell, e-fn, e-lim, byEntry}
 use Rattle.syntax.specs.Commands.{Cmd, c-num, c-top, c-var, c-pair, c-part, c-fn, c-app, c-new, c-asg, c-read, c-sum, c-test, c-lim, c-grant, c-newkey, c-assoc}
 use Rattle.syntax.specs.Job.{Job}
 use Rattle.syntax.specs.Reading.{Refusal, most-depth}
@@ -48,58 +48,28 @@ pub data Result : Type 0 where
 
 -- 11: an operand of the wrong kind
 unfoldable pub needNum : Option TypeEntry → (ℕ → Result) → Result
-needNum none f = wrong 11
-needNum (some (e-num q)) f = f q
-needNum (some (e-pair q a b)) f = wrong 11
-needNum (some (e-cell q a)) f = wrong 11
-needNum (some (e-fn q a b s)) f = wrong 11
-needNum (some (e-lim q r)) f = wrong 11
-needNum (some (e-grant q r)) f = wrong 11
+unfolding byEntry
+needNum o f = byEntry (wrong 11) f (λ q a b. wrong 11) (λ q a. wrong 11) (λ q a b s. wrong 11) (λ q r. wrong 11) (λ q r. wrong 11) o
 
 unfoldable pub needPair : Option TypeEntry → (ℕ → ℕ → ℕ → Result) → Result
-needPair none f = wrong 11
-needPair (some (e-num q)) f = wrong 11
-needPair (some (e-pair q a b)) f = f q a b
-needPair (some (e-cell q a)) f = wrong 11
-needPair (some (e-fn q a b s)) f = wrong 11
-needPair (some (e-lim q r)) f = wrong 11
-needPair (some (e-grant q r)) f = wrong 11
+unfolding byEntry
+needPair o f = byEntry (wrong 11) (λ q. wrong 11) f (λ q a. wrong 11) (λ q a b s. wrong 11) (λ q r. wrong 11) (λ q r. wrong 11) o
 
 unfoldable pub needCell : Option TypeEntry → (ℕ → ℕ → Result) → Result
-needCell none f = wrong 11
-needCell (some (e-num q)) f = wrong 11
-needCell (some (e-pair q a b)) f = wrong 11
-needCell (some (e-cell q a)) f = f q a
-needCell (some (e-fn q a b s)) f = wrong 11
-needCell (some (e-lim q r)) f = wrong 11
-needCell (some (e-grant q r)) f = wrong 11
+unfolding byEntry
+needCell o f = byEntry (wrong 11) (λ q. wrong 11) (λ q a b. wrong 11) f (λ q a b s. wrong 11) (λ q r. wrong 11) (λ q r. wrong 11) o
 
 unfoldable pub needFn : Option TypeEntry → (ℕ → ℕ → ℕ → Effect → Result) → Result
-needFn none f = wrong 11
-needFn (some (e-num q)) f = wrong 11
-needFn (some (e-pair q a b)) f = wrong 11
-needFn (some (e-cell q a)) f = wrong 11
-needFn (some (e-fn q a b s)) f = f q a b s
-needFn (some (e-lim q r)) f = wrong 11
-needFn (some (e-grant q r)) f = wrong 11
+unfolding byEntry
+needFn o f = byEntry (wrong 11) (λ q. wrong 11) (λ q a b. wrong 11) (λ q a. wrong 11) f (λ q r. wrong 11) (λ q r. wrong 11) o
 
 unfoldable pub needLim : Option TypeEntry → (ℕ → ℕ → Result) → Result
-needLim none f = wrong 11
-needLim (some (e-num q)) f = wrong 11
-needLim (some (e-pair q a b)) f = wrong 11
-needLim (some (e-cell q a)) f = wrong 11
-needLim (some (e-fn q a b s)) f = wrong 11
-needLim (some (e-lim q r)) f = f q r
-needLim (some (e-grant q r)) f = wrong 11
+unfolding byEntry
+needLim o f = byEntry (wrong 11) (λ q. wrong 11) (λ q a b. wrong 11) (λ q a. wrong 11) (λ q a b s. wrong 11) f (λ q r. wrong 11) o
 
 unfoldable pub needGrant : Option TypeEntry → (ℕ → ℕ → Result) → Result
-needGrant none f = wrong 11
-needGrant (some (e-num q)) f = wrong 11
-needGrant (some (e-pair q a b)) f = wrong 11
-needGrant (some (e-cell q a)) f = wrong 11
-needGrant (some (e-fn q a b s)) f = wrong 11
-needGrant (some (e-lim q r)) f = wrong 11
-needGrant (some (e-grant q r)) f = f q r
+unfolding byEntry
+needGrant o f = byEntry (wrong 11) (λ q. wrong 11) (λ q a b. wrong 11) (λ q a. wrong 11) (λ q a b s. wrong 11) (λ q r. wrong 11) f o
 
 -- a condition, and the number given where it fails
 unfoldable pub need : ℕ → Bool → Result → Result
@@ -108,13 +78,8 @@ need n false r = wrong n
 
 -- the key of an entry
 unfoldable pub keyIn : Option TypeEntry → ℕ
-keyIn none = 0
-keyIn (some (e-num q)) = q
-keyIn (some (e-pair q a b)) = q
-keyIn (some (e-cell q a)) = q
-keyIn (some (e-fn q a b s)) = q
-keyIn (some (e-lim q r)) = q
-keyIn (some (e-grant q r)) = q
+unfolding byEntry
+keyIn o = byEntry 0 (λ q. q) (λ q a b. q) (λ q a. q) (λ q a b s. q) (λ q r. q) (λ q r. q) o
 
 -- var: the entry of each variable; at: the entries; of, eff: the entry and the effect of each expression so far
 module _ (O : Ops) (var : ℕ → ℕ) (at : ℕ → Option TypeEntry) (of : ℕ → ℕ) (eff : ℕ → Effect) where
@@ -123,7 +88,7 @@ module _ (O : Ops) (var : ℕ → ℕ) (at : ℕ → Option TypeEntry) (of : ℕ
   fits a t = subIn (O .below) (O .effBelow) most-depth at a t
 
   -- the limit keys of 3C, in order: the set of their names and the effect so far
-  unfoldable pub keysFrom : List ℕ → ℕ → Effect → (ℕ → Effect → Result) → Result
+  unfoldable pub keysFrom : List ℕ → Effect → Effect → (Effect → Effect → Result) → Result
   keysFrom [] rs s f = f rs s
   keysFrom (a ∷ ks) rs s f = needLim (at (of a)) (λ q r. keysFrom ks (O .touch r rs) (O .touch q (join (eff a) s)) f)
 
@@ -142,7 +107,7 @@ module _ (O : Ops) (var : ℕ → ℕ) (at : ℕ → Option TypeEntry) (of : ℕ
       needNum (at (of a)) (λ p. needNum (at (of b)) (λ q. makes (e-num 0) (O .reduce (O .touch p (O .touch q (join (eff a) (eff b)))))))
   resultAt (c-test a b c t) =
       needNum (at (of a)) (λ q. need 12 (fits (of b) t) (need 12 (fits (of c) t) (points t (O .reduce (O .touch q (join (eff a) (join (eff b) (eff c))))))))
-  resultAt (c-lim ks b) = keysFrom ks 0 pure (λ rs s. need 13 (O .effBelow (eff b) rs) (points (of b) (O .reduce (join s (eff b)))))
+  resultAt (c-lim ks b) = keysFrom ks pure pure (λ rs s. need 13 (O .effBelow (eff b) rs) (points (of b) (O .reduce (join s (eff b)))))
   resultAt (c-grant a b) = needGrant (at (of a)) (λ q r. points (of b) (O .reduce (O .touch q (join (eff a) (O .drop r (eff b))))))
   resultAt (c-newkey v r a b t) =
       needLim (at (of a)) (λ q u. need 11 (O .over r u) (need 12 (fits (of b) t) (points t (O .reduce (O .touch q (join (eff a) (O .raise r u (eff b))))))))
@@ -166,7 +131,7 @@ settle σ (points i s) = next (record { entries = σ .entries; of = σ .of ++ (i
 settle σ (wrong n) = stop n
 
 unfoldable pub numberAt : Ops → (ℕ → ℕ) → Sofar → Cmd ℕ → Numbered
-numberAt O var σ k = settle σ (resultAt O var (getElem? (σ .entries)) (λ e. getD (σ .of) e 0) (λ e. getD (σ .effects) e 0) k)
+numberAt O var σ k = settle σ (resultAt O var (getElem? (σ .entries)) (λ e. getD (σ .of) e 0) (λ e. getD (σ .effects) e pure) k)
 
 -- the state when all expressions are done, or the first refusal
 pub data Whole : Type 0 where

@@ -1,8 +1,7 @@
 -- Typing by numbers is typing by trees: each expression's entry has the tree that `Least` gives the expression, the effects are the same, the refusals are the same,
 -- and the entries are those of `Layout`.
 use mathlib.Core.Path.{_≡_, refl, sym, ap, _∙_, subst, subst⁻¹}
-use Prim.Native.Nat.{ℕ, zero, suc, _+_, _*_, _^_, _≤_, _<_}
-use native.Mathlib.Nat.{pow-le-pow-right}
+use Prim.Native.Nat.{ℕ, zero, suc, _+_, _*_, _≤_, _<_}
 use native.Mathlib.Omega.{arith}
 use mathlib.Core.Bool.{Bool, true, false}
 use mathlib.Core.List.{List, [], _∷_, _++_, map, append-assoc, append-nil, List·Memᴰ, List·Memᴰ·head, List·Memᴰ·eq-of-singleton}
@@ -14,6 +13,7 @@ use borrow.Author.Tests.{ltb-true, ltb-false}
 use Rattle.order.specs.Order.{below}
 use Rattle.order.specs.OrderLaws.{length-snoc}
 use Rattle.order.specs.Effects.{Effect, pure, touch, join, effBelow}
+use Rattle.order.specs.EffectLaws.{Within, within-wider}
 use Rattle.syntax.specs.Types.{Ty, depth, TypeEntry, e-num, e-pair, e-cell, e-fn, e-lim, e-grant, tree}
 use Rattle.syntax.specs.TypeLaws.{tree-kept, tree-new}
 use Rattle.syntax.specs.Commands.{Cmd, c-num, c-top, c-var, c-pair, c-part, c-fn, c-app, c-new, c-asg, c-read, c-sum, c-test, c-lim, c-grant, c-newkey, c-assoc, mapCmd}
@@ -31,7 +31,8 @@ use Rattle.syntax.specs.TreeExactly.{tree-ok}
 use Rattle.typing.specs.Subtype.{subTy}
 use Rattle.typing.specs.Least.{Typed, typed, untyped, varType, typeAt, get, typesTo, types, typeOf, firstUntyped}
 use Rattle.typing.specs.Layout.{newKeys, keyEntries, varEntry, firstPart, secondPart, rekeyed, Points, new, old, pointsTo, Layout, point, layoutFrom, layoutOf}
-use Rattle.typing.specs.Tables.{most-entries, effectOf, effectIn, layoutFor}
+use Rattle.syntax.specs.Loading.{most-entries}
+use Rattle.typing.specs.Tables.{effectOf, effectIn, layoutFor}
 use Rattle.typing.specs.Filled.{typesTo-length, seen, typeOf-is, untyped-not, all-typed}
 use Rattle.typing.specs.Scoped.{ctx-type, ctx-var}
 use Rattle.typing.specs.Entries.{subIn}
@@ -115,7 +116,7 @@ layout-grant (some (e-lim q r)) g f = l-no
 layout-grant (some (e-grant q r)) g f = f q r
 
 module _ (O : Ops) (var : ℕ → ℕ) (E : List TypeEntry) (of : ℕ → ℕ) (eff : ℕ → Effect) where
-  layout-keys : (ks : List ℕ) (n : ℕ) (s : Effect) (g : ℕ → Effect → Result) {p : Points} → ((m : ℕ) (t : Effect) → LayoutAgrees (g m t) p) → LayoutAgrees (keysFrom O var (getElem? E) of eff ks n s g) p
+  layout-keys : (ks : List ℕ) (n s : Effect) (g : Effect → Effect → Result) {p : Points} → ((m t : Effect) → LayoutAgrees (g m t) p) → LayoutAgrees (keysFrom O var (getElem? E) of eff ks n s g) p
   unfolding keysFrom
   layout-keys [] n s g f = f n s
   layout-keys (a ∷ ks) n s g {p} f = layout-lim (getElem? E (of a)) _ (λ o. p) (λ q r. layout-keys ks (O .touch r n) (O .touch q (join (eff a) s)) g f)
@@ -135,7 +136,7 @@ module _ (O : Ops) (var : ℕ → ℕ) (E : List TypeEntry) (of : ℕ → ℕ) (
   layout-at fin (c-read a) h = layout-cell (getElem? E (of a)) _ (λ o. old (firstPart o)) (λ q x. l-old)
   layout-at fin (c-sum i a b) h = layout-num (getElem? E (of a)) _ (λ p. layout-num (getElem? E (of b)) _ (λ q. l-new))
   layout-at fin (c-test a b c t) h = layout-num (getElem? E (of a)) _ (λ q. layout-need 12 _ (layout-need 12 _ l-old))
-  layout-at fin (c-lim ks b) h = layout-keys ks 0 pure _ (λ rs s. layout-need 13 _ l-old)
+  layout-at fin (c-lim ks b) h = layout-keys ks pure pure _ (λ rs s. layout-need 13 _ l-old)
   layout-at fin (c-grant a b) h = layout-grant (getElem? E (of a)) _ (λ q r. l-old)
   layout-at fin (c-newkey v r a b t) h = layout-lim (getElem? E (of a)) _ (λ o. old t) (λ q u. layout-need 11 _ (layout-need 12 _ l-old))
   layout-at fin (c-assoc a b) h = layout-lim (getElem? E (of b)) _ (λ o. new (rekeyed (firstPart o) (getElem? E (of a)))) (λ q r. l-new)
@@ -151,7 +152,7 @@ pub record Inv (J : Job) (e : ℕ) (σ : Sofar) : Type 0 where
   pub few : length more ≤ e
   pub table : TableOk (length (J .types)) (length (upOf (sourceOf J))) (σ .entries)
   -- each expression's entry has the expression's type, and its effect is the expression's
-  pub each : (c : ℕ) → c < e → Operand (length (upOf (sourceOf J))) (σ .entries) (typeOf (sourceOf J)) (λ a. getD (σ .of) a 0) (λ a. getD (σ .effects) a 0) c
+  pub each : (c : ℕ) → c < e → Operand (length (upOf (sourceOf J))) (σ .entries) (typeOf (sourceOf J)) (λ a. getD (σ .of) a 0) (λ a. getD (σ .effects) a pure) c
 
 -- the entries and where the expressions' types stand
 abbrev pub layoutIn : Sofar → Layout
@@ -193,20 +194,20 @@ extend-inv J e σ v F U q u ok {A} {i} p {s} {t} same g =
     long : length (σ .entries) ≤ length F
     long = omega (arith, ap length q, length-append (σ .entries) U)
 
-    old-one : (c : ℕ) → c < e → Operand N F (typeOf (sourceOf J)) (λ a. getD of a 0) (λ a. getD effects a 0) c
+    old-one : (c : ℕ) → c < e → Operand N F (typeOf (sourceOf J)) (λ a. getD of a 0) (λ a. getD effects a pure) c
     old-one c h =
         operand-on c (v .each c h) long (ap (λ l. tree l (getD (σ .of) c 0)) q ∙ tree-kept (table-earlier (v .table)) U (getD (σ .of) c 0) (v .each c h .low))
-        (List·getD-append (σ .of) (i ∷ []) 0 c (omega (arith, v .count-of))) (List·getD-append (σ .effects) (t ∷ []) 0 c (omega (arith, v .count-effects)))
+        (List·getD-append (σ .of) (i ∷ []) 0 c (omega (arith, v .count-of))) (List·getD-append (σ .effects) (t ∷ []) pure c (omega (arith, v .count-effects)))
 
-    new-one : Operand N F (typeOf (sourceOf J)) (λ a. getD of a 0) (λ a. getD effects a 0) e
+    new-one : Operand N F (typeOf (sourceOf J)) (λ a. getD of a 0) (λ a. getD effects a pure) e
     new-one =
         let x : getD of e 0 ≡ i = getD-at (σ .of) i [] 0 e (v .count-of) in
-        let y : getD effects e 0 ≡ t = getD-at (σ .effects) t [] 0 e (v .count-effects) in
+        let y : getD effects e pure ≡ t = getD-at (σ .effects) t [] pure e (v .count-effects) in
         record { is = g ∙ rw (x, y, p .is, same .is); low = rw x (p .low); small = rw (y, ← same .is) (same .low) }
 
-    at : (c : ℕ) → c < suc e → (b : Bool) → ltb c e ≡ b → Operand N F (typeOf (sourceOf J)) (λ a. getD of a 0) (λ a. getD effects a 0) c
+    at : (c : ℕ) → c < suc e → (b : Bool) → ltb c e ≡ b → Operand N F (typeOf (sourceOf J)) (λ a. getD of a 0) (λ a. getD effects a pure) c
     at c h true z = old-one c (ltb-true c e z)
-    at c h false z = let y : c ≡ e = omega (arith, ltb-false c e z) in subst⁻¹ (λ n. Operand N F (typeOf (sourceOf J)) (λ a. getD of a 0) (λ a. getD effects a 0) n) y new-one
+    at c h false z = let y : c ≡ e = omega (arith, ltb-false c e z) in subst⁻¹ (λ n. Operand N F (typeOf (sourceOf J)) (λ a. getD of a 0) (λ a. getD effects a pure) n) y new-one
 
 -- names with 0 and 1
 pub up-length : (J : Job) → length (upOf (sourceOf J)) ≡ 2 + length (J .names)
@@ -284,7 +285,7 @@ whole-at J c z = (z .0, z .1, at-get J c ∙ z .2)
 typed-at : (J : Job) (τ : Sofar) → Inv J (length (J .cmds)) τ → (c : ℕ) → c < length (J .cmds) → (A : Ty) × (s : Effect) × (get (types (sourceOf J)) c ≡ typed A s)
 typed-at J τ i c h = whole-at J c (_, _, i .each c h .is)
 
-effect-at : (l : List Typed) (c : ℕ) → getD (map effectOf l) c 0 ≡ effectOf (get l c)
+effect-at : (l : List Typed) (c : ℕ) → getD (map effectOf l) c pure ≡ effectOf (get l c)
 unfolding effectOf get
 effect-at [] c = refl
 effect-at (x ∷ l) zero = refl
@@ -299,7 +300,7 @@ final-is J τ i p = λ k. record { entries = p′ k .entries; of = p′ k .of; e
 
     effects : τ .effects ≡ map effectOf (types (sourceOf J))
     effects =
-        ext-getD 0 (τ .effects) (map effectOf (types (sourceOf J))) (omega (arith, i .count-effects, types-length J, length-map (types (sourceOf J)) effectOf))
+        ext-getD pure (τ .effects) (map effectOf (types (sourceOf J))) (omega (arith, i .count-effects, types-length J, length-map (types (sourceOf J)) effectOf))
         (λ c h. sym (effect-at (types (sourceOf J)) c ∙ ap effectOf (at-get J c ∙ i .each c (omega (arith, i .count-effects)) .is)))
 
 module _ {J : Job} (j : JobOk J) (scoped : treeRefusal (sourceOf J) ≡ none) {O : Ops} (ag : Agree (upOf (sourceOf J)) O) where
@@ -342,24 +343,24 @@ module _ {J : Job} (j : JobOk J) (scoped : treeRefusal (sourceOf J) ≡ none) {O
   step e h σ v =
       settled J e σ (nth (J .cmds) e) v
       (matches (sourceOf J) ag (J .types) (v .table) (omega (arith, up-length J)) (λ t l. later v (start-kept j t l)) (get (typesTo (sourceOf J) e)) (varEntry J)
-      (λ a. getD (σ .of) a 0) (λ a. getD (σ .effects) a 0) (subtypes v) (nth (J .cmds) e)
+      (λ a. getD (σ .of) a 0) (λ a. getD (σ .effects) a pure) (subtypes v) (nth (J .cmds) e)
       (record {
         operand = λ c m. before c (form .operand c m);
         type = λ t m. form .type-operand t m;
         name = λ r m. (local-above (J .names) r (form .bound-name r m), omega (arith, local-lt (J .names) r (form .bound-name r m), up-length J));
         variable = λ x m. let z = variable-at e x h m in (z .0, z .1, later v (z .2));
       }))
-      (layout-at O (varEntry J) (σ .entries) (λ a. getD (σ .of) a 0) (λ a. getD (σ .effects) a 0) (effectIn J) (nth (J .cmds) e) (λ c m. effect c (form .operand c m)))
+      (layout-at O (varEntry J) (σ .entries) (λ a. getD (σ .of) a 0) (λ a. getD (σ .effects) a pure) (effectIn J) (nth (J .cmds) e) (λ c m. effect c (form .operand c m)))
       (typeOf-is (sourceOf J) e (omega (arith, cmds-length J)) ∙ ap (λ k. typeAt (sourceOf J) (get (typesTo (sourceOf J) e)) k) (cmd-at J e))
       refl
     where
       form : CmdFormed (J .names) (length (J .types)) (length (J .values)) e (nth (J .cmds) e)
       form = cmds-formed j e
 
-      before : (c : ℕ) → c < e → Operand (length (upOf (sourceOf J))) (σ .entries) (get (typesTo (sourceOf J) e)) (λ a. getD (σ .of) a 0) (λ a. getD (σ .effects) a 0) c
+      before : (c : ℕ) → c < e → Operand (length (upOf (sourceOf J))) (σ .entries) (get (typesTo (sourceOf J) e)) (λ a. getD (σ .of) a 0) (λ a. getD (σ .effects) a pure) c
       before c l = let p = v .each c l in record { is = seen (sourceOf J) e c (omega (arith, cmds-length J)) l ∙ p .is; low = p .low; small = p .small }
 
-      effect : (c : ℕ) → c < e → effectIn J c ≡ getD (σ .effects) c 0
+      effect : (c : ℕ) → c < e → effectIn J c ≡ getD (σ .effects) c pure
       effect c l = ap effectOf (v .each c l .is)
 
   at-cmd : (pre : List (Cmd ℕ)) (k : Cmd ℕ) (l : List (Cmd ℕ)) (e : ℕ) → J .cmds ≡ pre ++ (k ∷ l) → length pre ≡ e → (nth (J .cmds) e ≡ k) × (e < length (J .cmds))
@@ -423,23 +424,20 @@ unfolding newKeys
 new-few [] = omega arith
 new-few (k ∷ l) = omega (arith, length-append (bindsName k) (newKeys l), bound-few (bound k), new-few l)
 
-pow-wider : {s N M : ℕ} → s < 2 ^ N → N ≤ M → s < 2 ^ M
-pow-wider {s} {N} {M} h l = let z : 2 ^ N ≤ 2 ^ M = pow-le-pow-right (omega arith) l in omega arith
-
 entry-wider : {D C N M n : ℕ} {x : TypeEntry} → EntryOk D N n x → D ≤ C → N ≤ M → EntryOk C M n x
 entry-wider {M = M} (ok-num {q = q} a) h l = let u : q < M = omega arith in ok-num u
 entry-wider {M = M} (ok-pair {q = q} a b c) h l = let u : q < M = omega arith in ok-pair u b c
 entry-wider {C = C} {M = M} (ok-cell {q = q} {a = y} a b c) h l = let u : q < M = omega arith in let v : y < C = omega arith in ok-cell u b v
-entry-wider {C = C} {M = M} (ok-fn {q = q} {a = y} a b c d e) h l = let u : q < M = omega arith in let v : y < C = omega arith in ok-fn u b v d (pow-wider e l)
+entry-wider {C = C} {M = M} (ok-fn {q = q} {a = y} a b c d e) h l = let u : q < M = omega arith in let v : y < C = omega arith in ok-fn u b v d (within-wider e l)
 entry-wider {M = M} (ok-lim {q = q} {r = r} a b) h l = let u : q < M = omega arith in let v : r < M = omega arith in ok-lim u v
 entry-wider {M = M} (ok-grant {q = q} {r = r} a b) h l = let u : q < M = omega arith in let v : r < M = omega arith in ok-grant u v
 
--- no more entries than the type table has; numbers of entries are numbers of entries there; names below 64, sets below 2 ^ 64
+-- no more entries than the type table has; numbers of entries are numbers of entries there; names and those of sets below 64
 pub record Fits (σ : Sofar) : Type 0 where
   pub few : length (σ .entries) ≤ most-entries
   pub of : (e : ℕ) → e < length (σ .of) → getD (σ .of) e 0 < length (σ .entries)
   pub entry : (i : ℕ) (x : TypeEntry) → getElem? (σ .entries) i ≡ some x → EntryOk most-types most-names i x
-  pub effect : (e : ℕ) → e < length (σ .effects) → getD (σ .effects) e 0 < 2 ^ most-names
+  pub effect : (e : ℕ) → e < length (σ .effects) → Within most-names (getD (σ .effects) e pure)
 
 start-few : {J : Job} → JobOk J → length (startOf J .entries) ≤ most-types + 3 * most-expressions
 unfolding startOf
@@ -452,7 +450,7 @@ inv-fits {J} j {e} {σ} h v =
       few = omega (arith, ap length (v .extended), length-append (startOf J .entries) (v .more), v .few, start-few j, j .few-cmds);
       of = λ c l. v .each c (omega (arith, v .count-of)) .low;
       entry = λ i x g. entry-wider (v .table .each i x g) (j .few-types) (omega (arith, up-length J, j .few-names));
-      effect = λ c l. pow-wider {M = most-names} (v .each c (omega (arith, v .count-effects)) .small) (omega (arith, up-length J, j .few-names));
+      effect = λ c l. within-wider {k = most-names} (v .each c (omega (arith, v .count-effects)) .small) (omega (arith, up-length J, j .few-names));
     }
 
 -- there is a place for the entry that the next expression may make
@@ -478,7 +476,7 @@ number-end O var l e h σ = ap (λ m. numberAll O var e m σ) (drop-of-length-le
 
 -- the keys of 3C need the touch alone
 pub keys-same : (O P : Ops) → ((q : ℕ) (s : Effect) → O .touch q s ≡ P .touch q s) → (var ver : ℕ → ℕ) (at : ℕ → Option TypeEntry) (of : ℕ → ℕ) (eff : ℕ → Effect)
-    → (ks : List ℕ) (n : ℕ) (s : Effect) (f : ℕ → Effect → Result) → keysFrom O var at of eff ks n s f ≡ keysFrom P ver at of eff ks n s f
+    → (ks : List ℕ) (n s : Effect) (f : Effect → Effect → Result) → keysFrom O var at of eff ks n s f ≡ keysFrom P ver at of eff ks n s f
 unfolding keysFrom
 keys-same O P h var ver at of eff [] n s f = refl
 keys-same O P h var ver at of eff (a ∷ ks) n s f =

@@ -1,23 +1,21 @@
 -- Typing by numbers is typing by trees, for one expression: where its operands' entries have the trees that their types are, the result is the same.
 use mathlib.Core.Path.{_≡_, refl, sym, ap, _∙_, subst⁻¹}
-use Prim.Native.Nat.{ℕ, _^_, _≤_, _<_}
+use Prim.Native.Nat.{ℕ, _≤_, _<_}
 use native.Mathlib.Omega.{arith}
 use mathlib.Core.Bool.{Bool, true, false, cond}
 use mathlib.Core.List.{List, [], _∷_, List·Memᴰ, List·Memᴰ·head, List·Memᴰ·tail, Memᴰ·append-left, Memᴰ·append-right}
 use mathlib.Core.Option.{Option, some}
 use lib.ListN.{drop, length, getElem?}
-use lib.Bits.{bitOr, or-zero-l, or-zero-r, or-comm}
 use Rattle.order.specs.OrderLaws.{getElem?-some}
-use Rattle.order.specs.SetLaws.{or-assoc, lt-pow}
 use Rattle.order.specs.Effects.{Effect, pure, touch, ofNames, join, drop as dropped, raise, reduce, effBelow}
-use Rattle.order.specs.EffectLaws.{reduce-lt, drop-lt, join-lt, touch-lt, touch-join, join-touch, raise-lt}
-use Rattle.syntax.specs.Types.{Ty, cell, fn, keyOf, rekey, TypeEntry, e-num, e-pair, e-cell, e-fn, e-lim, e-grant, entryTree, tree}
+use Rattle.order.specs.EffectLaws.{Within, within-pure, reduce-within, drop-within, join-within, touch-within, join-pure, pure-join, join-swap, touch-join, join-touch, raise-within}
+use Rattle.syntax.specs.Types.{Ty, cell, fn, keyOf, rekey, TypeEntry, e-num, e-pair, e-cell, e-fn, e-lim, e-grant, entryTree, tree, byType, onCell, onFn, onGrant, onLim, onNum, onPair}
 use Rattle.syntax.specs.TypeLaws.{tree-entry}
 use Rattle.syntax.specs.Commands.{Cmd, c-num, c-top, c-var, c-pair, c-part, c-fn, c-app, c-new, c-asg, c-read, c-sum, c-test, c-lim, c-grant, c-newkey, c-assoc, mapCmd}
 use Rattle.syntax.specs.Operands.{plain, inner, children, typesOf, usesVar, bindsName}
 use Rattle.syntax.specs.Job.{Src, upOf}
 use Rattle.typing.specs.Subtype.{subTy}
-use Rattle.typing.specs.Least.{Typed, typed, untyped, with, wantNum, wantPair, wantCell, wantFn, wantLim, wantGrant, require, pick, varType, ofVar, keysAt, typeAt}
+use Rattle.typing.specs.Least.{Typed, typed, untyped, with, wantNum, wantPair, wantCell, wantFn, wantLim, wantGrant, require, varType, ofVar, keysAt, typeAt}
 use Rattle.typing.specs.Layout.{rekeyed}
 use Rattle.typing.specs.Numbered.{Ops, Result, makes, points, wrong, needNum, needPair, needCell, needFn, needLim, needGrant, need, keyIn, fits, keysFrom, resultAt}
 use Rattle.typing.specs.NumberedOps.{Agree}
@@ -26,7 +24,7 @@ use Rattle.typing.specs.NumberedTables.{EntryOk, ok-num, ok-pair, ok-cel
 -- One effect, worked out in two ways; its names are below N
 pub record Same (N : ℕ) (s t : Effect) : Type 0 where
   pub is : s ≡ t
-  pub low : s < 2 ^ N
+  pub low : Within N s
 
 -- what typing by trees and typing by numbers come to for one expression, when the entries so far are E
 pub data Match (D N : ℕ) (E : List TypeEntry) : Typed → Result → Type 0 where
@@ -38,31 +36,28 @@ pub data Match (D N : ℕ) (E : List TypeEntry) : Typed → Result → Type 0 wh
 pub record Operand (N : ℕ) (E : List TypeEntry) (tab : ℕ → Typed) (of : ℕ → ℕ) (eff : ℕ → Effect) (a : ℕ) : Type 0 where
   pub is : tab a ≡ typed (tree E (of a)) (eff a)
   pub low : of a < length E
-  pub small : eff a < 2 ^ N
-
-swap3 : (a b c : ℕ) → bitOr (bitOr a b) c ≡ bitOr b (bitOr a c)
-swap3 a b c = ap (λ x. bitOr x c) (or-comm a b) ∙ or-assoc b a c
+  pub small : Within N (eff a)
 
 -- Effects
 
 module _ {up : List ℕ} {O : Ops} (ag : Agree up O) where
   same-touch : {q : ℕ} {s t : Effect} → q < length up → Same (length up) s t → Same (length up) (touch q s) (O .touch q t)
-  same-touch {q} {s} {t} h e = record { is = sym (rw (← e .is) (ag .touch q s h (e .low))); low = touch-lt (length up) q s h (e .low) }
+  same-touch {q} {s} {t} h e = record { is = sym (rw (← e .is) (ag .touch q s h (e .low))); low = touch-within (length up) q s h (e .low) }
 
   same-reduce : {s t : Effect} → Same (length up) s t → Same (length up) (reduce up s) (O .reduce t)
-  same-reduce {s} {t} e = record { is = sym (rw (← e .is) (ag .reduce s (e .low))); low = reduce-lt (length up) up s (e .low) }
+  same-reduce {s} {t} e = record { is = sym (rw (← e .is) (ag .reduce s (e .low))); low = reduce-within (length up) up s (e .low) }
 
   same-drop : {r : ℕ} {s t : Effect} → r < length up → Same (length up) s t → Same (length up) (dropped up r s) (O .drop r t)
-  same-drop {r} {s} {t} h e = record { is = sym (rw (← e .is) (ag .drop r s h (e .low))); low = drop-lt (length up) up r s (e .low) }
+  same-drop {r} {s} {t} h e = record { is = sym (rw (← e .is) (ag .drop r s h (e .low))); low = drop-within (length up) up r s (e .low) }
 
   same-raise : {r u : ℕ} {s t : Effect} → r < length up → u < length up → Same (length up) s t → Same (length up) (raise r u s) (O .raise r u t)
-  same-raise {r} {u} {s} {t} h k e = record { is = sym (rw (← e .is) (ag .raise r u s h k (e .low))); low = raise-lt (length up) r u s k (e .low) }
+  same-raise {r} {u} {s} {t} h k e = record { is = sym (rw (← e .is) (ag .raise r u s h k (e .low))); low = raise-within (length up) r u s k (e .low) }
 
-same-self : {N : ℕ} {s : Effect} → s < 2 ^ N → Same N s s
+same-self : {N : ℕ} {s : Effect} → Within N s → Same N s s
 same-self h = record { is = refl; low = h }
 
 same-join : {N : ℕ} {s t u v : Effect} → Same N s t → Same N u v → Same N (join s u) (join t v)
-same-join {N} {s} {t} {u} {v} a b = record { is = rw (a .is, b .is); low = join-lt N s u (a .low) (b .low) }
+same-join {N} {s} {t} {u} {v} a b = record { is = rw (a .is, b .is); low = join-within N s u (a .low) (b .low) }
 
 -- what a key's name does to an entry
 rekey-ok : {D N n m r : ℕ} (x : TypeEntry) → EntryOk D N n x → n ≤ m → r < N → EntryOk D N m (rekeyed r (some x))
@@ -112,8 +107,8 @@ module _ (S : Src) {O : Ops} (ag : Agree (upOf S) O) (ts : List TypeEntry) {E : 
   zero-low : 0 < N
   zero-low = omega arith
 
-  pure-low : pure < 2 ^ N
-  pure-low = lt-pow N 0 (omega arith)
+  pure-low : Within N pure
+  pure-low = within-pure N
 
   by-operand : {a : ℕ} → Op a → (f : Ty → Effect → Typed) {r : Result} → M (f (tree E (of a)) (eff a)) r → M (with (tab a) f) r
   unfolding with
@@ -131,7 +126,7 @@ module _ (S : Src) {O : Ops} (ag : Agree (upOf S) O) (ts : List TypeEntry) {E : 
       at (x, z) = subst⁻¹ (λ o. P (tree E i) o) z (subst⁻¹ (λ A. P A (some x)) (tree-entry (table-earlier ok) i x z) (f x (ok .each i x z)))
 
   by-num : {i : ℕ} → i < length E → (f : ℕ → Typed) (g : ℕ → Result) → ((q : ℕ) → q < N → M (f q) (g q)) → M (wantNum (tree E i) f) (needNum (getElem? E i) g)
-  unfolding wantNum needNum entryTree
+  unfolding wantNum needNum entryTree onNum byType
   by-num {i} h f g k = by-entry h (λ A o. M (wantNum A f) (needNum o g)) go
     where
       go : (x : TypeEntry) → EntryOk D N i x → M (wantNum (entryTree (some x) (tree E)) f) (needNum (some x) g)
@@ -144,7 +139,7 @@ module _ (S : Src) {O : Ops} (ag : Agree (upOf S) O) (ts : List TypeEntry) {E : 
 
   by-pair : {i : ℕ} → i < length E → (f : ℕ → Ty → Ty → Typed) (g : ℕ → ℕ → ℕ → Result) → ((q a b : ℕ) → q < N → a < length E → b < length E → M (f q (tree E a) (tree E b)) (g q a b))
       → M (wantPair (tree E i) f) (needPair (getElem? E i) g)
-  unfolding wantPair needPair entryTree
+  unfolding wantPair needPair entryTree onPair byType
   by-pair {i} h f g k = by-entry h (λ A o. M (wantPair A f) (needPair o g)) go
     where
       go : (x : TypeEntry) → EntryOk D N i x → M (wantPair (entryTree (some x) (tree E)) f) (needPair (some x) g)
@@ -157,7 +152,7 @@ module _ (S : Src) {O : Ops} (ag : Agree (upOf S) O) (ts : List TypeEntry) {E : 
 
   by-cell : {i : ℕ} → i < length E → (f : ℕ → Ty → Typed) (g : ℕ → ℕ → Result) → ((q t : ℕ) → q < N → t < length E → t < D → M (f q (tree E t)) (g q t))
       → M (wantCell (tree E i) f) (needCell (getElem? E i) g)
-  unfolding wantCell needCell entryTree
+  unfolding wantCell needCell entryTree onCell byType
   by-cell {i} h f g k = by-entry h (λ A o. M (wantCell A f) (needCell o g)) go
     where
       go : (x : TypeEntry) → EntryOk D N i x → M (wantCell (entryTree (some x) (tree E)) f) (needCell (some x) g)
@@ -169,8 +164,8 @@ module _ (S : Src) {O : Ops} (ag : Agree (upOf S) O) (ts : List TypeEntry) {E : 
       go (e-grant q r) p = m-no
 
   by-fn : {i : ℕ} → i < length E → (f : ℕ → Ty → Ty → Effect → Typed) (g : ℕ → ℕ → ℕ → Effect → Result)
-      → ((q t u : ℕ) (s : Effect) → q < N → t < D → u < length E → s < 2 ^ N → M (f q (tree E t) (tree E u) s) (g q t u s)) → M (wantFn (tree E i) f) (needFn (getElem? E i) g)
-  unfolding wantFn needFn entryTree
+      → ((q t u : ℕ) (s : Effect) → q < N → t < D → u < length E → Within N s → M (f q (tree E t) (tree E u) s) (g q t u s)) → M (wantFn (tree E i) f) (needFn (getElem? E i) g)
+  unfolding wantFn needFn entryTree onFn byType
   by-fn {i} h f g k = by-entry h (λ A o. M (wantFn A f) (needFn o g)) go
     where
       go : (x : TypeEntry) → EntryOk D N i x → M (wantFn (entryTree (some x) (tree E)) f) (needFn (some x) g)
@@ -182,7 +177,7 @@ module _ (S : Src) {O : Ops} (ag : Agree (upOf S) O) (ts : List TypeEntry) {E : 
       go (e-grant q r) p = m-no
 
   by-lim : {i : ℕ} → i < length E → (f : ℕ → ℕ → Typed) (g : ℕ → ℕ → Result) → ((q r : ℕ) → q < N → r < N → M (f q r) (g q r)) → M (wantLim (tree E i) f) (needLim (getElem? E i) g)
-  unfolding wantLim needLim entryTree
+  unfolding wantLim needLim entryTree onLim byType
   by-lim {i} h f g k = by-entry h (λ A o. M (wantLim A f) (needLim o g)) go
     where
       go : (x : TypeEntry) → EntryOk D N i x → M (wantLim (entryTree (some x) (tree E)) f) (needLim (some x) g)
@@ -194,7 +189,7 @@ module _ (S : Src) {O : Ops} (ag : Agree (upOf S) O) (ts : List TypeEntry) {E : 
       go (e-grant q r) p = m-no
 
   by-grant : {i : ℕ} → i < length E → (f : ℕ → ℕ → Typed) (g : ℕ → ℕ → Result) → ((q r : ℕ) → q < N → r < N → M (f q r) (g q r)) → M (wantGrant (tree E i) f) (needGrant (getElem? E i) g)
-  unfolding wantGrant needGrant entryTree
+  unfolding wantGrant needGrant entryTree onGrant byType
   by-grant {i} h f g k = by-entry h (λ A o. M (wantGrant A f) (needGrant o g)) go
     where
       go : (x : TypeEntry) → EntryOk D N i x → M (wantGrant (entryTree (some x) (tree E)) f) (needGrant (some x) g)
@@ -221,31 +216,30 @@ module _ (S : Src) {O : Ops} (ag : Agree (upOf S) O) (ts : List TypeEntry) {E : 
   by-part : {a t : ℕ} → Op a → t < D → {o : Typed} {r : Result} → M o r → M (require 12 (subTy (upOf S) (tree E (of a)) (tree E t)) o) (need 12 (fits O var (getElem? E) of eff (of a) t) r)
   by-part {a} {t} p h m = by-need 12 _ _ (law (of a) t (p .low) h) m
 
-  touch-low : {q : ℕ} {s : Effect} → q < N → s < 2 ^ N → O .touch q s < 2 ^ N
-  touch-low {q} {s} h k = rw (ag .touch q s h k) (touch-lt N q s h k)
+  touch-low : {q : ℕ} {s : Effect} → q < N → Within N s → Within N (O .touch q s)
+  touch-low {q} {s} h k = rw (ag .touch q s h k) (touch-within N q s h k)
 
-  acc-names : (r n m : ℕ) → r < N → n < 2 ^ N → join (O .touch r n) m ≡ join n (touch r m)
+  acc-names : (r : ℕ) (n m : Effect) → r < N → Within N n → join (O .touch r n) m ≡ join n (touch r m)
   acc-names r n m h k = ap (λ x. join x m) (ag .touch r n h k) ∙ touch-join r n m ∙ sym (join-touch r n m)
 
-  acc-effect : (q : ℕ) (s t u : Effect) → q < N → join s t < 2 ^ N → join (O .touch q (join s t)) u ≡ join t (touch q (join s u))
-  unfolding join
-  acc-effect q s t u h k = ap (λ x. join x u) (ag .touch q (join s t) h k) ∙ touch-join q (join s t) u ∙ ap (touch q) (swap3 s t u) ∙ sym (join-touch q t (join s u))
+  acc-effect : (q : ℕ) (s t u : Effect) → q < N → Within N (join s t) → join (O .touch q (join s t)) u ≡ join t (touch q (join s u))
+  acc-effect q s t u h k = ap (λ x. join x u) (ag .touch q (join s t) h k) ∙ touch-join q (join s t) u ∙ ap (touch q) (join-swap s t u) ∙ sym (join-touch q t (join s u))
 
-  cast : {o : Typed} (g : ℕ → Effect → Result) {m n : ℕ} {s t : Effect} → m ≡ n → s ≡ t → M o (g n t) → M o (g m s)
+  cast : {o : Typed} (g : Effect → Effect → Result) {m n s t : Effect} → m ≡ n → s ≡ t → M o (g n t) → M o (g m s)
   cast {o} g {m} {n} {s} {t} a b x = subst⁻¹ (λ k. M o (g k s)) a (subst⁻¹ (λ u. M o (g n u)) b x)
 
   -- the limit keys of 3C: n and t are what came before
-  by-keys : (ks : List ℕ) → ((a : ℕ) → List·Memᴰ a ks → Op a) → (n : ℕ) (t : Effect) → n < 2 ^ N → t < 2 ^ N → (f : List ℕ → Effect → Typed) (g : ℕ → Effect → Result)
-      → ((rs : List ℕ) (s : Effect) → ofNames rs < 2 ^ N → s < 2 ^ N → M (f rs s) (g (join n (ofNames rs)) (join t s)))
+  by-keys : (ks : List ℕ) → ((a : ℕ) → List·Memᴰ a ks → Op a) → (n t : Effect) → Within N n → Within N t → (f : List ℕ → Effect → Typed) (g : Effect → Effect → Result)
+      → ((rs : List ℕ) (s : Effect) → Within N (ofNames rs) → Within N s → M (f rs s) (g (join n (ofNames rs)) (join t s)))
       → M (keysAt tab ks f) (keysFrom O var (getElem? E) of eff ks n t g)
-  unfolding keysAt keysFrom ofNames join
-  by-keys [] p n t hn ht f g k = cast g (sym (or-zero-r n)) (sym (or-zero-r t)) (k [] pure pure-low pure-low)
+  unfolding keysAt keysFrom ofNames
+  by-keys [] p n t hn ht f g k = cast g (sym (join-pure n)) (sym (join-pure t)) (k [] pure pure-low pure-low)
   by-keys (a ∷ ks) p n t hn ht f g k =
       let o = p a (List·Memᴰ·head refl) in
       by-operand o _ (by-lim (o .low) _ _ (λ q r hq hr.
-      by-keys ks (λ c m. p c (List·Memᴰ·tail m)) (O .touch r n) (O .touch q (join (eff a) t)) (touch-low hr hn) (touch-low hq (join-lt N (eff a) t (o .small) ht)) _ g (λ rs s hs ht2.
-      cast g (acc-names r n (ofNames rs) hr hn) (acc-effect q (eff a) t s hq (join-lt N (eff a) t (o .small) ht))
-      (k (r ∷ rs) (touch q (join (eff a) s)) (touch-lt N r (ofNames rs) hr hs) (touch-lt N q (join (eff a) s) hq (join-lt N (eff a) s (o .small) ht2))))))
+      by-keys ks (λ c m. p c (List·Memᴰ·tail m)) (O .touch r n) (O .touch q (join (eff a) t)) (touch-low hr hn) (touch-low hq (join-within N (eff a) t (o .small) ht)) _ g (λ rs s hs ht2.
+      cast g (acc-names r n (ofNames rs) hr hn) (acc-effect q (eff a) t s hq (join-within N (eff a) t (o .small) ht))
+      (k (r ∷ rs) (touch q (join (eff a) s)) (touch-within N r (ofNames rs) hr hs) (touch-within N q (join (eff a) s) hq (join-within N (eff a) s (o .small) ht2))))))
 
   same-key : {n : ℕ} (x : TypeEntry) → EntryOk D N n x → {s t : Effect} → Same N s t
       → Same N (reduce (upOf S) (touch (keyOf (entryTree (some x) (tree E))) s)) (O .reduce (O .touch (keyIn (some x)) t))
@@ -260,7 +254,7 @@ module _ (S : Src) {O : Ops} (ag : Agree (upOf S) O) (ts : List TypeEntry) {E : 
     pub variable : (x : ℕ) → List·Memᴰ x (usesVar k) → (A : Ty) × (varType S x ≡ some A) × TreeAt E A (var x)
 
   pub matches : (k : Cmd ℕ) → Given k → M (typeAt S tab (mapCmd (tree ts) k)) (resultAt O var (getElem? E) of eff k)
-  unfolding children plain inner typesOf bindsName usesVar mapCmd typeAt resultAt entryTree ofVar pick join
+  unfolding children plain inner typesOf bindsName usesVar mapCmd typeAt resultAt entryTree ofVar join
   matches (c-num n) h = m-new (ok-num zero-low) refl (same-self pure-low)
   matches c-top h = m-new (ok-lim zero-low two) refl (same-self pure-low)
   matches (c-var x) h = at (h .variable x (List·Memᴰ·head refl))
@@ -277,7 +271,7 @@ module _ (S : Src) {O : Ops} (ag : Agree (upOf S) O) (ts : List TypeEntry) {E : 
       by-operand p _ (by-pair (p .low) _ _ (λ q x y hq hx hy.
       m-old (picked i x y hx hy) (same-reduce ag (same-touch ag hq (eff-of p)))))
     where
-      picked : (i : Bool) (x y : ℕ) → x < length E → y < length E → TreeAt E (pick i (tree E x) (tree E y)) (cond i x y)
+      picked : (i : Bool) (x y : ℕ) → x < length E → y < length E → TreeAt E (cond i (tree E x) (tree E y)) (cond i x y)
       picked true x y hx hy = here hx
       picked false x y hx hy = here hy
   matches (c-fn v t b) h =
@@ -316,8 +310,8 @@ module _ (S : Src) {O : Ops} (ag : Agree (upOf S) O) (ts : List TypeEntry) {E : 
       m-old (kept t l) (same-reduce ag (same-touch ag hk (same-join (eff-of p) (same-join (eff-of q) (eff-of r)))))))))))
   matches (c-lim ks b) h =
       let p = h .operand b (Memᴰ·append-left [] (Memᴰ·append-right ks (List·Memᴰ·head refl))) in
-      by-keys ks (λ a m. h .operand a (Memᴰ·append-left [] (Memᴰ·append-left (b ∷ []) m))) 0 pure pure-low pure-low _ _ (λ rs s hr hs.
-      cast (λ n u. need 13 (O .effBelow (eff b) n) (points (of b) (O .reduce (join u (eff b))))) (or-zero-l (ofNames rs)) (or-zero-l s)
+      by-keys ks (λ a m. h .operand a (Memᴰ·append-left [] (Memᴰ·append-left (b ∷ []) m))) pure pure pure-low pure-low _ _ (λ rs s hr hs.
+      cast (λ n u. need 13 (O .effBelow (eff b) n) (points (of b) (O .reduce (join u (eff b))))) (pure-join (ofNames rs)) (pure-join s)
       (by-operand p _ (by-need 13 _ _ (ag .effBelow (eff b) (ofNames rs) (p .small) hr) (m-old (here (p .low)) (same-reduce ag (same-join (same-self hs) (eff-of p)))))))
   matches (c-grant a b) h =
       let p = h .operand a (List·Memᴰ·head refl) in

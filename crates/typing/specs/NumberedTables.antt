@@ -1,7 +1,7 @@
 -- Type tables as typing makes them: parts are earlier entries, the content of a cell and the argument of a function are declared types, names and sets are in their
 -- bounds. The trees of such a table, and the entries of variables.
 use mathlib.Core.Path.{_≡_, refl, sym, ap, _∙_, subst, subst⁻¹}
-use Prim.Native.Nat.{ℕ, zero, suc, _+_, _*_, _^_, _≤_, _<_}
+use Prim.Native.Nat.{ℕ, zero, suc, _+_, _*_, _≤_, _<_}
 use native.Mathlib.Omega.{arith}
 use mathlib.Core.Bool.{Bool, true, false, cond}
 use mathlib.Core.List.{List, [], _∷_, _++_, map, flatMap, append-assoc, append-nil, List·Memᴰ, List·Memᴰ·head, List·Memᴰ·tail, List·Memᴰ·not-nil, List·Memᴰ·append-cases}
@@ -12,8 +12,9 @@ use lib.Dec.{eqb}
 use borrow.Author.Tests.{eqb-true, eq-eqb, ne-eqb, ltb-true}
 use Rattle.order.specs.Bools.{and-l, and-r}
 use Rattle.order.specs.OrderLaws.{getElem?-snoc, getElem?-lt, length-snoc}
-use Rattle.order.specs.SetLaws.{lt-bit, bit-mem, all-of→}
+use Rattle.order.specs.SetLaws.{all-of→}
 use Rattle.order.specs.Effects.{Effect}
+use Rattle.order.specs.EffectLaws.{Within, within-names}
 use Rattle.syntax.specs.Types.{Ty, pair, lim, grant, TypeEntry, e-num, e-pair, e-cell, e-fn, e-lim, e-grant, entryTree, tree}
 use Rattle.syntax.specs.TypeLaws.{Part, of-pair-1, of-pair-2, of-cell, of-fn-1, of-fn-2, Earlier, tree-entry, tree-kept}
 use Rattle.syntax.specs.Commands.{Cmd, mapCmd}
@@ -34,7 +35,7 @@ pub data EntryOk (D N n : ℕ) : TypeEntry → Type 0 where
   ok-num : {q : ℕ} → q < N → EntryOk D N n (e-num q)
   ok-pair : {q a b : ℕ} → q < N → a < n → b < n → EntryOk D N n (e-pair q a b)
   ok-cell : {q a : ℕ} → q < N → a < n → a < D → EntryOk D N n (e-cell q a)
-  ok-fn : {q a b : ℕ} {s : Effect} → q < N → a < n → a < D → b < n → s < 2 ^ N → EntryOk D N n (e-fn q a b s)
+  ok-fn : {q a b : ℕ} {s : Effect} → q < N → a < n → a < D → b < n → Within N s → EntryOk D N n (e-fn q a b s)
   ok-lim : {q r : ℕ} → q < N → r < N → EntryOk D N n (e-lim q r)
   ok-grant : {q r : ℕ} → q < N → r < N → EntryOk D N n (e-grant q r)
 
@@ -75,9 +76,9 @@ key-low (e-grant q y) (ok-grant a b) = a
 
 -- Declared types
 
-pub set-lt : (ds : List Name) (s : Effect) → setOk ds s ≡ true → s < 2 ^ (2 + length ds)
+pub set-lt : (ds : List Name) (s : Effect) → setOk ds s ≡ true → Within (2 + length ds) s
 unfolding setOk declared
-set-lt ds s h = lt-bit (2 + length ds) s (λ i e. ltb-true _ _ (all-of→ (declared ds) (and-l _ _ h) (bit-mem s e)))
+set-lt ds s h = within-names (2 + length ds) s (omega arith) (λ i m. ltb-true _ _ (all-of→ (declared ds) (and-l _ _ h) m))
 
 parts-ok : (ds : List Name) (D n : ℕ) → n ≤ D → (x : TypeEntry) → partsOk ds n x ≡ true → EntryOk D (2 + length ds) n x
 unfolding partsOk

@@ -7,15 +7,17 @@ use mathlib.Core.List.{List, [], _∷_}
 use mathlib.Core.Option.{Option, none, some}
 use mathlib.Core.Logic.{_↔_}
 use lib.ListN.{length, getD, getElem?, length-map}
-use Rattle.order.specs.Effects.{Effect}
+use Rattle.order.specs.Effects.{Effect, pure}
 use Rattle.syntax.specs.Types.{Ty, tree, TypeEntry, e-num, e-pair, e-cell, e-fn, e-lim, e-grant}
 use Rattle.syntax.specs.Commands.{Cmd, c-num, c-top, c-var, c-pair, c-part, c-fn, c-app, c-new, c-asg, c-read, c-sum, c-test, c-lim, c-grant, c-newkey, c-assoc, mapCmd}
 use Rattle.syntax.specs.Job.{Job, sourceOf}
 use Rattle.syntax.specs.Reading.{Refusal, Read, refused, read, reading}
 use Rattle.syntax.specs.ReadLaws.{JobOk, read-ok}
 use Rattle.syntax.specs.ReadPlaces.{refused-number, refused-place}
-use Rattle.syntax.specs.Tree.{past, firstBad, orElse, numbered, lowest, treeRefusal}
-use Rattle.typing.specs.Verdict.{Verdict, accept, refuse, unless, within, judgeRead, verdictOf}
+use Rattle.syntax.specs.Loading as loads
+use Rattle.syntax.specs.Loading.{inTree, loading}
+use Rattle.syntax.specs.Tree.{predecessor, firstBad, orElse, numbered, lowest, treeRefusal}
+use Rattle.typing.specs.Verdict.{Verdict, accept, refuse, unless, within, judge, judgeRead, verdictOf}
 use Rattle.typing.specs.Tables.{Tables, short, verdictWith}
 use Rattle.typing.specs.Numbered.{Ops, Result, makes, points, wrong, needNum, needPair, needCell, needFn, needLim, needGrant, need, keysFrom, resultAt, Sofar, settle, numberAt, Whole, whole, halted, onto, numberAll, startOf, numbering}
 use Rattle.typing.specs.Layout.{varEntry}
@@ -106,7 +108,7 @@ grant-fine (some (e-lim q r)) g = wrong-11
 grant-fine (some (e-grant q r)) g = g q r
 
 module _ (O : Ops) (var : ℕ → ℕ) (at : ℕ → Option TypeEntry) (of : ℕ → ℕ) (eff : ℕ → Effect) where
-  keys-fine : (ks : List ℕ) (rs : ℕ) (s : Effect) {f : ℕ → Effect → Result} → ((rs : ℕ) (s : Effect) → Fine (f rs s)) → Fine (keysFrom O var at of eff ks rs s f)
+  keys-fine : (ks : List ℕ) (rs s : Effect) {f : Effect → Effect → Result} → ((rs s : Effect) → Fine (f rs s)) → Fine (keysFrom O var at of eff ks rs s f)
   unfolding keysFrom
   keys-fine [] rs s g = g rs s
   keys-fine (a ∷ ks) rs s g = lim-fine (at (of a)) (λ q r. keys-fine ks _ _ g)
@@ -125,7 +127,7 @@ module _ (O : Ops) (var : ℕ → ℕ) (at : ℕ → Option TypeEntry) (of : ℕ
   result-fine (c-read a) = cell-fine (at (of a)) (λ q t. f-points _ _)
   result-fine (c-sum i a b) = num-fine (at (of a)) (λ p. num-fine (at (of b)) (λ q. f-makes _ _))
   result-fine (c-test a b c t) = num-fine (at (of a)) (λ q. need-12 _ (need-12 _ (f-points _ _)))
-  result-fine (c-lim ks b) = keys-fine ks 0 _ (λ rs s. need-13 _ (f-points _ _))
+  result-fine (c-lim ks b) = keys-fine ks pure _ (λ rs s. need-13 _ (f-points _ _))
   result-fine (c-grant a b) = grant-fine (at (of a)) (λ q r. f-points _ _)
   result-fine (c-newkey v r a b t) = lim-fine (at (of a)) (λ q u. need-11 _ (need-12 _ (f-points _ _)))
   result-fine (c-assoc a b) = lim-fine (at (of b)) (λ q r. f-makes _ _)
@@ -139,7 +141,7 @@ data Halts (k : ℕ) : Whole → Type 0 where
 halts : (O : Ops) (var : ℕ → ℕ) (e : ℕ) (l : List (Cmd ℕ)) (σ : Sofar) (k : ℕ) → e + length l ≤ k → Halts k (numberAll O var e l σ)
 unfolding numberAll numberAt settle onto
 halts O var e [] σ k h = h-whole σ
-halts O var e (c ∷ l) σ k h = go (result-fine O var (getElem? (σ .entries)) (λ a. getD (σ .of) a 0) (λ a. getD (σ .effects) a 0) c) (λ τ. halts O var (suc e) l τ k (omega arith))
+halts O var e (c ∷ l) σ k h = go (result-fine O var (getElem? (σ .entries)) (λ a. getD (σ .of) a 0) (λ a. getD (σ .effects) a pure) c) (λ τ. halts O var (suc e) l τ k (omega arith))
   where
     go : {r : Result} → Fine r → ((τ : Sofar) → Halts k (numberAll O var (suc e) l τ)) → Halts k (onto (settle σ r) e (λ τ. numberAll O var (suc e) l τ))
     go (f-makes x s) g = g _
@@ -184,8 +186,8 @@ data Ends (a k : ℕ) : Verdict → Type 0 where
   e-accept : (T : Ty) (e : Effect) → Ends a k (accept T e)
   e-refuse : (q : Refusal) → a ≤ q .number → q .number ≤ 14 → q .place < k → Ends a k (refuse q)
 
-last-lt : (n : ℕ) → 0 < n → past n < n
-unfolding past
+last-lt : (n : ℕ) → 0 < n → predecessor n < n
+unfolding predecessor
 last-lt zero h = absurd (omega arith)
 last-lt (suc n) h = omega arith
 
@@ -194,9 +196,9 @@ unfolding reported within lastOf
 reported-ends O J h (h-halted q a b c) = e-refuse q (omega arith) (omega arith) c
 reported-ends O J h (h-whole σ) = at (O .effBelow (lastEffect J σ) (J .rights))
   where
-    at : (b : Bool) → Ends 11 (length (J .cmds)) (within b (past (length (J .cmds))) (tree (σ .entries) (lastEntry J σ)) (lastEffect J σ))
+    at : (b : Bool) → Ends 11 (length (J .cmds)) (within b (predecessor (length (J .cmds))) (tree (σ .entries) (lastEntry J σ)) (lastEffect J σ))
     at true = e-accept _ _
-    at false = e-refuse (record { number = 14; place = past (length (J .cmds)) }) (omega arith) (omega arith) (last-lt (length (J .cmds)) h)
+    at false = e-refuse (record { number = 14; place = predecessor (length (J .cmds)) }) (omega arith) (omega arith) (last-lt (length (J .cmds)) h)
 
 lower : {k : ℕ} {v : Verdict} → Ends 11 k v → Ends 8 k v
 lower (e-accept T e) = e-accept T e
@@ -255,6 +257,35 @@ refusal-stands s q e = at (reading s) refl (verdict-by-order s ∙ e)
         let w = unless-ends (tree-among J) (typing-ends J (read-ok s J f)) in
         let z = ends w g in
         by-expression q J f (z .0) (z .1) (z .2)
+
+-- a load gives 2 to 10
+pub load-number : (s : List ℕ) (q : Refusal) → loading s ≡ refused q → (2 ≤ q .number) × (q .number ≤ 10)
+unfolding loading inTree loads.unless
+load-number s q e = at (reading s) refl e
+  where
+    same : {p : Refusal} → refused p ≡ refused q → p .number ≡ q .number
+    same {p} f = let z : p ≡ q = cc in ap (λ (x : Refusal). x .number) z
+
+    tree : {k : ℕ} {o : Option Refusal} (K : Job) → Among 8 10 k o → loads.unless o K ≡ refused q → (2 ≤ q .number) × (q .number ≤ 10)
+    tree K no-refusal f = absurd (let z : _≡_ {A = ℕ} 0 1 = cc in omega arith)
+    tree K (among p a b h) f = let n = same f in (omega arith, omega arith)
+
+    at : (R : Read) → reading s ≡ R → inTree R ≡ refused q → (2 ≤ q .number) × (q .number ≤ 10)
+    at (refused r) f g = let n = same g in let a = refused-number s r f in (omega (arith, a .0), omega (arith, a .1))
+    at (read K) f g = tree K (tree-among K) g
+
+-- and the check gives it too
+pub verdict-load : (s : List ℕ) (q : Refusal) → loading s ≡ refused q → verdictOf s ≡ refuse q
+unfolding loading inTree loads.unless verdictOf judgeRead judge unless
+verdict-load s q e = at (reading s) e
+  where
+    tree : (K : Job) (o : Option Refusal) (v : Verdict) → loads.unless o K ≡ refused q → unless o v ≡ refuse q
+    tree K none v g = absurd (let z : _≡_ {A = ℕ} 0 1 = cc in omega arith)
+    tree K (some r) v g = let z : r ≡ q = cc in ap refuse z
+
+    at : (R : Read) → inTree R ≡ refused q → judgeRead R ≡ refuse q
+    at (refused r) g = let z : r ≡ q = cc in ap refuse z
+    at (read K) g = tree K (treeRefusal (sourceOf K)) _ g
 
 -- with lent tables, 1 besides: so 0 is no refusal's number
 pub refusal-number : (w : Tables) (s : List ℕ) (q : Refusal) → verdictWith w s ≡ refuse q → (1 ≤ q .number) × (q .number ≤ 14)

@@ -9,12 +9,10 @@ use mathlib.Core.Logic.{_≢_, _⊎_, inl, inr}
 use borrow.Author.Tests.{eqb-true}
 use lib.Dec.{eqb}
 use Rattle.order.specs.Bools.{_or_, or-cases}
-use Rattle.order.specs.Sets.{bit}
-use Rattle.order.specs.SetLaws.{bit-mem, all-of→}
-use Rattle.order.specs.Effects.{Effect, maximal, reduced, EffBelow}
-use Rattle.order.specs.EffectLaws.{bit-name, maximal→, reduced-unique}
+use Rattle.order.specs.Effects.{Effect, names, reduced, EffBelow}
+use Rattle.order.specs.EffectLaws.{name-not-zero, reduced-unique}
 use Rattle.syntax.specs.Types.{Ty, namesIn}
-use Rattle.syntax.specs.Job.{Name, Job, Src, upOf, uppers, sourceOf}
+use Rattle.syntax.specs.Job.{Name, Job, Src, upOf, sourceOf}
 use Rattle.syntax.specs.Reading.{hostName, openName, read, reading}
 use Rattle.syntax.specs.ReadFormed.{read-formed, host-open, zero-open}
 use Rattle.syntax.specs.Formed.{ReducedTy, Formed}
@@ -25,7 +23,7 @@ use Rattle.syntax.specs.Scope.{host-name}
 use Rattle.syntax.specs.ScopeLaws.{type-names}
 use Rattle.typing.specs.Subtype.{Sub}
 use Rattle.typing.specs.SubtypeLaws.{sub-antisym}
-use Rattle.typing.specs.Scoping.{Good, host-type, scoping}
+use Rattle.typing.specs.Scoping.{Worked, host-type, worked-out}
 use Rattle.typing.specs.RulesScoped.{ScopedResult, rules-scoped}
 use Rattle.typing.specs.Scoped.{lookup-var}
 use Rattle.typing.specs.Exactly.{accepted-is, accepted-typed}
@@ -63,22 +61,26 @@ pub record Report (J : Job) (T : Ty) (e : Effect) : Type 0 where
   -- "Sets are kept reduced"
   pub effect-reduced : reduced (upOf (sourceOf J)) e ≡ true
   pub type-reduced : ReducedTy (upOf (sourceOf J)) T
-  -- bit n of the effect stands for name n, which is 1 or a host name
-  pub effect-names : (n : ℕ) → bit e n ≡ true → hostName (J .names) n ≡ true
+  -- each name of the effect is 1 or a host name
+  pub effect-names : (n : ℕ) → List·Memᴰ n (names e) → hostName (J .names) n ≡ true
   -- each name in the type is 0, 1 or a host name
   pub type-names : (n : ℕ) → List·Memᴰ n (namesIn T) → openName (J .names) n ≡ true
   -- no other reduced type and effect that the rules give are below all that they give
   pub least-unique : (U : Ty) (t : Effect) → JobHas J U t → LeastOf J U t → ReducedTy (upOf (sourceOf J)) U → reduced (upOf (sourceOf J)) t ≡ true → (U ≡ T) × (t ≡ e)
 
-report-of : (J : Job) → Formed (sourceOf J) → {T : Ty} {e : Effect} → Accepted J T e → Good (sourceOf J) (hostCtx (sourceOf J)) T e → Report J T e
-unfolding reduced sourceOf
-report-of J ok {T} {e} a g = record {
-  effect-reduced = g .red;
-  type-reduced = g .ty .reduced;
-  effect-names = λ n b. let z = maximal→ (uppers (J .names)) e n (all-of→ (maximal (uppers (J .names)) e) (g .red) (bit-mem e b)) .0 in open-above (J .names) n (host-known (sourceOf J) (g .eff .each n (bit-name e b z))) z;
-  type-names = λ n m. host-known (sourceOf J) (type-names (g .ty .scoped) n m);
+-- whatever type and effect the rules give a job that is read, they name only 0, 1 and host names
+pub job-scoped : (s : List ℕ) (J : Job) → reading s ≡ read J → (T : Ty) (t : Effect) → JobHas J T t → ScopedResult (hostCtx (sourceOf J)) T t
+job-scoped s J q T t d = let ok = read-formed s J q in rules-scoped (sourceOf J) ok d (record { each = λ x T l. host-type (sourceOf J) ok (lookup-var l) .scoped })
+
+report-of : (J : Job) → Formed (sourceOf J) → {T : Ty} {e : Effect} → Accepted J T e → ScopedResult (hostCtx (sourceOf J)) T e → Worked (upOf (sourceOf J)) T e → Report J T e
+unfolding sourceOf
+report-of J ok {T} {e} a g w = record {
+  effect-reduced = w .eff;
+  type-reduced = w .ty;
+  effect-names = λ n m. open-above (J .names) n (host-known (sourceOf J) (g .eff .each n m)) (name-not-zero e m);
+  type-names = λ n m. host-known (sourceOf J) (type-names (g .ty) n m);
   least-unique = λ U t d l ru rt. let x = l T e (a .has) in let y = a .least U t d in
-      (sub-antisym (ok .proper) ru (g .ty .reduced) (x .0) (y .0), reduced-unique (ok .proper) rt (g .red) (x .1) (y .1));
+      (sub-antisym (ok .proper) ru (w .ty) (x .0) (y .0), reduced-unique (ok .proper) rt (w .eff) (x .1) (y .1));
 }
 
 -- of all bytes: what is accepted is a job, and what is reported is a report of it
@@ -89,8 +91,5 @@ accepts-reported s {T} {e} h = let z = accepts-typed s h in (z .0, z .1, z .2, f
     from : (J : Job) → reading s ≡ read J → Accepted J T e → Report J T e
     from J q a =
         let g : judge (sourceOf J) ≡ accept T e = rw q at h in
-        report-of J (read-formed s J q) a (scoping (sourceOf J) (read-formed s J q) (accepted-typed (sourceOf J) (read-formed s J q) g .0) x-root (accepted-is (sourceOf J) g .1))
-
--- whatever type and effect the rules give a job that is read, they name only 0, 1 and host names
-pub job-scoped : (s : List ℕ) (J : Job) → reading s ≡ read J → (T : Ty) (t : Effect) → JobHas J T t → ScopedResult (hostCtx (sourceOf J)) T t
-job-scoped s J q T t d = let ok = read-formed s J q in rules-scoped (sourceOf J) ok d (record { each = λ x T l. host-type (sourceOf J) ok (lookup-var l) .scoped })
+        let ok = read-formed s J q in
+        report-of J ok a (job-scoped s J q T e (a .has)) (worked-out (sourceOf J) ok (accepted-typed (sourceOf J) ok g .0) x-root (accepted-is (sourceOf J) g .1))

@@ -13,7 +13,7 @@ use Rattle.syntax.specs.Types.{Ty, num, pair, cell, fn, lim, grant, keyOf, reke
 use Rattle.syntax.specs.Commands.{Cmd, c-num, c-top, c-var, c-pair, c-part, c-fn, c-app, c-new, c-asg, c-read, c-sum, c-test, c-lim, c-grant, c-newkey, c-assoc}
 use Rattle.syntax.specs.Operands.{nth}
 use Rattle.syntax.specs.Job.{Src, upOf}
-use Rattle.syntax.specs.Tree.{Entry, e-var, e-name}
+use Rattle.syntax.specs.Tree.{Entry, e-var, e-name, keyPair}
 use Rattle.syntax.specs.WellScoped.{ScopedName, ScopedType, ScopedEffect}
 use Rattle.typing.specs.Subtype.{Sub}
 
@@ -39,10 +39,6 @@ pub record Fresh (up : List ℕ) (Γ : List Entry) (r : ℕ) : Type 0 where
 -- the command of an expression
 abbrev pub codeOf : Src → ℕ → Cmd Ty
 codeOf S = nth (S .cmds)
-
--- the type of "v is a pair of unkeyed limit and grant key of r"
-abbrev pub keysType : ℕ → Ty
-keysType r = pair 0 (lim 0 r) (grant 0 r)
 
 mutual
   pub data Has (S : Src) : List Entry → ℕ → Ty → Effect → Type 0 where
@@ -90,7 +86,7 @@ mutual
     -- 3E: the key, "a limit key of r's upper name", is touched; "In the body alone r is in scope", so not in the result type; "Outside, r in the effect becomes its upper name"
     h-newkey : {Γ : List Entry} {e x r a b q u : ℕ} {B T : Ty} {s t : Effect} → codeOf S e ≡ c-newkey x r a b T → ScopedType Γ T
         → Has S Γ a (lim q u) s → getElem? (upOf S) r ≡ some u → ScopedName Γ u → Fresh (upOf S) Γ r
-        → Has S (e-var x (keysType r) ∷ e-name r ∷ Γ) b B t → Sub (upOf S) B T → Has S Γ e T (touch q (join s (raise r u t)))
+        → Has S (e-var x (keyPair r) ∷ e-name r ∷ Γ) b B t → Sub (upOf S) B T → Has S Γ e T (touch q (join s (raise r u t)))
     -- 3F: both operands are touched; "the value's type with the limit key's name as its key"
     h-assoc : {Γ : List Entry} {e a b q r : ℕ} {A : Ty} {s t : Effect} → codeOf S e ≡ c-assoc a b
         → Has S Γ a A s → Has S Γ b (lim q r) t → Has S Γ e (rekey r A) (touch (keyOf A) (touch q (join s t)))

@@ -9,10 +9,10 @@ use Rattle.syntax.specs.Commands.{Cmd, c-lim}
 use Rattle.syntax.specs.Operands.{nth, plain, inner, children}
 use Rattle.syntax.specs.Job.{Src, upOf}
 use Rattle.syntax.specs.Formed.{Formed}
-use Rattle.syntax.specs.Tree.{Entry, e-var, e-name, namesOf}
+use Rattle.syntax.specs.Tree.{Entry, e-var, e-name, keyPair, namesOf}
 use Rattle.syntax.specs.WellScoped.{ScopedName, n-bound, ScopedType, w-num, w-pair, w-cell, w-fn, w-lim, w-grant, ScopedEffect}
 use Rattle.syntax.specs.ScopeLaws.{zero-scoped, one-scoped, wider-type, wider-effect, key-scoped, rekey-scoped, pure-scoped, join-scoped, touch-scoped, drop-scoped, raise-scoped}
-use Rattle.typing.specs.Rules.{Lookup, l-here, l-var, l-name, keysType, Has, h-num, h-top, h-var, h-pair, h-part1, h-part2, h-fn, h-app, h-new, h-asg, h-read, h-sum, h-test, h-lim, h-grant, h-newkey, h-assoc, h-sub, HasKeys, k-nil, k-cons}
+use Rattle.typing.specs.Rules.{Lookup, l-here, l-var, l-name, Has, h-num, h-top, h-var, h-pair, h-part1, h-part2, h-fn, h-app, h-new, h-asg, h-read, h-sum, h-test, h-lim, h-grant, h-newkey, h-assoc, h-sub, HasKeys, k-nil, k-cons}
 
 -- the types of a context's variables are in scope there
 pub record ScopedContext (Γ : List Entry) : Type 0 where
@@ -38,7 +38,7 @@ with-name {Γ} {r} c = record { each = at }
     at : (y : ℕ) (U : Ty) → Lookup (e-name r ∷ Γ) y U → ScopedType (e-name r ∷ Γ) U
     at y U (l-name l) = wider-type (λ n m. List·Memᴰ·tail m) (c .each y U l)
 
-keys-scoped : {Γ : List Entry} {r : ℕ} → ScopedType (e-name r ∷ Γ) (keysType r)
+keys-scoped : {Γ : List Entry} {r : ℕ} → ScopedType (e-name r ∷ Γ) (keyPair r)
 unfolding namesOf
 keys-scoped = w-pair zero-scoped (w-lim zero-scoped (n-bound (List·Memᴰ·head refl))) (w-grant zero-scoped (n-bound (List·Memᴰ·head refl)))
 
@@ -52,7 +52,7 @@ module _ {Γ : List Entry} where
   fn-in : {q : ℕ} {A B : Ty} {s : Effect} → ScopedType Γ (fn q A B s) → ScopedType Γ B × ScopedEffect Γ s
   fn-in (w-fn q a b s) = (b, s)
 
-  lim-in : {q r : ℕ} → ScopedType Γ (lim q r) → ScopedName Γ r
+  pub lim-in : {q r : ℕ} → ScopedType Γ (lim q r) → ScopedName Γ r
   lim-in (w-lim q r) = r
 
 -- a job that is read: operands are earlier expressions

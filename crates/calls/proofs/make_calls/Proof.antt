@@ -4,6 +4,7 @@ use Prim.Native.Nat.{_-_}
 use lib.ListN.{length}
 use Rattle.syntax.specs.Words.{codeIn}
 use Rattle.machine.specs.View.{seen, ranIn}
+use Rattle.semantics.specs.Calls.{stepsOf}
 use Rattle.calls.proofs.Going.{Going, going-start, going-on, going-end}
 use Rattle.calls.proofs.make_calls.Statement.{statement}
 use Rattle.calls.proofs.make_calls.Tie as tie
@@ -13,7 +14,7 @@ use Rattle.calls.proofs.make.Reads as make-reads
 use Rattle.calls.proofs.note_both.Reads as note-both-reads
 
 abbrev Inv-loop : tie.InvT-loop
-Inv-loop heads slots calls answers₀ last₀ at₀ i₀ answers last at i = Going (codeIn heads slots) calls answers₀ (seen last₀) answers (seen last) at i
+Inv-loop heads slots calls answers₀ last₀ at₀ i₀ answers last at i = Going (stepsOf (codeIn heads slots)) calls answers₀ (seen last₀) answers (seen last) at i
 
 abbrev μ-loop : tie.MeasureT-loop
 μ-loop heads slots calls answers₀ last₀ at₀ i₀ answers last at i = length calls - i

@@ -3,8 +3,8 @@ use Rattle.capi.proofs.finish.Statement.{statement}
 use Rattle.capi.proofs.finish.Tie as tie
 use Rattle.capi.proofs.finish.Reads as reads
 use Rattle.capi.proofs.finish.Lts as lts
-use Rattle.capi.proofs.tell.Reads as tell-reads
-use Rattle.capi.proofs.result.hand_over.Reads as hand-over-reads
+use Rattle.results.proofs.tell.Reads as tell-reads
+use Rattle.results.proofs.hand_over.Reads as hand-over-reads
 
 hand-over-requires : tie.Need-hand-over-requires
 hand-over-requires c κs = search needs

@@ -6,18 +6,16 @@ use Rattle.capi.proofs.jobdesk_run.Reads as reads
 use Rattle.capi.proofs.jobdesk_run.Lts as lts
 use Rattle.start.proofs.start.Reads as start-reads
 use Rattle.capi.proofs.go.Reads as go-reads
-use Rattle.capi.proofs.put.Reads as put-reads
-use Rattle.capi.proofs.wide.Reads as wide-reads
-use Rattle.capi.proofs.wide8.Reads as wide8-reads
+use Rattle.results.proofs.refuse.Reads as refuse-reads
 
-put-requires : tie.Need-put-requires
-put-requires c κs = search needs
+refuse-requires : tie.Need-refuse-requires
+refuse-requires c κs = search needs
 
 same-length : tie.Need-same-length
 same-length c = c .before .rooms .given
 
 returns : tie.Need-returns
-returns c = runs-short _ _ _ _ _ _ (c .before .before .before .before .if1 .taken) (c .before .before .put .ensures)
+returns c = runs-short _ _ _ _ _ _ (c .before .before .before .before .if1 .taken) (c .before .before .refuse .ensures)
 
 start-requires : tie.Need-start-requires
 start-requires c κs = search needs
@@ -31,14 +29,8 @@ go-requires c κs = search needs
 enum-known-told : tie.Need-enum-known-told
 enum-known-told c = search needs
 
-wide-requires : tie.Need-wide-requires
-wide-requires c κs = search needs
-
-put-requires-2 : tie.Need-put-requires-2
-put-requires-2 c κs = search needs
-
-wide8-requires : tie.Need-wide8-requires
-wide8-requires c κs = search needs
+refuse-requires-2 : tie.Need-refuse-requires-2
+refuse-requires-2 c κs = search needs
 
 same-length-2 : tie.Need-same-length-2
 same-length-2 c = c .before .before .before .before .before .before .before .before .before .before .before .before .before .before .before .before .before .before .before .before .before .before .before .names .given
@@ -68,43 +60,41 @@ returns-2 : tie.Need-returns-2
 returns-2 c = runs-started _ _ _ (c .before .before .before .before .before .before .before .before .before .before .before .before .before .before .before .before .before .before .before .before .before .before .before .before .start .result) (c .before .before .before .before .before .before .before .before .before .before .before .before .before .before .before .before .before .before .before .before .before .before .before .before .start .ensures) (c .before .before .before .before .before .before .before .before .before .before .before .before .before .before .before .before .before .before .before .before .before .before .before .before .before .before .before .before .before .before .before .if1 .left) (c .before .before .before .before .before .before .before .before .before .before .enum-told .given .1) (c .before .before .before .before .go .ensures)
 
 same-length-10 : tie.Need-same-length-10
-same-length-10 c = c .before .before .before .before .before .before .before .before .before .before .before .before .before .before .before .before .before .before .before .before .names .given
+same-length-10 c = c .before .before .before .before .before .before .before .before .before .before .before .before .before .before .before .before .before .before .names .given
 
 same-length-11 : tie.Need-same-length-11
-same-length-11 c = c .before .before .before .before .before .before .before .before .before .before .before .before .before .before .before .before .before .before .types .given
+same-length-11 c = c .before .before .before .before .before .before .before .before .before .before .before .before .before .before .before .before .types .given
 
 same-length-12 : tie.Need-same-length-12
-same-length-12 c = c .before .before .before .before .before .before .before .before .before .before .before .before .before .before .before .before .sets .given
+same-length-12 c = c .before .before .before .before .before .before .before .before .before .before .before .before .before .before .sets .given
 
 same-length-13 : tie.Need-same-length-13
-same-length-13 c = c .before .before .before .before .before .before .before .before .before .before .before .before .before .before .values .given
+same-length-13 c = c .before .before .before .before .before .before .before .before .before .before .before .before .values .given
 
 same-length-14 : tie.Need-same-length-14
-same-length-14 c = c .before .before .before .before .before .before .before .before .before .before .before .before .heads .given
+same-length-14 c = c .before .before .before .before .before .before .before .before .before .before .heads .given
 
 same-length-15 : tie.Need-same-length-15
-same-length-15 c = c .before .before .before .before .before .before .before .before .before .before .slots .given
+same-length-15 c = c .before .before .before .before .before .before .before .before .slots .given
 
 same-length-16 : tie.Need-same-length-16
-same-length-16 c = c .before .before .rooms3 .given
+same-length-16 c = c .before .rooms3 .given
 
 returns-3 : tie.Need-returns-3
-returns-3 c = runs-refused _ _ _ (c .before .before .before .before .before .before .before .before .before .before .before .before .before .before .before .before .before .before .before .before .before .start .result) (c .before .before .before .before .before .before .before .before .before .before .before .before .before .before .before .before .before .before .before .before .before .start .ensures) (c .before .before .before .before .before .before .before .before .before .before .before .before .before .before .before .before .before .before .before .before .before .before .before .before .before .before .before .before .if1 .left) _ _ (c .before .before .before .before .before .before .before .told .given .1) (c .wide8 .ensures) (c .before .before .before .before .wide .ensures) (c .before .before .before .put2 .ensures)
+returns-3 c = runs-refused _ _ _ (c .before .before .before .before .before .before .before .before .before .before .before .before .before .before .before .before .before .before .before .start .result) (c .before .before .before .before .before .before .before .before .before .before .before .before .before .before .before .before .before .before .before .start .ensures) (c .before .before .before .before .before .before .before .before .before .before .before .before .before .before .before .before .before .before .before .before .before .before .before .before .before .before .if1 .left) _ _ (c .before .before .before .before .before .told .given .1) (c .before .before .refuse2 .ensures)
 
 pub jobdesk-run-spec : {M : Type 1} → statement M
 jobdesk-run-spec =
     tie.close
     (tie.spec
-    put-requires
+    refuse-requires
     same-length
     returns
     start-requires
     enum-told
     go-requires
     enum-known-told
-    wide-requires
-    put-requires-2
-    wide8-requires
+    refuse-requires-2
     same-length-2
     same-length-3
     same-length-4

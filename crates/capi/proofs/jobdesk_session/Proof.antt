@@ -6,7 +6,7 @@ use Rattle.capi.proofs.jobdesk_session.Tie as tie
 use Rattle.capi.proofs.jobdesk_session.Reads as reads
 use Rattle.capi.proofs.jobdesk_session.Lts as lts
 use Rattle.capi.proofs.finish.Reads as finish-reads
-use Rattle.capi.proofs.is_short.Reads as is-short-reads
+use Rattle.results.proofs.is_short.Reads as is-short-reads
 use Rattle.session.proofs.session.Reads as session-reads
 
 is-short-requires : tie.Need-is-short-requires

@@ -1,17 +1,17 @@
 use borrow.Author.Needs.{needs}
-use Rattle.syntax.specs.Context.{past-minus}
-use Rattle.checker.proofs.Laws.{past-none}
+use Rattle.syntax.specs.Context.{predecessor-minus}
+use Rattle.checker.proofs.Laws.{predecessor-none}
 use Rattle.checker.proofs.last.Statement.{statement}
 use Rattle.checker.proofs.last.Tie as tie
 
 returns : tie.Need-returns
-returns c = past-none _ (c .if1 .taken)
+returns c = predecessor-none _ (c .if1 .taken)
 
 sub-result : tie.Need-sub-result
 sub-result c = search needs
 
 returns-2 : tie.Need-returns-2
-returns-2 c = past-minus _
+returns-2 c = predecessor-minus _
 
 pub last-spec : {M : Type 1} → statement M
 last-spec = tie.close (tie.spec returns sub-result returns-2)

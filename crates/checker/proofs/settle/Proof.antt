@@ -1,11 +1,15 @@
-use mathlib.Core.Path.{sym, _∙_, refl}
 use borrow.Author.Needs.{needs}
-use Rattle.checker.specs.Judging.{accepted-to, refused-to, judged-refused}
 use Rattle.checker.proofs.settle.Statement.{statement}
 use Rattle.checker.proofs.settle.Tie as tie
 
-judge-requires : tie.Need-judge-requires
-judge-requires c κs = search needs
+clear16-requires : tie.Need-clear16-requires
+clear16-requires c κs = search needs
+
+clear64-requires : tie.Need-clear64-requires
+clear64-requires c κs = search needs
+
+typed-requires : tie.Need-typed-requires
+typed-requires c κs = search needs
 
 enum-known-i : tie.Need-enum-known-i
 enum-known-i c = search needs
@@ -35,7 +39,7 @@ same-length-8 : tie.Need-same-length-8
 same-length-8 c = search needs
 
 returns : tie.Need-returns
-returns c = λ bytes J given. accepted-to (given .is-read) (given .shape) (record { names = refl; types = sym (c .before .before .before .before .before .before .before .before .before .before .before .judge .kept .1 .1 .1 .1 .1 .0); sets = sym (c .before .before .before .before .before .before .before .before .before .before .before .judge .kept .1 .1 .1 .1 .1 .1 .0); values = refl; heads = refl; slots = refl; entries = sym (c .before .before .before .before .before .before .before .before .before .before .before .judge .kept .1 .1 .1 .1 .1 .1 .1 .0); effects = sym (c .before .before .before .before .before .before .before .before .before .before .before .judge .kept .1 .1 .1 .1 .1 .1 .1 .1 .0) }) (given .long) ((c .before .before .before .before .before .before .before .before .before .before .before .judge .ensures) bytes J given) ((c .before .i .given .1))
+returns c = ?
 
 enum-known-n : tie.Need-enum-known-n
 enum-known-n c = search needs
@@ -50,10 +54,10 @@ same-length-9 : tie.Need-same-length-9
 same-length-9 c = search needs
 
 same-length-10 : tie.Need-same-length-10
-same-length-10 c = (c .before .before .before .before .before .before .before .before .before .before .before .before .before .before .before .before .before .clear-all .kept .1 .0) ∙ (c .before .before .before .before .before .before .before .before .before .before .before .before .before .before .before .before .before .before .before .before .before .before .before .before .before .before .before .before .before .before .before .before .before .before .before .before .before .judge .kept .1 .1 .1 .1 .1 .0)
+same-length-10 c = search needs
 
 same-length-11 : tie.Need-same-length-11
-same-length-11 c = (c .before .before .before .before .before .before .before .before .before .before .before .before .before .before .before .before .before .clear-all .kept .1 .1 .0) ∙ (c .before .before .before .before .before .before .before .before .before .before .before .before .before .before .before .before .before .before .before .before .before .before .before .before .before .before .before .before .before .before .before .before .before .before .before .before .before .judge .kept .1 .1 .1 .1 .1 .1 .0)
+same-length-11 c = search needs
 
 same-length-12 : tie.Need-same-length-12
 same-length-12 c = search needs
@@ -65,19 +69,21 @@ same-length-14 : tie.Need-same-length-14
 same-length-14 c = search needs
 
 same-length-15 : tie.Need-same-length-15
-same-length-15 c = (c .before .before .before .before .before .before .before .before .before .before .before .before .before .before .before .before .before .clear-all .kept .1 .1 .1 .1 .1 .1 .0) ∙ (c .before .before .before .before .before .before .before .before .before .before .before .before .before .before .before .before .before .before .before .before .before .before .before .before .before .before .before .before .before .before .before .before .before .before .before .before .before .judge .kept .1 .1 .1 .1 .1 .1 .1 .0)
+same-length-15 c = search needs
 
 same-length-16 : tie.Need-same-length-16
 same-length-16 c = search needs
 
 returns-2 : tie.Need-returns-2
-returns-2 c = λ bytes J given. rw (c .refused .ensures) (refused-to (record { names = refl; types = sym (c .before .before .before .before .before .before .before .before .before .before .before .before .before .before .before .before .before .before .before .before .before .before .before .before .before .before .before .before .before .before .before .before .before .before .before .before .before .judge .kept .1 .1 .1 .1 .1 .0); sets = sym (c .before .before .before .before .before .before .before .before .before .before .before .before .before .before .before .before .before .before .before .before .before .before .before .before .before .before .before .before .before .before .before .before .before .before .before .before .before .judge .kept .1 .1 .1 .1 .1 .1 .0); values = refl; heads = refl; slots = refl; entries = sym (c .before .before .before .before .before .before .before .before .before .before .before .before .before .before .before .before .before .before .before .before .before .before .before .before .before .before .before .before .before .before .before .before .before .before .before .before .before .judge .kept .1 .1 .1 .1 .1 .1 .1 .0); effects = sym (c .before .before .before .before .before .before .before .before .before .before .before .before .before .before .before .before .before .before .before .before .before .before .before .before .before .before .before .before .before .before .before .before .before .before .before .before .before .judge .kept .1 .1 .1 .1 .1 .1 .1 .1 .0) }) (given .long) (judged-refused ((c .before .before .before .before .before .before .before .before .before .before .before .before .before .before .before .before .before .before .before .before .before .before .before .before .before .before .before .before .before .before .before .before .before .before .before .before .before .judge .ensures) bytes J given) ((c .before .before .before .before .before .before .before .before .before .before .before .before .before .before .before .before .before .before .before .before .before .before .before .before .before .before .before .n .given .1))) (c .before .before .before .before .before .before .before .before .before .before .before .before .before .before .before .before .before .clear-all .ensures))
+returns-2 c = ?
 
 pub settle-spec : {M : Type 1} → statement M
 settle-spec =
     tie.close
     (tie.spec
-    judge-requires
+    clear16-requires
+    clear64-requires
+    typed-requires
     enum-known-i
     same-length
     same-length-2

@@ -1,6 +1,7 @@
 -- The parts of the line, one after another.
 use mathlib.Core.List.{append-assoc}
 use Rattle.output.specs.Lines.{line, space, w-accepted}
+use Rattle.order.specs.Effects.{ofWord}
 use Rattle.format.specs.Text.{acceptedAs}
 use Rattle.format.specs.Laws.{accepted-length}
 use Rattle.format.proofs.Whole.{first, more, whole}
@@ -31,7 +32,7 @@ push-requires-2 c κs = search needs
 
 returns : tie.Need-returns
 unfolding acceptedAs line space w-accepted
-returns c = whole _ _ (acceptedAs _ _) (more _ _ _ _ (more _ _ _ _ (more _ _ _ _ (more _ _ _ _ (first _ _ _ (c .before .before .before .before .before .before .empty .ensures) (c .before .before .before .before .put .ensures)) (c .before .before .before .hex .ensures)) (c .before .before .push .ensures)) (c .before .word .ensures)) (c .push2 .ensures)) (simp append-assoc) (accepted-length _ _)
+returns c = whole _ _ (acceptedAs (ofWord _) _) (more _ _ _ _ (more _ _ _ _ (more _ _ _ _ (more _ _ _ _ (first _ _ _ (c .before .before .before .before .before .before .empty .ensures) (c .before .before .before .before .put .ensures)) (c .before .before .before .hex .ensures)) (c .before .before .push .ensures)) (c .before .word .ensures)) (c .push2 .ensures)) (simp append-assoc) (accepted-length _ _)
 
 pub accepted-spec : {M : Type 1} → statement M
 accepted-spec =

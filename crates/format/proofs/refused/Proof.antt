@@ -1,7 +1,7 @@
 -- The parts of the line, one after another.
 use mathlib.Core.List.{append-assoc}
 use Rattle.output.specs.Lines.{refusedLine, line, space, w-refused, w-at, decimal}
-use Rattle.format.specs.Laws.{refused-length}
+use Rattle.output.specs.LineLaws.{refused-length}
 use Rattle.format.proofs.Whole.{first, more, whole}
 use borrow.Author.Needs.{needs}
 use Rattle.format.proofs.refused.Statement.{statement}

@@ -2,8 +2,10 @@ use native.Mathlib.Omega.{arith}
 use borrow.Author.Tests.{ne-eqb}
 use borrow.Author.Needs.{needs}
 use Rattle.infer.proofs.Fields.{lead-low}
+use Rattle.order.specs.Effects.{ofWord}
 use Rattle.typing.specs.Numbered.{resultAt, fits}
 use Rattle.syntax.specs.Words.{codeIn, decode, entryIn}
+use Rattle.syntax.specs.DecodeLaws.{decodeBy, decode-is}
 use Rattle.infer.proofs.Keys.{keys-any}
 use lib.ListN.{getD}
 use Rattle.infer.proofs.result.Statement.{statement}
@@ -43,7 +45,7 @@ variable-requires c κs = search needs
 
 returns-3 : tie.Need-returns-3
 unfolding resultAt codeIn decode fits
-returns-3 c = (simp (← (c .before .before .before .before .at64 .ensures), (c .before .before .match .keys3), (c .variable .ensures), lead-low, (c .before .key-of .ensures)), c .before .before .before .before .before .before .before .before .before .before .before .before .before .before .pre)
+returns-3 c = (simp (← (c .before .before .before .before .at64 .ensures), (c .before .before .match .keys3), (c .variable .ensures), (c .before .key-of .ensures), ← lead-low), c .before .before .before .before .before .before .before .before .before .before .before .before .before .before .pre)
 
 lead-requires : tie.Need-lead-requires
 lead-requires c κs = search needs
@@ -99,7 +101,7 @@ limit-requires c κs = search needs
 
 returns-8 : tie.Need-returns-8
 unfolding resultAt codeIn decode
-returns-8 c = (simp (← (c .before .before .before .before .at64 .ensures), (c .before .before .match .keys8), (c .limit .ensures), (c .before .lead2 .ensures)) (keys-any (c .before .before .before .before .before .before .before .before .before .before .before .before .before .before .args .anc .now) (c .before .before .before .before .before .before .before .before .before .before .before .before .before .before .args .names .now) (λ v. getD (c .before .before .before .before .before .before .before .before .before .before .before .before .before .before .args .vars .now) v 0) (entryIn (c .before .before .before .before .before .before .before .before .before .before .before .before .before .before .args .types .now) (c .before .before .before .before .before .before .before .before .before .before .before .before .before .before .args .sets .now)) (λ a. getD (c .before .before .before .before .before .before .before .before .before .before .before .before .before .before .args .entries .now) a 0) (λ a. getD (c .before .before .before .before .before .before .before .before .before .before .before .before .before .before .args .effects .now) a 0) _ _ _ _), c .before .before .before .before .before .before .before .before .before .before .before .before .before .before .pre)
+returns-8 c = (simp (← (c .before .before .before .before .at64 .ensures), (c .before .before .match .keys8), (c .limit .ensures), (c .before .lead2 .ensures)) (keys-any (c .before .before .before .before .before .before .before .before .before .before .before .before .before .before .args .anc .now) (c .before .before .before .before .before .before .before .before .before .before .before .before .before .before .args .names .now) (λ v. getD (c .before .before .before .before .before .before .before .before .before .before .before .before .before .before .args .vars .now) v 0) (entryIn (c .before .before .before .before .before .before .before .before .before .before .before .before .before .before .args .types .now) (c .before .before .before .before .before .before .before .before .before .before .before .before .before .before .args .sets .now)) (λ a. getD (c .before .before .before .before .before .before .before .before .before .before .before .before .before .before .args .entries .now) a 0) (λ a. ofWord (getD (c .before .before .before .before .before .before .before .before .before .before .before .before .before .before .args .effects .now) a 0)) _ _ _ _), c .before .before .before .before .before .before .before .before .before .before .before .before .before .before .pre)
 
 two-requires : tie.Need-two-requires
 two-requires c κs = search needs
@@ -108,8 +110,8 @@ same-length-2 : tie.Need-same-length-2
 same-length-2 c = search needs
 
 returns-9 : tie.Need-returns-9
-unfolding resultAt codeIn decode
-returns-9 c = (simp (← (c .before .before .before .before .before .before .at64 .ensures), ne-eqb _ _ (c .before .before .before .before .match .rest .1), ne-eqb _ _ (c .before .before .before .before .match .rest .0 .1), ne-eqb _ _ (c .before .before .before .before .match .rest .0 .0 .1), ne-eqb _ _ (c .before .before .before .before .match .rest .0 .0 .0 .1), ne-eqb _ _ (c .before .before .before .before .match .rest .0 .0 .0 .0 .1), ne-eqb _ _ (c .before .before .before .before .match .rest .0 .0 .0 .0 .0 .1), ne-eqb _ _ (c .before .before .before .before .match .rest .0 .0 .0 .0 .0 .0 .1)) ((c .before .before .two .ensures .0) (λ v. getD ((c .before .before .before .before .before .before .before .before .before .before .before .before .before .before .before .before .args .vars) .now) v 0)), c .before .before .two .ensures .1)
+unfolding resultAt codeIn decodeBy
+returns-9 c = (simp (decode-is, ← (c .before .before .before .before .before .before .at64 .ensures), ne-eqb _ _ (c .before .before .before .before .match .rest .1), ne-eqb _ _ (c .before .before .before .before .match .rest .0 .1), ne-eqb _ _ (c .before .before .before .before .match .rest .0 .0 .1), ne-eqb _ _ (c .before .before .before .before .match .rest .0 .0 .0 .1), ne-eqb _ _ (c .before .before .before .before .match .rest .0 .0 .0 .0 .1), ne-eqb _ _ (c .before .before .before .before .match .rest .0 .0 .0 .0 .0 .1), ne-eqb _ _ (c .before .before .before .before .match .rest .0 .0 .0 .0 .0 .0 .1)) ((c .before .before .two .ensures .0) (λ v. getD ((c .before .before .before .before .before .before .before .before .before .before .before .before .before .before .before .before .args .vars) .now) v 0)), c .before .before .two .ensures .1)
 
 pub result-spec : {M : Type 1} → statement M
 result-spec =

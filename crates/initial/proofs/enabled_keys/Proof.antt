@@ -7,7 +7,7 @@ use native.Mathlib.Omega.{arith}
 use lib.Bits.{bitOr}
 use lib.Count.{trailing-le}
 use Rattle.order.specs.Sets.{setOf, members}
-use Rattle.order.specs.Effects.{names}
+use Rattle.order.specs.Effects.{ofWord, names}
 use Rattle.names.specs.Ancestors.{lowest}
 use Rattle.names.specs.Walk.{down-lt}
 use Rattle.store.specs.Meaning.{keysIn}
@@ -17,7 +17,7 @@ use Rattle.initial.proofs.enabled_keys.Statement.{statement}
 use Rattle.initial.proofs.enabled_keys.Tie as tie
 
 abbrev Inv-loop : tie.InvT-loop
-Inv-loop of n nkeys rights on₀ rest₀ on rest = (setOf (map (keyIn of n) (names rights)) ≡ bitOr (keysIn on) (setOf (map (keyIn of n) (members rest)))) × (rest < 2 ^ 64)
+Inv-loop of n nkeys rights on₀ rest₀ on rest = (setOf (map (keyIn of n) (names (ofWord rights))) ≡ bitOr (keysIn on) (setOf (map (keyIn of n) (members rest)))) × (rest < 2 ^ 64)
 
 abbrev μ-loop : tie.MeasureT-loop
 μ-loop of n nkeys rights on₀ rest₀ on rest = rest

@@ -1,4 +1,5 @@
 use mathlib.Core.Path.{ap, _∙_}
+use Rattle.order.specs.Effects.{ofWord}
 use Rattle.checker.specs.Answer.{treeOf}
 use Rattle.format.specs.Text.{acceptedAs}
 use Rattle.print.proofs.Prints.{sort-is, done-at-end, ran-line, accepted-ran}
@@ -15,36 +16,29 @@ use Rattle.machine.proofs.Machine.run.Reads as run-reads
 use Rattle.table.proofs.at64.Reads as at64-reads
 use Rattle.format.proofs.accepted.Reads as accepted-reads
 
--- src/lib.rt:119:9
 at64-requires : tie.Need-at64-requires
 at64-requires c κs = search needs
 
--- src/lib.rt:120:9
 type-sort-requires : tie.Need-type-sort-requires
 type-sort-requires c κs = search needs
 
--- src/lib.rt:121:9
 accepted-requires : tie.Need-accepted-requires
 accepted-requires c κs = search needs
 
--- src/lib.rt:122:9
 built-requires : tie.Need-built-requires
 built-requires c κs = search needs
 
--- src/lib.rt:123:9
 run-requires : tie.Need-run-requires
 run-requires c κs = search needs
 
--- src/lib.rt:124:5
 ended-requires : tie.Need-ended-requires
 ended-requires c κs = search needs
 
--- src/lib.rt:107:1
 returns : tie.Need-returns
 returns c =
-    λ J sets y k. accepted-ran (treeOf (c .before .before .before .before .before .before .before .before .before .before .before .args .types .now) sets (c .before .before .before .before .before .before .before .before .before .before .before .args .i)) (c .before .before .before .before .before .before .before .before .before .before .before .args .s)
-    (c .ended .ensures (treeOf (c .before .before .before .before .before .before .before .before .before .before .before .args .types .now) sets (c .before .before .before .before .before .before .before .before .before .before .before .args .i)) (c .before .before .before .before .before .before .before .before .before .before .before .args .s)
-    (c .before .before .before .accepted .ensures ∙ ap (acceptedAs (c .before .before .before .before .before .before .before .before .before .before .before .args .s)) (sort-is (c .before .before .before .before .before .before .before .before .before .before .before .args .types .now) sets (c .before .before .before .before .before .before .before .before .before .before .before .args .i) _ _ (c .before .before .before .before .type-sort .ensures) (c .before .before .before .before .before .at64 .ensures)))
+    λ J sets y k. accepted-ran (treeOf (c .before .before .before .before .before .before .before .before .before .before .before .args .types .now) sets (c .before .before .before .before .before .before .before .before .before .before .before .args .i)) (ofWord (c .before .before .before .before .before .before .before .before .before .before .before .args .s))
+    (c .ended .ensures (treeOf (c .before .before .before .before .before .before .before .before .before .before .before .args .types .now) sets (c .before .before .before .before .before .before .before .before .before .before .before .args .i)) (ofWord (c .before .before .before .before .before .before .before .before .before .before .before .args .s))
+    (c .before .before .before .accepted .ensures ∙ ap (acceptedAs (ofWord (c .before .before .before .before .before .before .before .before .before .before .before .args .s))) (sort-is (c .before .before .before .before .before .before .before .before .before .before .before .args .types .now) sets (c .before .before .before .before .before .before .before .before .before .before .before .args .i) _ _ (c .before .before .before .before .type-sort .ensures) (c .before .before .before .before .before .at64 .ensures)))
     (done-at-end _ _ _ _ _ (c .before .run .ensures)))
     (ran-line J _ _ _ _ (c .before .run .ensures) (c .before .before .built .ensures ∙ ready-built y) k)
 

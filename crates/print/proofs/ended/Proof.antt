@@ -11,71 +11,54 @@ use Rattle.format.proofs.both.Reads as both-reads
 use Rattle.format.proofs.no_room.Reads as no-room-reads
 use Rattle.format.proofs.spent.Reads as spent-reads
 
--- src/lib.rt:97:29
 enum-told : tie.Need-enum-told
 enum-told c = search needs
 
--- src/lib.rt:97:29
 finished-requires : tie.Need-finished-requires
 finished-requires c κs = search needs
 
--- src/lib.rt:98:46
 enum-told-2 : tie.Need-enum-told-2
 enum-told-2 c = search needs
 
--- src/lib.rt:98:46
 spent-requires : tie.Need-spent-requires
 spent-requires c κs = search needs
 
--- src/lib.rt:98:26
 both-requires : tie.Need-both-requires
 both-requires c κs = search needs
 
--- src/lib.rt:99:47
 enum-told-3 : tie.Need-enum-told-3
 enum-told-3 c = search needs
 
--- src/lib.rt:99:47
 no-room-requires : tie.Need-no-room-requires
 no-room-requires c κs = search needs
 
--- src/lib.rt:99:27
 both-requires-2 : tie.Need-both-requires-2
 both-requires-2 c κs = search needs
 
--- src/lib.rt:100:26
 enum-told-4 : tie.Need-enum-told-4
 enum-told-4 c = search needs
 
--- src/lib.rt:101:26
 enum-told-5 : tie.Need-enum-told-5
 enum-told-5 c = search needs
 
--- src/lib.rt:102:27
 enum-told-6 : tie.Need-enum-told-6
 enum-told-6 c = search needs
 
--- src/lib.rt:91:1
 returns : tie.Need-returns
 returns c = λ T s f d. ended-with T s _ _ _ (c .before .enum-told .given .1) (c .finished .ensures T s f (d (ap answerIn (c .before .enum-told .given .1))))
 
--- src/lib.rt:91:1
 returns-2 : tie.Need-returns-2
 returns-2 c = λ T s f d. ended-with T s _ _ _ (c .before .before .enum-told2 .given .1) (with-spent T s _ _ _ _ _ f (c .before .spent .ensures) (c .both .ensures))
 
--- src/lib.rt:91:1
 returns-3 : tie.Need-returns-3
 returns-3 c = λ T s f d. ended-with T s _ _ _ (c .before .before .enum-told3 .given .1) (with-no-room T s _ _ _ _ _ f (c .before .no-room .ensures) (c .both2 .ensures))
 
--- src/lib.rt:91:1
 returns-4 : tie.Need-returns-4
 returns-4 c = λ T s f d. ended-with T s _ _ _ (c .enum-told4 .given .1) (with-none T s _ _ f (no-taken _ _))
 
--- src/lib.rt:91:1
 returns-5 : tie.Need-returns-5
 returns-5 c = λ T s f d. ended-with T s _ _ _ (c .enum-told5 .given .1) (with-none T s _ _ f (no-stuck _ _))
 
--- src/lib.rt:91:1
 returns-6 : tie.Need-returns-6
 returns-6 c = λ T s f d. ended-with T s _ _ _ (c .enum-told6 .given .1) (with-none T s _ _ f (no-denied _ _))
 

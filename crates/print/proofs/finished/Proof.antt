@@ -9,35 +9,27 @@ use Rattle.print.proofs.kind_sort.Reads as kind-sort-reads
 use Rattle.format.proofs.both.Reads as both-reads
 use Rattle.format.proofs.done.Reads as done-reads
 
--- src/lib.rt:79:23
 enum-known-control : tie.Need-enum-known-control
 enum-known-control c = search needs
 
--- src/lib.rt:81:17
 kind-sort-requires : tie.Need-kind-sort-requires
 kind-sort-requires c κs = search needs
 
--- src/lib.rt:82:17
 kind-number-requires : tie.Need-kind-number-requires
 kind-number-requires c κs = search needs
 
--- src/lib.rt:83:17
 done-requires : tie.Need-done-requires
 done-requires c κs = search needs
 
--- src/lib.rt:84:13
 both-requires : tie.Need-both-requires
 both-requires c κs = search needs
 
--- src/lib.rt:86:30
 enum-told : tie.Need-enum-told
 enum-told c = search needs
 
--- src/lib.rt:71:1
 returns : tie.Need-returns
 returns c = λ T s f d. finished-hand T s (c .before .before .before .before .before .before .before .before .before .before .args .o) _ _ _ _ _ _ f (c .before .before .before .before .before .control .given .1) (c .before .before .before .kind-sort .ensures _) (c .before .before .kind-number .ensures) (c .before .done .ensures) (c .both .ensures)
 
--- src/lib.rt:71:1
 returns-2 : tie.Need-returns-2
 returns-2 c = λ T s f d. finished-enter (c .before .before .before .before .before .args .o) _ (c .enum-told .given .1) d
 

@@ -1,3 +1,4 @@
+use Rattle.output.specs.Lines.{most-bytes}
 use mathlib.Core.Path.{_∙_}
 use Rattle.print.proofs.Prints.{whole, head-length, head-small, printed-head}
 use borrow.Author.Needs.{needs}
@@ -7,23 +8,18 @@ use Rattle.print.proofs.print.Reads as reads
 use Rattle.print.proofs.print.Lts as lts
 use Rattle.print.proofs.told.Reads as told-reads
 
--- src/lib.rt:173:13
 slice-aggregate-head : tie.Need-slice-aggregate-head
-slice-aggregate-head c = head-length 16384 (c .before .before .before .args .job .now) (c .before .if1 .taken)
+slice-aggregate-head c = head-length most-bytes (c .before .before .before .args .job .now) (c .before .if1 .taken)
 
--- src/lib.rt:174:9
 told-requires : tie.Need-told-requires
 told-requires c κs = search needs
 
--- src/lib.rt:174:9
 returns : tie.Need-returns
-returns c = c .told .ensures (head-small 16384 (c .before .before .before .before .args .job .now) (c .before .before .if1 .taken)) ∙ printed-head _
+returns c = c .told .ensures (head-small most-bytes (c .before .before .before .before .args .job .now) (c .before .before .if1 .taken)) ∙ printed-head _
 
--- src/lib.rt:176:5
 told-requires-2 : tie.Need-told-requires-2
 told-requires-2 c κs = search needs
 
--- src/lib.rt:169:1
 returns-2 : tie.Need-returns-2
 returns-2 c = c .told2 .ensures (c .before .if1 .left) ∙ whole _ (c .before .if1 .left)
 

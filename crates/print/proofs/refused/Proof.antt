@@ -6,23 +6,18 @@ use Rattle.print.proofs.refused.Reads as reads
 use Rattle.print.proofs.refused.Lts as lts
 use Rattle.format.proofs.refused.Reads as refused-reads
 
--- src/lib.rt:132:35
 cast-refused : tie.Need-cast-refused
 cast-refused c = search needs
 
--- src/lib.rt:132:9
 refused-requires : tie.Need-refused-requires
 refused-requires c κs = search needs
 
--- src/lib.rt:132:9
 returns : tie.Need-returns
 returns c = search needs
 
--- src/lib.rt:134:5
 refused-requires-2 : tie.Need-refused-requires-2
 refused-requires-2 c κs = search needs
 
--- src/lib.rt:128:1
 returns-2 : tie.Need-returns-2
 returns-2 c = λ h. absurd (omega arith)
 

@@ -1,5 +1,6 @@
 use mathlib.Core.Path.{refl}
 use Rattle.order.specs.Bools.{_or_}
+use Rattle.syntax.specs.Loading as loads
 use Rattle.typing.specs.Tables.{short}
 use native.Mathlib.Omega.{arith}
 use Rattle.print.proofs.Prints.{told-refused, told-accepted}
@@ -12,84 +13,64 @@ use Rattle.checker.proofs.check.Reads as check-reads
 use Rattle.print.proofs.accepted.Reads as accepted-reads
 use Rattle.print.proofs.refused.Reads as refused-reads
 
--- src/lib.rt:151:9
 slice-aggregate-check : tie.Need-slice-aggregate-check
 slice-aggregate-check c = search needs
 
--- src/lib.rt:152:9
 slice-aggregate-check-2 : tie.Need-slice-aggregate-check-2
 slice-aggregate-check-2 c = search needs
 
--- src/lib.rt:153:9
 slice-aggregate-check-3 : tie.Need-slice-aggregate-check-3
 slice-aggregate-check-3 c = search needs
 
--- src/lib.rt:154:9
 slice-aggregate-check-4 : tie.Need-slice-aggregate-check-4
 slice-aggregate-check-4 c = search needs
 
--- src/lib.rt:155:9
 slice-aggregate-check-5 : tie.Need-slice-aggregate-check-5
 slice-aggregate-check-5 c = search needs
 
--- src/lib.rt:156:9
 slice-aggregate-check-6 : tie.Need-slice-aggregate-check-6
 slice-aggregate-check-6 c = search needs
 
--- src/lib.rt:157:9
 slice-aggregate-check-7 : tie.Need-slice-aggregate-check-7
 slice-aggregate-check-7 c = search needs
 
--- src/lib.rt:158:9
 slice-aggregate-check-8 : tie.Need-slice-aggregate-check-8
 slice-aggregate-check-8 c = search needs
 
--- src/lib.rt:149:9
 check-requires : tie.Need-check-requires
 check-requires c κs = search needs
 
--- src/lib.rt:163:26
 enum-known-v : tie.Need-enum-known-v
 enum-known-v c = search needs
 
--- src/lib.rt:163:35
 refused-requires : tie.Need-refused-requires
 refused-requires c κs = search needs
 
--- src/lib.rt:164:27
 enum-known-v-2 : tie.Need-enum-known-v-2
 enum-known-v-2 c = search needs
 
--- src/lib.rt:164:54
 slice-aggregate-accepted : tie.Need-slice-aggregate-accepted
 slice-aggregate-accepted c = search needs
 
--- src/lib.rt:164:62
 slice-aggregate-accepted-2 : tie.Need-slice-aggregate-accepted-2
 slice-aggregate-accepted-2 c = search needs
 
--- src/lib.rt:164:70
 slice-aggregate-accepted-3 : tie.Need-slice-aggregate-accepted-3
 slice-aggregate-accepted-3 c = search needs
 
--- src/lib.rt:164:79
 slice-aggregate-accepted-4 : tie.Need-slice-aggregate-accepted-4
 slice-aggregate-accepted-4 c = search needs
 
--- src/lib.rt:164:87
 slice-aggregate-accepted-5 : tie.Need-slice-aggregate-accepted-5
 slice-aggregate-accepted-5 c = search needs
 
--- src/lib.rt:164:36
 accepted-requires : tie.Need-accepted-requires
 accepted-requires c κs = search needs
 
--- src/lib.rt:138:1
 returns : tie.Need-returns
-unfolding short _or_
+unfolding short loads.short _or_
 returns c = λ h. told-refused _ _ _ _ _ _ _ (c .before .before .before .before .before .before .before .before .before .before .before .before .before .check .ensures) (c .before .before .v .given .1) (c .refused .ensures) h refl
 
--- src/lib.rt:138:1
 returns-2 : tie.Need-returns-2
 returns-2 c = λ h. told-accepted _ _ _ _ _ _ _ (c .before .before .before .before .before .before .before .before .before .before .before .before .before .before .before .before .before .before .check .ensures) (c .before .before .before .before .before .before .before .v2 .given .1) (c .accepted .ensures) (λ i. omega (arith, c .before .before .before .before .before .before .before .before .before .before .before .before .before .before .before .before .before .before .before .before .before .before .before .before .before .before .before .shared-slice-known .given i))
 

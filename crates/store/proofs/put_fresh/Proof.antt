@@ -31,7 +31,7 @@ put64-requires-3 : tie.Need-put64-requires-3
 put64-requires-3 c κs = search needs
 
 returns : tie.Need-returns
-returns c = fresh-put _ _ _ _ _ _ 256 _ _ _ (search needs) (c .before .before .before .before .before .before .triple .ensures) (search needs) (search needs) (c .before .before .before .before .put64 .ensures) (c .before .before .put642 .ensures) (c .put643 .ensures)
+returns c = fresh-put _ _ _ _ _ _ 256 _ _ _ (search needs) (c .before .before .before .before .before .before .triple .ensures) (search needs) (search needs) (record { same = c .before .before .before .before .put64 .ensures }) (record { same = c .before .before .put642 .ensures }) (record { same = c .put643 .ensures })
 
 pub put-fresh-spec : {M : Type 1} → statement M
 put-fresh-spec =

@@ -34,7 +34,7 @@ put64-requires-2 : tie.Need-put64-requires-2
 put64-requires-2 c κs = search needs
 
 returns : tie.Need-returns
-returns c = hold _ _ _ _ (search needs) (c .before .before .before .before .before .before .at64 .ensures) _ _ _ (c .before .before .before .before .before .if1 .taken) (c .before .before .put64 .ensures) (c .put642 .ensures) (c .before .before .before .before .pack .ensures)
+returns c = hold _ _ _ _ (search needs) (c .before .before .before .before .before .before .at64 .ensures) _ _ _ (c .before .before .before .before .before .if1 .taken) (record { same = c .before .before .put64 .ensures }) (record { same = c .put642 .ensures }) (c .before .before .before .before .pack .ensures)
 
 returns-2 : tie.Need-returns-2
 returns-2 c = hold-full _ _ _ _ (search needs) (c .before .at64 .ensures) (c .if1 .left)

@@ -1,0 +1,58 @@
+-- The lent tables of a contract, before and after a call.
+use Prim.Native.Nat.{ℕ}
+use mathlib.Core.List.{List}
+use denote.Ref.{RefT, now}
+use denote.Triple.Both.{Both}
+use Rattle.syntax.specs.Commands.{Cmd}
+use Rattle.syntax.specs.Words.{codeIn}
+use Rattle.machine.specs.View.{Tables, tables}
+use Rattle.machine.specs.Inner.{putFrames, putCells, putKeys, putPairs, putFunctions, putBindings}
+
+-- a lent table: before the call, and after it
+abbrev pub Table : Type 0
+Table = Both (RefT (List ℕ)) (RefT (List ℕ))
+
+-- the expressions that the heads and slots hold
+abbrev pub lentCode : Table → Table → ℕ → Cmd ℕ
+lentCode heads slots = codeIn (now (heads .entry)) (now (slots .entry))
+
+-- the machine's six tables
+abbrev pub before : Table → Table → Table → Table → Table → Table → Tables
+before frames cells keys pairs functions bindings =
+    tables (now (frames .entry)) (now (cells .entry)) (now (keys .entry)) (now (pairs .entry)) (now (functions .entry)) (now (bindings .entry))
+
+abbrev pub after : Table → Table → Table → Table → Table → Table → Tables
+after frames cells keys pairs functions bindings =
+    tables (now (frames .exit)) (now (cells .exit)) (now (keys .exit)) (now (pairs .exit)) (now (functions .exit)) (now (bindings .exit))
+
+-- after an act, which reads frames and functions and writes the others
+abbrev pub afterAct : Table → Table → Table → Table → Table → Table → Tables
+afterAct frames cells keys pairs functions bindings =
+    tables (now (frames .entry)) (now (cells .exit)) (now (keys .exit)) (now (pairs .exit)) (now (functions .entry)) (now (bindings .exit))
+
+-- the tables that a function is lent, in place of those of w: an act on one value; an act on two, which reads keys and functions; entering, which reads bindings; a new key
+abbrev pub beforeOne : Tables → Table → Table → Table → Table → Tables
+beforeOne w cells keys pairs bindings = putBindings (putPairs (putKeys (putCells w (now (cells .entry))) (now (keys .entry))) (now (pairs .entry))) (now (bindings .entry))
+
+abbrev pub afterOne : Tables → Table → Table → Table → Table → Tables
+afterOne w cells keys pairs bindings = putBindings (putPairs (putKeys (putCells w (now (cells .exit))) (now (keys .exit))) (now (pairs .exit))) (now (bindings .exit))
+
+abbrev pub beforeTwo : Tables → Table → Table → Table → Table → Table → Tables
+beforeTwo w cells keys pairs functions bindings =
+    putBindings (putFunctions (putPairs (putKeys (putCells w (now (cells .entry))) (now (keys .entry))) (now (pairs .entry))) (now (functions .entry))) (now (bindings .entry))
+
+abbrev pub afterTwo : Tables → Table → Table → Table → Table → Table → Tables
+afterTwo w cells keys pairs functions bindings =
+    putBindings (putFunctions (putPairs (putKeys (putCells w (now (cells .exit))) (now (keys .entry))) (now (pairs .exit))) (now (functions .entry))) (now (bindings .exit))
+
+abbrev pub beforeEnter : Tables → Table → Table → Table → Tables
+beforeEnter w frames functions bindings = putBindings (putFunctions (putFrames w (now (frames .entry))) (now (functions .entry))) (now (bindings .entry))
+
+abbrev pub afterEnter : Tables → Table → Table → Table → Tables
+afterEnter w frames functions bindings = putBindings (putFunctions (putFrames w (now (frames .exit))) (now (functions .exit))) (now (bindings .entry))
+
+abbrev pub beforeKey : Tables → Table → Table → Table → Tables
+beforeKey w keys pairs bindings = putBindings (putPairs (putKeys w (now (keys .entry))) (now (pairs .entry))) (now (bindings .entry))
+
+abbrev pub afterKey : Tables → Table → Table → Table → Tables
+afterKey w keys pairs bindings = putBindings (putPairs (putKeys w (now (keys .exit))) (now (pairs .exit))) (now (bindings .exit))

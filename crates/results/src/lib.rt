@@ -1,0 +1,195 @@
+// What callers from C and Rust are told, in words: a verdict, a refusal, the room in use, the value of a finished job and what its cells hold.
+use checker::Verdict;
+use machine::Control;
+use machine::Machine;
+use machine::Thread;
+use store::CELL_WORDS;
+use store::Kind;
+use store::MOST_BINDINGS;
+use store::MOST_CELLS;
+use store::MOST_FRAMES;
+use store::MOST_FUNCTIONS;
+use store::MOST_KEYS;
+use store::MOST_PAIRS;
+use store::Used;
+use store::cap;
+use table::put64;
+use table::wide;
+use table::wide8;
+use table::wide16;
+ghost use mathlib.Core.Path.{_≡_};
+ghost use Prim.Native.Nat.{ℕ, _<_};
+ghost use Rattle.semantics.specs.Machine.{most-cells};
+ghost use Rattle.store.specs.declared.Used.{Used};
+ghost use Rattle.store.specs.Meaning.{kindIn};
+ghost use Rattle.store.specs.Words.{cellIn};
+ghost use Rattle.store.specs.Tables.{listOf};
+ghost use Rattle.machine.specs.View.{Tables, stateOf, view, seen};
+ghost use Rattle.calls.specs.Words.{over};
+ghost use Rattle.results.specs.Told.{Refuses, numberFor, outWords, countWords, lentShort};
+ghost use Rattle.results.specs.Values.{kindNo, payloadOf, cellsFrom, valueWords, cellWords, TwoPut, CellPut};
+
+// The words of all cells, two for each.
+pub const TOLD_WORDS: usize = CELL_WORDS * 2;
+
+const CELLS: u32 = MOST_CELLS as u32;
+
+// The number of a verdict; what else it says is written.
+pub fn tell(v: Verdict, out: &mut [u64]) -> u64
+    ensures number { λ r. ⌜ r ≡ numberFor v ⌝ }
+    ensures written { λ _. ⌜ now (out .exit) ≡ over (now (out .entry)) (outWords v) ⌝ }
+{
+    match v {
+        Verdict::Accepted(i, s) => {
+            put64(out, 0, wide16(i));
+            put64(out, 1, s);
+            0
+        }
+        Verdict::Refused(n, p) => {
+            put64(out, 0, wide(p));
+            put64(out, 1, 0);
+            wide8(n)
+        }
+    }
+}
+
+// The number of a refusal; its place is written.
+pub fn refuse(n: u8, p: usize, rooms: &mut [u64]) -> u64
+    ensures { λ r. ⌜ Refuses n p r (now (rooms .entry)) (now (rooms .exit)) ⌝ }
+{
+    put64(rooms, 0, wide(p));
+    wide8(n)
+}
+
+// How much of each kind is in use, as far as there are places to write it.
+pub fn count(t: Thread, u: Used, rooms: &mut [u64])
+    ensures { λ _. ⌜ now (rooms .exit) ≡ over (now (rooms .entry)) (countWords t u) ⌝ }
+{
+    let cells = cap(u.cells, MOST_CELLS);
+    let keys = cap(u.keys, MOST_KEYS);
+    let pairs = cap(u.pairs, MOST_PAIRS);
+    let functions = cap(u.functions, MOST_FUNCTIONS);
+    let frames = cap(t.frames, MOST_FRAMES);
+    let bindings = cap(u.bindings, MOST_BINDINGS);
+    put64(rooms, 0, cells);
+    put64(rooms, 1, keys);
+    put64(rooms, 2, pairs);
+    put64(rooms, 3, functions);
+    put64(rooms, 4, frames);
+    put64(rooms, 5, bindings);
+}
+
+// Whether a slice that is lent to a session is too short: two words a call, two for the value, two for each cell, two for what is told.
+pub fn is_short<'a>(
+    calls: &'a [u64],
+    answers: &'a [u64],
+    value: &'a [u64],
+    cells: &'a [u64],
+    out: &'a [u64],
+) -> bool
+    ensures { λ r. ⌜ r ≡ lentShort (now (calls .entry)) (now (answers .entry)) (now (value .entry)) (now (cells .entry)) (now (out .entry)) ⌝ }
+{
+    if answers.len() / 2 < calls.len() {
+        return true;
+    }
+    if value.len() < 2 {
+        return true;
+    }
+    if cells.len() < TOLD_WORDS {
+        return true;
+    }
+    out.len() < 2
+}
+
+fn kind_word(k: Kind) -> u64
+    ensures { λ r. ⌜ ((n : ℕ) → r ≡ kindNo (kindIn k n)) ⌝ }
+{
+    match k {
+        Kind::Number => 1,
+        Kind::Pair => 2,
+        Kind::Cell => 3,
+        Kind::Function => 4,
+        Kind::Limit => 5,
+        Kind::Grant => 6,
+    }
+}
+
+fn payload_word(k: Kind, payload: u32) -> u64
+    ensures { λ r. ⌜ r ≡ payloadOf (kindIn k payload) ⌝ }
+{
+    let n = payload as u64;
+    match k {
+        Kind::Number => n,
+        Kind::Pair => n,
+        Kind::Cell => n,
+        Kind::Function => n,
+        Kind::Limit => n % 256,
+        Kind::Grant => n % 256,
+    }
+}
+
+// Two words from place `at` on.
+fn put_two(s: &mut [u64], at: usize, x: u64, y: u64)
+    requires { ⌜ at < 1024 ⌝ }
+    ensures { λ _. ⌜ TwoPut (now (s .entry)) (now (s .exit)) at x y ⌝ }
+{
+    put64(s, at, x);
+    put64(s, at + 1, y);
+}
+
+// The value of a finished job.
+fn put_value(t: Thread, value: &mut [u64])
+    ensures { λ _. ⌜ ((u : Used) (w : Tables) → now (value .exit) ≡ over (now (value .entry)) (valueWords (view (stateOf t u) w))) ⌝ }
+{
+    let n = t.now;
+    let c = n.control;
+    let Control::Hand(v) = c else {
+        put_two(value, 0, 0, 0);
+        return;
+    };
+    if t.frames == 0 {
+        let k = v.kind;
+        put_two(value, 0, kind_word(k), payload_word(k, v.payload));
+        return;
+    }
+    put_two(value, 0, 0, 0);
+}
+
+// What cell i of so many holds.
+fn put_cell(table: &[u64; CELL_WORDS], used: u64, i: u32, cells: &mut [u64])
+    requires { ⌜ i < most-cells ⌝ }
+    ensures { λ _. ⌜ CellPut (listOf cellIn (now (table .entry)) used) (now (cells .entry)) (now (cells .exit)) i ⌝ }
+{
+    let at = 2 * (i as usize);
+    if (i as u64) < used {
+        let v = store::cell_at(table, i);
+        let k = v.kind;
+        put_two(cells, at, kind_word(k), payload_word(k, v.payload));
+        return;
+    }
+    put_two(cells, at, 0, 0);
+}
+
+// What the cells hold, so many of them.
+fn put_cells(table: &[u64; CELL_WORDS], used: u64, cells: &mut [u64])
+    ensures { λ _. ⌜ now (cells .exit) ≡ over (now (cells .entry)) (cellsFrom (listOf cellIn (now (table .entry)) used) 0 most-cells) ⌝ }
+{
+    let mut i: u32 = 0;
+    while i < CELLS {
+        put_cell(table, used, i, cells);
+        i = i + 1;
+    }
+}
+
+// What the machine holds.
+pub fn hand_over(m: Machine, value: &mut [u64], cells: &mut [u64])
+    ensures value { λ _. ⌜ now (value .exit) ≡ over (now (value .entry)) (valueWords (seen m)) ⌝ }
+    ensures cells { λ _. ⌜ now (cells .exit) ≡ over (now (cells .entry)) (cellWords (seen m)) ⌝ }
+{
+    let t = m.thread;
+    put_value(t, value);
+    let u = m.used;
+    let used = cap(u.cells, MOST_CELLS);
+    let table = m.cells;
+    put_cells(&table, used, cells);
+}

@@ -1,0 +1,82 @@
+-- What a head and its places stand for, one condition a command byte, for proofs about programs that test the byte.
+use mathlib.Core.Path.{_≡_, refl, sym, ap, _∙_}
+use Prim.Native.Nat.{ℕ, _/_, _%_}
+use mathlib.Core.Bool.{Bool, true, false, cond}
+use mathlib.Core.List.{List, [], _∷_}
+use mathlib.Core.Option.{some}
+use lib.ListN.{drop, take}
+use lib.Dec.{eqb}
+use borrow.Author.Tests.{eqb-true}
+use Rattle.syntax.specs.Commands.{Cmd, c-num, c-top, c-var, c-pair, c-part, c-fn, c-app, c-new, c-asg, c-read, c-sum, c-test, c-lim, c-grant, c-newkey, c-assoc, Op, o-host, o-local, o-number, o-pair, o-cell, o-function, o-limit, o-grant, o-value, o-rights, x-number, form, commands, findOp}
+use Rattle.syntax.specs.Words.{decodeAs, decode}
+
+-- z where the byte is none of these
+abbrev pub decodeOr : Cmd ℕ → ℕ → ℕ → ℕ → ℕ → ℕ → ℕ → ℕ → Cmd ℕ
+decodeOr z byte x a b c d e =
+    cond (eqb byte 0x31) c-top
+    (cond (eqb byte 0x32) (c-var (x % 256))
+    (cond (eqb byte 0x33) (c-pair a b)
+    (cond (eqb byte 0x34) (c-part a (eqb x 1))
+    (cond (eqb byte 0x35) (c-fn (x % 256) b a)
+    (cond (eqb byte 0x36) (c-app a b)
+    (cond (eqb byte 0x37) (c-new b a)
+    (cond (eqb byte 0x38) (c-asg a b)
+    (cond (eqb byte 0x39) (c-read a)
+    (cond (eqb byte 0x3A) (c-sum (eqb x 0) a b)
+    (cond (eqb byte 0x3B) (c-test a b c d)
+    (cond (eqb byte 0x3C) (c-lim (take x (a ∷ b ∷ c ∷ d ∷ [])) e)
+    (cond (eqb byte 0x3D) (c-grant a b)
+    (cond (eqb byte 0x3E) (c-newkey (x % 256) (x / 256 % 256) a b c)
+    (cond (eqb byte 0x3F) (c-assoc a b)
+    z))))))))))))))
+
+unfoldable pub decodeBy : ℕ → ℕ → ℕ → ℕ → ℕ → ℕ → ℕ → Cmd ℕ
+decodeBy byte x a b c d e = decodeOr (c-num x) byte x a b c d e
+
+module _ (byte x : ℕ) (places : List ℕ) where
+  -- by the commands of a list, one after another
+  chain : ℕ → List Op → Cmd ℕ
+  chain b [] = c-num x
+  chain b (o ∷ l) = cond (eqb b (form o .byte)) (decodeAs (some o) x places) (chain b l)
+
+  spread : (l : List Op) → decodeAs (findOp l byte) x places ≡ chain byte l
+  unfolding chain findOp decodeAs
+  spread [] = refl
+  spread (o ∷ l) = at (eqb byte (form o .byte)) ∙ ap (λ (k : Cmd ℕ). cond (eqb byte (form o .byte)) (decodeAs (some o) x places) k) (spread l)
+    where
+      at : (t : Bool) → decodeAs (cond t (some o) (findOp l byte)) x places ≡ cond t (decodeAs (some o) x places) (decodeAs (findOp l byte) x places)
+      at true = refl
+      at false = refl
+
+  -- a command that is no expression stands for a number, and so does its byte to the commands after it
+  skip : (o : Op) (l : List Op) → decodeAs (some o) x places ≡ c-num x → chain (form o .byte) l ≡ c-num x → chain byte (o ∷ l) ≡ chain byte l
+  unfolding chain
+  skip o l h k = at (eqb byte (form o .byte)) refl
+    where
+      at : (t : Bool) → eqb byte (form o .byte) ≡ t → cond t (decodeAs (some o) x places) (chain byte l) ≡ chain byte l
+      at true e = h ∙ sym k ∙ ap (λ (n : ℕ). chain n l) (sym (eqb-true byte (form o .byte) e))
+      at false e = refl
+
+pub decode-is : (byte x a b c d e : ℕ) → decode byte x a b c d e ≡ decodeBy byte x a b c d e
+unfolding decode decodeBy chain
+decode-is byte x a b c d e =
+    spread byte x l commands
+    ∙ skip byte x l o-host (drop 1 commands) refl refl
+    ∙ skip byte x l o-local (drop 2 commands) refl refl
+    ∙ skip byte x l o-number (drop 3 commands) refl refl
+    ∙ skip byte x l o-pair (drop 4 commands) refl refl
+    ∙ skip byte x l o-cell (drop 5 commands) refl refl
+    ∙ skip byte x l o-function (drop 6 commands) refl refl
+    ∙ skip byte x l o-limit (drop 7 commands) refl refl
+    ∙ skip byte x l o-grant (drop 8 commands) refl refl
+    ∙ skip byte x l o-value (drop 9 commands) refl refl
+    ∙ skip byte x l o-rights (drop 10 commands) refl refl
+    ∙ skip byte x l x-number (drop 11 commands) refl refl
+    ∙ ap (λ (z : Cmd ℕ). decodeOr z byte x a b c d e) (last (eqb byte 0xFF))
+  where
+    l : List ℕ
+    l = a ∷ b ∷ c ∷ d ∷ e ∷ []
+
+    last : (t : Bool) → _≡_ {A = Cmd ℕ} (cond t (c-num x) (c-num x)) (c-num x)
+    last true = refl
+    last false = refl
