@@ -345,18 +345,17 @@ accepted-to {bytes} {J} {g = g} {w} q m l h (accepted k σ x i s a b c d e f) z 
 
     trees : rules.accept (treeOf (x .job .types) (x .job .sets) i) (ofWord s) ≡ rules.accept (tree (σ .entries) i) (ofWord s)
     trees =
-        let n : x .types ≡ filled (length (x .job .types)) 0 (typeWords (σ .entries)) = unfold filledFrom filledWith in ap (λ (y : Tables). y .job .types) c in
-        let o : x .sets ≡ filled (length (x .job .sets)) 0 (setWords (σ .entries)) = unfold filledFrom filledWith in ap (λ (y : Tables). y .job .sets) c in
+        let n : x .job .types ≡ filled (length (x .job .types)) 0 (typeWords (σ .entries)) = unfold filledFrom filledWith in ap (λ (y : Tables). y .job .types) c in
+        let o : x .job .sets ≡ filled (length (x .job .sets)) 0 (setWords (σ .entries)) = unfold filledFrom filledWith in ap (λ (y : Tables). y .job .sets) c in
         (λ j. rules.accept (treeOf (n j) (o j) i) (ofWord s)) ∙ ap (λ (T : Ty). rules.accept T (ofWord s)) (tree-is σ (inv-fits (read-ok bytes J q) (omega arith) b) (length (x .job .types)) (length (x .job .sets)) i)
 
 -- A job that is loaded: its entries and effects are cleared, and its expressions are typed
 
-module _ {bytes : List ℕ} {J : Job} {g : Shape} {w : Tables} {o e : List ℕ} (o-is : o ≡ zeros (w .entries)) (e-is : e ≡ zeros (w .effects)) (given : Given bytes J g w) where
+module _ {bytes : List ℕ} {J : Job} {g : Shape} {w : Tables} {o e : List ℕ} (o-is : o ≡ replicate (length (w .entries)) 0) (e-is : e ≡ replicate (length (w .effects)) 0) (given : Given bytes J g w) where
   abbrev w' : Tables
   w' = record { job = w .job; entries = o; effects = e }
 
   as-long : Lengths w w'
-  unfolding zeros
   as-long =
       record {
         job = record { names = refl; types = refl; sets = refl; values = refl; heads = refl; slots = refl };

@@ -35,7 +35,7 @@ ghost use Rattle.machine.specs.View.{Tables, view};
 ghost use Rattle.machine.specs.Inner.{acted, tried, putCells, putKeys, putPairs, putFunctions, putBindings, limitsIn, Went};
 ghost use Rattle.machine.specs.Lent.{beforeKey, afterKey};
 
-// 3E binds twice.
+// 0x3E binds twice.
 const ROOM_FOR_TWO: u64 = MOST_BINDINGS - 1;
 
 // The keys that four values stand for, where all are limit keys.

@@ -5,9 +5,8 @@ use mathlib.Core.List.{List}
 use lib.ListN.{length}
 use Rattle.order.specs.Bools.{_and_}
 use Rattle.syntax.specs.Job.{Job, sourceOf}
-use Rattle.syntax.specs.Reading.{Read, read}
-use Rattle.syntax.specs.ReadLaws.{read-ok}
-use Rattle.syntax.specs.WordLaws.{Bytes, job-fits}
+use Rattle.syntax.specs.ReadLaws.{JobOk, read-ok}
+use Rattle.syntax.specs.WordLaws.{Bytes, JobFits, job-fits}
 use Rattle.syntax.specs.Loading.{JobTables, filledWith}
 use Rattle.syntax.specs.LoadLaws.{loaded, long-load}
 use Rattle.semantics.specs.Start.{startOf}
@@ -17,7 +16,6 @@ use Rattle.machine.specs.View.{seen}
 use Rattle.initial.specs.Empty.{emptyMachine, machineOf, empty-is}
 use Rattle.initial.specs.Begun.{isJob, sourceIn}
 use Rattle.initial.specs.Held.{filled-holds}
-use Rattle.table.specs.declared.Refusal.{Refusal}
 use Rattle.job.specs.declared.Shape.{Shape}
 use Rattle.job.specs.declared.Answer.{Answer}
 use Rattle.job.specs.declared.Answer.the-variants as answers
@@ -32,26 +30,23 @@ pub none-built : (n t v : List ℕ) → builtFrom noCounts n t v ≡ emptyMachin
 unfolding builtFrom sourceIn isJob _and_
 none-built n t v = empty-is
 
-loaded-ready : {bytes : List ℕ} {g : Shape} {w x : JobTables} → Bytes bytes → (l : Loaded bytes g w x) → Ready (l .job) g (x .names) (x .types) (x .values)
+ready-of : {J : Job} {g : Shape} {x : JobTables} (w : JobTables) → JobOk J → JobFits J → g ≡ shapeOf J → x ≡ filledWith (J .types) J w → Ready J g (x .names) (x .types) (x .values)
 unfolding filledWith shapeOf
-loaded-ready {bytes} {w = w} by l =
-    let is = loaded bytes (l .job) (l .is) .0 in
-    record {
-      ok = read-ok bytes (l .job) is;
-      shape = l .shape;
-      holds = rw (l .shape, l .tables) (filled-holds (l .job) (job-fits bytes (l .job) by is) (length (w .names)) (length (w .types)) (length (w .values)));
-    }
+ready-of {J} w o f a b = record { ok = o; shape = a; holds = rw (a, b) (filled-holds J f (length (w .names)) (length (w .types)) (length (w .values))) }
+
+loaded-ready : {bytes : List ℕ} {g : Shape} {w x : JobTables} → Bytes bytes → (l : Loaded bytes g w x) → Ready (l .job) g (x .names) (x .types) (x .values)
+loaded-ready {bytes} {w = w} by l = let r = loaded bytes (l .job) (l .is) .0 in ready-of w (read-ok bytes (l .job) r) (job-fits bytes (l .job) by r) (l .shape) (l .tables)
 
 pub starts : {bytes : List ℕ} {a : Answer} {w x : JobTables} {t : Told} {g : Shape} (m : Machine) → Bytes bytes → LoadTo bytes a w x → t ≡ toldOf a → g ≡ countsIn a
     → seen m ≡ builtFrom g (x .names) (x .types) (x .values) → Starts bytes (record { told = t; machine = m }) w x
 unfolding toldOf countsIn startWith startLoaded machineOf
-starts {bytes} {a} {w} {x} m by to e f b = rw e (at a refl to (b ∙ ap (λ (k : Shape). builtFrom k (x .names) (x .types) (x .values)) f))
+starts {bytes} {a} {w} {x} m by to e f b = rw e (at a to (b ∙ ap (λ (k : Shape). builtFrom k (x .names) (x .types) (x .values)) f))
   where
-    at : (y : Answer) → a ≡ y → LoadTo bytes y w x → seen m ≡ builtFrom (countsIn y) (x .names) (x .types) (x .values) → Starts bytes (record { told = toldOf y; machine = m }) w x
-    at (answers.Refused k) q l z =
+    at : (y : Answer) → LoadTo bytes y w x → seen m ≡ builtFrom (countsIn y) (x .names) (x .types) (x .values) → Starts bytes (record { told = toldOf y; machine = m }) w x
+    at (answers.Refused k) l z =
         let i = refused-by l k refl in
         record { answer = rw i; machine = rw i (z ∙ none-built (x .names) (x .types) (x .values)); tables = l .tables }
-    at (answers.Job g) q l z =
+    at (answers.Job g) l z =
         let j = job-loaded l refl in
         let i = long-load w bytes (j .long) ∙ j .is in
         let y = z ∙ ready-built (loaded-ready by j) in

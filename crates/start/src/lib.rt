@@ -18,7 +18,7 @@ ghost use Rattle.machine.specs.View.{seen};
 ghost use Rattle.initial.specs.Empty.{emptyMachine};
 ghost use Rattle.initial.specs.Begun.{Begun};
 ghost use Rattle.load.specs.Lent.{jobBefore, jobAfter};
-ghost use Rattle.start.specs.Starts.{noCounts, countsIn, toldOf, builtFrom, Starts};
+ghost use Rattle.start.specs.Starts.{countsIn, toldOf, builtFrom, Starts};
 
 // The job is started, or refused with a number and a place.
 pub enum Told {
@@ -77,26 +77,19 @@ pub fn built(g: Shape, names: &[u16], types: &[u64], values: &[u64]) -> Machine
     machine_of(b)
 }
 
-// The counts of no job.
-fn no_counts() -> Shape
-    ensures { λ r. ⌜ r ≡ noCounts ⌝ }
-{
-    Shape {
-        names: 0,
-        types: 0,
-        values: 0,
-        cmds: 0,
-        rights: 0,
-    }
-}
-
 // The machine where no job is started: nothing is bound, nothing is enabled.
 pub fn empty() -> Machine
     ensures { λ r. ⌜ seen r ≡ emptyMachine ⌝ }
 {
     let names = [0u16; 1];
     let words = [0u64; 1];
-    let g = no_counts();
+    let g = Shape {
+        names: 0,
+        types: 0,
+        values: 0,
+        cmds: 0,
+        rights: 0,
+    };
     built(g, &names, &words, &words)
 }
 
@@ -106,11 +99,17 @@ fn counts(a: Answer) -> Shape
 {
     match a {
         Answer::Job(g) => g,
-        Answer::Refused(_) => no_counts(),
+        Answer::Refused(_) => Shape {
+            names: 0,
+            types: 0,
+            values: 0,
+            cmds: 0,
+            rights: 0,
+        },
     }
 }
 
-fn told(a: Answer) -> Told
+fn told_by(a: Answer) -> Told
     ensures { λ r. ⌜ r ≡ toldOf a ⌝ }
 {
     match a {
@@ -135,7 +134,7 @@ pub fn start(
         ⌝ }
 {
     let a = load::load(job, names, types, sets, values, heads, slots);
-    let t = told(a);
+    let t = told_by(a);
     let g = counts(a);
     let m = built(g, names, types, values);
     Opened {

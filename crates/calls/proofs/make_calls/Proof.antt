@@ -8,10 +8,6 @@ use Rattle.semantics.specs.Calls.{stepsOf}
 use Rattle.calls.proofs.Going.{Going, going-start, going-on, going-end}
 use Rattle.calls.proofs.make_calls.Statement.{statement}
 use Rattle.calls.proofs.make_calls.Tie as tie
-use Rattle.calls.proofs.make_calls.Reads as reads
-use Rattle.calls.proofs.make_calls.Lts as lts
-use Rattle.calls.proofs.make.Reads as make-reads
-use Rattle.calls.proofs.note_both.Reads as note-both-reads
 
 abbrev Inv-loop : tie.InvT-loop
 Inv-loop heads slots calls answers₀ last₀ at₀ i₀ answers last at i = Going (stepsOf (codeIn heads slots)) calls answers₀ (seen last₀) answers (seen last) at i
@@ -19,45 +15,35 @@ Inv-loop heads slots calls answers₀ last₀ at₀ i₀ answers last at i = Goi
 abbrev μ-loop : tie.MeasureT-loop
 μ-loop heads slots calls answers₀ last₀ at₀ i₀ answers last at i = length calls - i
 
--- src/lib.rt:72:5
 loop-holds : tie.Need-loop-holds Inv-loop μ-loop
 loop-holds c = going-start _ _ _ _
 
--- src/lib.rt:73:17
 mul-w : tie.Need-mul-w Inv-loop μ-loop
 mul-w c = search needs
 
--- src/lib.rt:73:17
 shared-slice-read-w : tie.Need-shared-slice-read-w Inv-loop μ-loop
 shared-slice-read-w c = search needs
 
--- src/lib.rt:74:13
 add-i : tie.Need-add-i Inv-loop μ-loop
 add-i c = search needs
 
--- src/lib.rt:75:13
 make-requires : tie.Need-make-requires Inv-loop μ-loop
 make-requires c κs = search needs
 
--- src/lib.rt:76:9
 note-both-requires : tie.Need-note-both-requires Inv-loop μ-loop
 note-both-requires c κs = search needs
 
--- src/lib.rt:72:5
 loop-less : tie.Need-loop-less Inv-loop μ-loop
 loop-less c = omega arith
 
--- src/lib.rt:72:5
 loop-again : tie.Need-loop-again Inv-loop μ-loop
 loop-again c =
     going-on _ (ranIn (c .before .before .before .before .before .make .result)) _ (c .before .before .before .before .before .before .before .loop-test .taken) (c .before .before .before .before .before .make .ensures)
     (c .before .before .before .note-both .ensures) (c .before .before .before .before .before .before .before .before .loop .inv)
 
--- src/lib.rt:60:1
 same-length : tie.Need-same-length Inv-loop μ-loop
 same-length c = c .before .loop .inv .same
 
--- src/lib.rt:60:1
 returns : tie.Need-returns Inv-loop μ-loop
 returns c = going-end (c .loop-test .left) (c .before .loop .inv)
 

@@ -3,28 +3,19 @@ use Rattle.calls.proofs.Going.{noted-both}
 use borrow.Author.Needs.{needs}
 use Rattle.calls.proofs.note_both.Statement.{statement}
 use Rattle.calls.proofs.note_both.Tie as tie
-use Rattle.calls.proofs.note_both.Reads as reads
-use Rattle.calls.proofs.note_both.Lts as lts
-use Rattle.calls.proofs.note.Reads as note-reads
-use Rattle.calls.proofs.number.Reads as number-reads
 
--- src/lib.rt:53:9
 number-requires : tie.Need-number-requires
 number-requires c κs = search needs
 
--- src/lib.rt:54:9
 note-requires : tie.Need-note-requires
 note-requires c κs = search needs
 
--- src/lib.rt:55:5
 note-requires-2 : tie.Need-note-requires-2
 note-requires-2 c κs = search needs
 
--- src/lib.rt:49:1
 same-length : tie.Need-same-length
 same-length c = search needs
 
--- src/lib.rt:49:1
 returns : tie.Need-returns
 returns c = noted-both _ _ _ _ _ _ _ _ _ (c .before .before .before .before .before .before .before .before .number .ensures) refl (c .before .before .before .before .before .before .note .ensures) (c .before .before .note2 .ensures)
 

@@ -2,59 +2,45 @@ use borrow.Author.Needs.{needs}
 use Rattle.calls.specs.Words.{answerNo}
 use Rattle.calls.proofs.number.Statement.{statement}
 use Rattle.calls.proofs.number.Tie as tie
-use Rattle.calls.proofs.number.Reads as reads
-use Rattle.calls.proofs.number.Lts as lts
 
--- src/lib.rt:18:26
 enum-told : tie.Need-enum-told
 enum-told c = search needs
 
--- src/lib.rt:19:29
 enum-told-2 : tie.Need-enum-told-2
 enum-told-2 c = search needs
 
--- src/lib.rt:20:26
 enum-told-3 : tie.Need-enum-told-3
 enum-told-3 c = search needs
 
--- src/lib.rt:21:27
 enum-told-4 : tie.Need-enum-told-4
 enum-told-4 c = search needs
 
--- src/lib.rt:22:26
 enum-told-5 : tie.Need-enum-told-5
 enum-told-5 c = search needs
 
--- src/lib.rt:23:27
 enum-told-6 : tie.Need-enum-told-6
 enum-told-6 c = search needs
 
--- src/lib.rt:14:1
 returns : tie.Need-returns
 unfolding answerNo
 returns c = search needs
 
--- src/lib.rt:14:1
 returns-2 : tie.Need-returns-2
 unfolding answerNo
 returns-2 c = search needs
 
--- src/lib.rt:14:1
 returns-3 : tie.Need-returns-3
 unfolding answerNo
 returns-3 c = search needs
 
--- src/lib.rt:14:1
 returns-4 : tie.Need-returns-4
 unfolding answerNo
 returns-4 c = search needs
 
--- src/lib.rt:14:1
 returns-5 : tie.Need-returns-5
 unfolding answerNo
 returns-5 c = search needs
 
--- src/lib.rt:14:1
 returns-6 : tie.Need-returns-6
 unfolding answerNo
 returns-6 c = search needs

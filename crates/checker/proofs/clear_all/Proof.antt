@@ -1,3 +1,7 @@
+use Rattle.syntax.specs.Loading as loads
+use Rattle.syntax.specs.Loading.{zeros}
+use Rattle.typing.specs.Tables.{cleared}
+use Rattle.checker.specs.Answer.{tables}
 use borrow.Author.Needs.{needs}
 use Rattle.checker.proofs.clear_all.Statement.{statement}
 use Rattle.checker.proofs.clear_all.Tie as tie
@@ -36,7 +40,8 @@ same-length-8 : tie.Need-same-length-8
 same-length-8 c = search needs
 
 returns : tie.Need-returns
-returns c = ?
+unfolding cleared loads.cleared zeros
+returns c = λ i. tables (c .before .before .before .before .before .before .before .before .before .before .before .before .before .before .before .before .before .before .before .before .clear-all .ensures .names i) (c .before .before .before .before .before .before .before .before .before .before .before .before .before .before .before .before .before .before .before .before .clear-all .ensures .types i) (c .before .before .before .before .before .before .before .before .before .before .before .before .before .before .before .before .before .before .before .before .clear-all .ensures .sets i) (c .before .before .before .before .before .before .before .before .before .before .before .before .before .before .before .before .before .before .before .before .clear-all .ensures .values i) (c .before .before .before .before .before .before .before .before .before .before .before .before .before .before .before .before .before .before .before .before .clear-all .ensures .heads i) (c .before .before .before .before .before .before .before .before .before .before .before .before .before .before .before .before .before .before .before .before .clear-all .ensures .slots i) (c .before .before .before .before .before .before .clear16 .ensures i) (c .before .before .clear64 .ensures i)
 
 pub clear-all-spec : {M : Type 1} → statement M
 clear-all-spec =

@@ -1,3 +1,4 @@
+use mathlib.Core.Path.{sym, ap}
 use Rattle.start.specs.Starts.{countsIn}
 use borrow.Author.Needs.{needs}
 use Rattle.start.proofs.counts.Statement.{statement}
@@ -9,12 +10,9 @@ enum-known-a c = search needs
 enum-told : tie.Need-enum-told
 enum-told c = search needs
 
-no-counts-requires : tie.Need-no-counts-requires
-no-counts-requires c κs = search needs
-
 returns : tie.Need-returns
 unfolding countsIn
-returns c = search needs
+returns c = sym (ap countsIn (c .before .a .given .1))
 
 returns-2 : tie.Need-returns-2
 unfolding countsIn
@@ -26,6 +24,5 @@ counts-spec =
     (tie.spec
     enum-known-a
     enum-told
-    no-counts-requires
     returns
     returns-2)

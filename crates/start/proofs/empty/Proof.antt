@@ -1,13 +1,8 @@
-use mathlib.Core.Path.{ap, _∙_}
-use Rattle.job.specs.declared.Shape.{Shape}
-use Rattle.start.specs.Starts.{builtFrom}
+use mathlib.Core.Path.{_∙_}
 use Rattle.start.proofs.Tables.{none-built}
 use borrow.Author.Needs.{needs}
 use Rattle.start.proofs.empty.Statement.{statement}
 use Rattle.start.proofs.empty.Tie as tie
-
-no-counts-requires : tie.Need-no-counts-requires
-no-counts-requires c κs = search needs
 
 slice-aggregate-built : tie.Need-slice-aggregate-built
 slice-aggregate-built c = search needs
@@ -22,13 +17,12 @@ built-requires : tie.Need-built-requires
 built-requires c κs = search needs
 
 returns : tie.Need-returns
-returns c = c .built .ensures ∙ ap (λ (k : Shape). builtFrom k _ _ _) (c .before .before .before .before .no-counts .ensures) ∙ none-built _ _ _
+returns c = c .built .ensures ∙ none-built _ _ _
 
 pub empty-spec : {M : Type 1} → statement M
 empty-spec =
     tie.close
     (tie.spec
-    no-counts-requires
     slice-aggregate-built
     slice-aggregate-built-2
     slice-aggregate-built-3

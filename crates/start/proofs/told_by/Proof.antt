@@ -1,7 +1,8 @@
+use mathlib.Core.Path.{sym, ap}
 use Rattle.start.specs.Starts.{toldOf}
 use borrow.Author.Needs.{needs}
-use Rattle.start.proofs.told.Statement.{statement}
-use Rattle.start.proofs.told.Tie as tie
+use Rattle.start.proofs.told_by.Statement.{statement}
+use Rattle.start.proofs.told_by.Tie as tie
 
 enum-told : tie.Need-enum-told
 enum-told c = search needs
@@ -15,10 +16,10 @@ returns c = search needs
 
 returns-2 : tie.Need-returns-2
 unfolding toldOf
-returns-2 c = search needs
+returns-2 c = sym (ap toldOf (c .before .a .given .1))
 
-pub told-spec : {M : Type 1} → statement M
-told-spec =
+pub told-by-spec : {M : Type 1} → statement M
+told-by-spec =
     tie.close
     (tie.spec
     enum-told
