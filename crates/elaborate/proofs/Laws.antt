@@ -22,7 +22,7 @@ use Rattle.types.proofs.Entry.{the-type}
 use Rattle.types.specs.Known.{Known}
 use Rattle.types.proofs.Known.{known-none}
 use Rattle.elaborate.proofs.Binder.{the-type as binders}
-use Rattle.infer.specs.Answer.{made}
+use Rattle.infer.specs.Answer.{made, resultIn}
 use Rattle.elaborate.specs.declared.Binder.{Binder}
 use Rattle.elaborate.specs.declared.Binder.the-variants.{Nothing, Function, NewKey}
 use Rattle.elaborate.specs.declared.Next.{Next}
@@ -30,7 +30,9 @@ use Rattle.elaborate.specs.declared.Next.the-variants.{Count, Stop}
 use Rattle.elaborate.specs.declared.Passed.the-variants as passed
 use Rattle.elaborate.specs.Binders.{binderOf, Bound, bound, boundOne, boundFrom, hostsFrom}
 use Rattle.elaborate.specs.declared.Passed.{Passed}
-use Rattle.elaborate.specs.Pass.{Work, work, nextOf, settled, Settled, Out, out, turn, resultBy, typedFrom, Ended, bindersBy, afterBinders, numberedBy}
+use Rattle.infer.specs.declared.Typing.{Typing}
+use Rattle.infer.specs.declared.Typing.the-variants.{Makes, Points, Wrong}
+use Rattle.elaborate.specs.Pass.{Work, work, nextOf, settled, Settled, Out, out, turn, resultBy, typedFrom, Ended, bindersBy, afterBinders, numberedBy, after}
 
 -- Kinds
 
@@ -109,8 +111,8 @@ host-end values n i vars h p = let z : n - i ≡ 0 = omega arith in sym (p ∙ a
 -- an expression that has a type
 turn-count : (r : Result) (e : ℕ) (w : Work) (go : Work → Out) (m : ℕ) (ts ss os es : List ℕ) (n : Next) → Settled r e w n ts ss os es → n ≡ Count m → turn r e w go ≡ go (work m ts ss os es)
 unfolding turn settled nextOf
-turn-count (makes x s) e w go m ts ss os es n p q =
-    let z : w .count + 1 ≡ m = ap counted (sym (p .next) ∙ q) in
+turn-count (makes l x s) e w go m ts ss os es n p q =
+    let z : after (w .count) l + 1 ≡ m = ap counted (sym (p .next) ∙ q) in
     λ i. go (work (z i) (sym (p .types) i) (sym (p .sets) i) (sym (p .entries) i) (sym (p .effects) i))
   where
     counted : Next → ℕ
@@ -126,16 +128,16 @@ turn-count (points x s) e w go m ts ss os es n p q =
 turn-count (wrong k) e w go m ts ss os es n p q = absurd (let z : _≡_ {A = ℕ} 0 1 = cc (p .next) in omega arith)
 
 -- the count grows by one at most
-pub next-le : (r : Result) (n m : ℕ) (k : Next) → k ≡ nextOf r n → k ≡ Count m → m ≤ n + 1
-unfolding nextOf
-next-le (makes x s) n m k p q = let z : m ≡ n + 1 = cc in omega arith
-next-le (points x s) n m k p q = let z : m ≡ n = cc in omega arith
-next-le (wrong x) n m k p q = absurd (let z : _≡_ {A = ℕ} 0 1 = cc in omega arith)
+pub next-le : (t : Typing) (n m : ℕ) (k : Next) → k ≡ nextOf (resultIn t) n → k ≡ Count m → m ≤ n + 1
+unfolding nextOf resultIn after
+next-le (Makes x s) n m k p q = let z : m ≡ n + 1 = cc in omega arith
+next-le (Points x s) n m k p q = let z : m ≡ n = cc in omega arith
+next-le (Wrong x) n m k p q = absurd (let z : _≡_ {A = ℕ} 0 1 = cc in omega arith)
 
 turn-stop : (r : Result) (e : ℕ) (w : Work) (go : Work → Out) (k : ℕ) (ts ss os es : List ℕ) (n : Next) → Settled r e w n ts ss os es → n ≡ Stop k
     → turn r e w go ≡ out (passed.Halted k e) (work (w .count) ts ss os es)
 unfolding turn settled nextOf
-turn-stop (makes x s) e w go k ts ss os es n p q = absurd (let z : _≡_ {A = ℕ} 0 1 = cc (p .next) in omega arith)
+turn-stop (makes l x s) e w go k ts ss os es n p q = absurd (let z : _≡_ {A = ℕ} 0 1 = cc (p .next) in omega arith)
 turn-stop (points x s) e w go k ts ss os es n p q = absurd (let z : _≡_ {A = ℕ} 0 1 = cc (p .next) in omega arith)
 turn-stop (wrong x) e w go k ts ss os es n p q =
     let z : x ≡ k = ap number (sym (p .next) ∙ q) in

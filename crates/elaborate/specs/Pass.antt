@@ -1,10 +1,11 @@
 -- The pass over the expressions by the tables: each writes its type entry and its effect, and the entry that it makes.
 use mathlib.Core.Path.{_≡_}
 use Prim.Native.Nat.{ℕ, zero, suc, _+_, _%_}
-use mathlib.Core.List.{List}
+use mathlib.Core.List.{List, [], _∷_, _++_}
 use lib.ListN.{getD, set, replicate}
 use Rattle.order.specs.Effects.{ofWord}
-use Rattle.syntax.specs.Words.{typeWord, setWord, codeIn, entryIn}
+use Rattle.syntax.specs.Types.{TypeEntry}
+use Rattle.syntax.specs.Words.{typeWords, setWords, codeIn, entryIn}
 use Rattle.typing.specs.Numbered.{Result, makes, points, wrong, resultAt}
 use Rattle.types.specs.Known.{Known}
 use Rattle.infer.specs.Ops.{opsBy}
@@ -25,15 +26,26 @@ pub record Work : Type 0 where
 abbrev pub work : ℕ → List ℕ → List ℕ → List ℕ → List ℕ → Work
 work n types sets entries effects = record { count = n; types = types; sets = sets; entries = entries; effects = effects }
 
+-- the place after entries l from n on
+unfoldable pub after : ℕ → List TypeEntry → ℕ
+after n [] = n
+after n (x ∷ l) = after (n + 1) l
+
+-- words written one after another from place n on
+unfoldable pub stored : List ℕ → ℕ → List ℕ → List ℕ
+stored t n [] = t
+stored t n (w ∷ l) = stored (set t n w) (n + 1) l
+
 unfoldable pub nextOf : Result → ℕ → Next
-nextOf (makes x s) n = Count (n + 1)
+nextOf (makes l x s) n = Count (after n l + 1)
 nextOf (points i s) n = Count n
 nextOf (wrong k) n = Stop k
 
 -- the result of expression e is written
 unfoldable pub settled : Result → ℕ → Work → Work
-settled (makes x s) e w =
-    work (w .count + 1) (set (w .types) (w .count) (typeWord x)) (set (w .sets) (w .count) (setWord x)) (set (w .entries) e (w .count % 65536)) (set (w .effects) e (s .set))
+settled (makes l x s) e w =
+    work (after (w .count) l + 1) (stored (w .types) (w .count) (typeWords (l ++ (x ∷ [])))) (stored (w .sets) (w .count) (setWords (l ++ (x ∷ []))))
+    (set (w .entries) e (after (w .count) l % 65536)) (set (w .effects) e (s .set))
 settled (points i s) e w = work (w .count) (w .types) (w .sets) (set (w .entries) e i) (set (w .effects) e (s .set))
 settled (wrong k) e w = w
 
@@ -58,7 +70,7 @@ abbrev pub out : Passed → Work → Out
 out a w = record { answer = a; work = w }
 
 unfoldable pub turn : Result → ℕ → Work → (Work → Out) → Out
-turn (makes x s) e w go = go (settled (makes x s) e w)
+turn (makes l x s) e w go = go (settled (makes l x s) e w)
 turn (points i s) e w go = go (settled (points i s) e w)
 turn (wrong k) e w go = out (passed.Halted k e) w
 

@@ -2,7 +2,7 @@
 use mathlib.Core.Path.{_≡_, refl, sym, ap, _∙_, subst}
 use Prim.Native.Nat.{ℕ, zero, suc, _+_, _*_, _/_, _%_, _<_, _≤_}
 use native.Mathlib.Omega.{arith}
-use mathlib.Core.List.{List, [], _∷_, _++_, map, List·Memᴰ, List·Memᴰ·head, List·Memᴰ·tail, List·Memᴰ·not-nil}
+use mathlib.Core.List.{List, [], _∷_, _++_, map, List·Memᴰ, List·Memᴰ·head, List·Memᴰ·tail, List·Memᴰ·not-nil, append-nil, append-assoc}
 use mathlib.Core.Option.{none}
 use lib.ListN.{length, getD, getElem?, set, replicate, drop, length-append, length-map, length-replicate}
 use Rattle.order.specs.Effects.{Effect, pure}
@@ -24,14 +24,14 @@ use Rattle.typing.specs.Layout.{newKeys, keyEntries, boundVars, hostVars, varEn
 use Rattle.syntax.specs.Loading.{most-entries}
 use Rattle.typing.specs.Numbered.{Result, makes, points, wrong, resultAt, Sofar, settle, numberAt, next, Whole, whole, halted, onto, numberAll, startOf, numbering}
 use Rattle.typing.specs.NumberedTables.{keys-length}
-use Rattle.typing.specs.NumberedLaws.{Inv, Fits, inv-start, inv-next, inv-fits, inv-room, number-turn, number-end}
+use Rattle.typing.specs.NumberedLaws.{Inv, Fits, inv-start, inv-next, inv-fits, number-turn, number-end}
 use Rattle.typing.specs.NumberedWords.{words-back}
 use Rattle.names.specs.Ancestors.{ancestorsBy}
 use Rattle.elaborate.specs.declared.Binder.{Binder}
 use Rattle.elaborate.specs.declared.Binder.the-variants.{Nothing, Function, NewKey}
 use Rattle.elaborate.specs.declared.Passed.the-variants as passed
 use Rattle.elaborate.specs.Binders.{binderBy, binderOf, Bound, bound, hostsFrom}
-use Rattle.elaborate.specs.Pass.{Work, work, settled, Out, out, turn, resultBy, typedFrom, bindersBy, afterBinders, numberedBy}
+use Rattle.elaborate.specs.Pass.{Work, work, settled, Out, out, turn, resultBy, typedFrom, bindersBy, afterBinders, numberedBy, after, stored}
 use Rattle.elaborate.specs.OpsLaws.{jobOps, agree}
 use Rattle.elaborate.specs.BinderLaws.{boundAll, bound-all, Keys, keys-all, sets-kept, entryOr, Binds, by-fn, by-key, Apart, vars-all, hosts-length, hosts-all, both}
 
@@ -93,6 +93,21 @@ pub data Reached (J : Job) (kt ks ko ke : ℕ) : Out → Whole → Type 0 where
 
 words-more : {A : Type 0} (f : A → ℕ) (k : ℕ) (T : List A) (x : A) → length T < k → set (filled k 0 (map f T)) (length T) (f x) ≡ filled k 0 (map f (T ++ (x ∷ [])))
 words-more f k T x h = filled-set k (map f T) (length T) (f x) (omega (arith, length-map T f)) (sym (length-map T f)) ∙ ap (filled k 0) (sym (map-snoc f T x))
+
+words-all : (f : TypeEntry → ℕ) (k : ℕ) (T l : List TypeEntry) → length T + length l ≤ k → stored (filled k 0 (map f T)) (length T) (map f l) ≡ filled k 0 (map f (T ++ l))
+unfolding stored
+words-all f k T [] h = ap (λ (z : List TypeEntry). filled k 0 (map f z)) (sym (append-nil T))
+words-all f k T (x ∷ l) h =
+    let e : length T + 1 ≡ length (T ++ (x ∷ [])) = omega (arith, length-append T (x ∷ [])) in
+    ap (λ (t : List ℕ). stored t (length T + 1) (map f l)) (words-more f k T x (omega arith))
+    ∙ ap (λ (n : ℕ). stored (filled k 0 (map f (T ++ (x ∷ [])))) n (map f l)) e
+    ∙ words-all f k (T ++ (x ∷ [])) l (omega (arith, e))
+    ∙ ap (λ (z : List TypeEntry). filled k 0 (map f z)) (append-assoc T (x ∷ []) l)
+
+after-is : (n : ℕ) (l : List TypeEntry) → after n l ≡ length l + n
+unfolding after
+after-is n [] = omega arith
+after-is n (x ∷ l) = let z : length l + (n + 1) ≡ suc (length l) + n = omega arith in after-is (n + 1) l ∙ z
 
 module _ {J : Job} (j : JobOk J) (f : JobFits J) (scoped : treeRefusal (sourceOf J) ≡ none) (kn kt ks ko ke kv kh kp : ℕ)
     (long-types : most-entries ≤ kt) (long-sets : most-entries ≤ ks) (long-entries : 512 ≤ ko) (long-effects : 512 ≤ ke) where
@@ -161,16 +176,18 @@ module _ {J : Job} (j : JobOk J) (f : JobFits J) (scoped : treeRefusal (sourceOf
     effects-more e σ h v s =
         ap (λ (n : ℕ). set (filled ke 0 (effectWords (σ .effects))) n (s .set)) (sym (v .count-effects)) ∙ words-more (λ (x : Effect). x .set) ke (σ .effects) s (omega (arith, v .count-effects, j .few-cmds))
 
-    makes-more : (e : ℕ) (σ : Sofar) → e < length (J .cmds) → Inv J e σ → (x : TypeEntry) (s : Effect)
-        → settled (makes x s) e (workOf kt ks ko ke σ) ≡ workOf kt ks ko ke (record { entries = σ .entries ++ (x ∷ []); of = σ .of ++ (length (σ .entries) ∷ []); effects = σ .effects ++ (s ∷ []) })
+    makes-more : (e : ℕ) (σ : Sofar) → e < length (J .cmds) → Inv J e σ → (l : List TypeEntry) (x : TypeEntry) (s : Effect) → length (σ .entries ++ (l ++ (x ∷ []))) ≤ most-entries
+        → settled (makes l x s) e (workOf kt ks ko ke σ) ≡
+        workOf kt ks ko ke (record { entries = σ .entries ++ (l ++ (x ∷ [])); of = σ .of ++ ((length l + length (σ .entries)) ∷ []); effects = σ .effects ++ (s ∷ []) })
     unfolding settled
-    makes-more e σ h v x s =
-        let room : length (σ .entries) < most-entries = inv-room j h v in
-        let a : length (σ .entries) + 1 ≡ length (σ .entries ++ (x ∷ [])) = omega (arith, length-append (σ .entries) (x ∷ [])) in
-        let b : length (σ .entries) % 65536 ≡ length (σ .entries) = omega arith in
-        let c = ap (λ (n : ℕ). set (filled ko 0 (σ .of)) e n) b ∙ filled-set ko (σ .of) e (length (σ .entries)) (omega (arith, v .count-of, j .few-cmds)) (sym (v .count-of)) in
+    makes-more e σ h v l x s room =
+        let n = length-append (σ .entries) (l ++ (x ∷ [])) in
+        let m = length-append l (x ∷ []) in
+        let a : after (length (σ .entries)) l + 1 ≡ length (σ .entries ++ (l ++ (x ∷ []))) = omega (arith, after-is (length (σ .entries)) l, n, m) in
+        let b : after (length (σ .entries)) l % 65536 ≡ length l + length (σ .entries) = omega (arith, after-is (length (σ .entries)) l, n, m, room) in
+        let c = ap (λ (p : ℕ). set (filled ko 0 (σ .of)) e p) b ∙ filled-set ko (σ .of) e (length l + length (σ .entries)) (omega (arith, v .count-of, j .few-cmds)) (sym (v .count-of)) in
         let d = effects-more e σ h v s in
-        λ i. work (a i) (words-more typeWord kt (σ .entries) x (omega arith) i) (words-more setWord ks (σ .entries) x (omega arith) i) (c i) (d i)
+        λ i. work (a i) (words-all typeWord kt (σ .entries) (l ++ (x ∷ [])) (omega (arith, n, room)) i) (words-all setWord ks (σ .entries) (l ++ (x ∷ [])) (omega (arith, n, room)) i) (c i) (d i)
 
     points-more : (e : ℕ) (σ : Sofar) → e < length (J .cmds) → Inv J e σ → (p : ℕ) (s : Effect)
         → settled (points p s) e (workOf kt ks ko ke σ) ≡ workOf kt ks ko ke (record { entries = σ .entries; of = σ .of ++ (p ∷ []); effects = σ .effects ++ (s ∷ []) })
@@ -180,16 +197,16 @@ module _ {J : Job} (j : JobOk J) (f : JobFits J) (scoped : treeRefusal (sourceOf
         let d = effects-more e σ h v s in
         λ i. work (length (σ .entries)) (filled kt 0 (typeWords (σ .entries))) (filled ks 0 (setWords (σ .entries))) (c i) (d i)
 
-    one : (r : Result) (e : ℕ) (σ : Sofar) → e < length (J .cmds) → Inv J e σ → (go : Work → Out) (on : Sofar → Whole)
+    one : (r : Result) (e : ℕ) (σ : Sofar) → e < length (J .cmds) → Inv J e σ → ((τ : Sofar) → settle σ r ≡ next τ → length (τ .entries) ≤ most-entries) → (go : Work → Out) (on : Sofar → Whole)
         → ((τ : Sofar) → settle σ r ≡ next τ → Reached J kt ks ko ke (go (workOf kt ks ko ke τ)) (on τ)) → Reached J kt ks ko ke (turn r e (workOf kt ks ko ke σ) go) (onto (settle σ r) e on)
     unfolding turn settle onto
-    one (makes x s) e σ h v go on rec =
-        let τ : Sofar = record { entries = σ .entries ++ (x ∷ []); of = σ .of ++ (length (σ .entries) ∷ []); effects = σ .effects ++ (s ∷ []) } in
-        subst (λ (w : Work). Reached J kt ks ko ke (go w) (on τ)) (sym (makes-more e σ h v x s)) (rec τ refl)
-    one (points p s) e σ h v go on rec =
+    one (makes l x s) e σ h v room go on rec =
+        let τ : Sofar = record { entries = σ .entries ++ (l ++ (x ∷ [])); of = σ .of ++ ((length l + length (σ .entries)) ∷ []); effects = σ .effects ++ (s ∷ []) } in
+        subst (λ (w : Work). Reached J kt ks ko ke (go w) (on τ)) (sym (makes-more e σ h v l x s (room τ refl))) (rec τ refl)
+    one (points p s) e σ h v room go on rec =
         let τ : Sofar = record { entries = σ .entries; of = σ .of ++ (p ∷ []); effects = σ .effects ++ (s ∷ []) } in
         subst (λ (w : Work). Reached J kt ks ko ke (go w) (on τ)) (sym (points-more e σ h v p s)) (rec τ refl)
-    one (wrong n) e σ h v go on rec = r-halted n e (workOf kt ks ko ke σ)
+    one (wrong n) e σ h v room go on rec = r-halted n e (workOf kt ks ko ke σ)
 
     abbrev passed-from : ℕ → ℕ → Work → Out
     passed-from m e w = typedFrom (ancestorsBy (J .names)) (filled kn 0 (nameWords J)) vs (filled kh 0 (headWords J)) (filled kp 0 (slotWords J)) m e w
@@ -206,7 +223,7 @@ module _ {J : Job} (j : JobOk J) (f : JobFits J) (scoped : treeRefusal (sourceOf
         subst (λ (w : Whole). Reached J kt ks ko ke (passed-from (suc m) e (workOf kt ks ko ke σ)) w) (sym (number-turn (jobOps kn J) (varEntry J) (J .cmds) e h σ))
         (subst (λ (r : Result). Reached J kt ks ko ke (turn r e (workOf kt ks ko ke σ) (λ w. passed-from m (e + 1) w)) (onto (settle σ (result e σ)) e (λ τ. numberAll (jobOps kn J) (varEntry J) (suc e) (drop (suc e) (J .cmds)) τ)))
         (sym (same-result e σ (omega arith) v))
-        (one (result e σ) e σ h v (λ w. passed-from m (e + 1) w) (λ τ. numberAll (jobOps kn J) (varEntry J) (suc e) (drop (suc e) (J .cmds)) τ)
+        (one (result e σ) e σ h v (λ τ y. inv-fits j (omega arith) (inv-next j scoped (agree kn j) e h σ τ v y) .few) (λ w. passed-from m (e + 1) w) (λ τ. numberAll (jobOps kn J) (varEntry J) (suc e) (drop (suc e) (J .cmds)) τ)
         (λ τ y. subst (λ (n : ℕ). Reached J kt ks ko ke (passed-from m n (workOf kt ks ko ke τ)) (numberAll (jobOps kn J) (varEntry J) (suc e) (drop (suc e) (J .cmds)) τ)) z
         (all m (suc e) τ (omega arith) (inv-next j scoped (agree kn j) e h σ τ v y)))))
 

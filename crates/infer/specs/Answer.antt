@@ -1,4 +1,5 @@
 -- What an answer of the inference stands for: an expression's type, as a new entry or the number of one, and its effect; or the number of a refusal.
+use mathlib.Core.List.{[]}
 use mathlib.Core.Option.{Option, none, some}
 use Rattle.order.specs.Effects.{ofWord}
 use Rattle.syntax.specs.Types.{TypeEntry, e-num}
@@ -13,6 +14,6 @@ made none = e-num 0
 made (some e) = e
 
 unfoldable pub resultIn : Typing → Result
-resultIn (Makes e s) = makes (made (entryOf e)) (ofWord s)
+resultIn (Makes e s) = makes [] (made (entryOf e)) (ofWord s)
 resultIn (Points i s) = points i (ofWord s)
 resultIn (Wrong n) = wrong n

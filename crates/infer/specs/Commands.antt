@@ -24,22 +24,22 @@ abbrev pub fitsBy : List ℕ → List ℕ → List ℕ → ℕ → ℕ → Bool
 fitsBy anc types sets a t = subIn (belowBy anc) (effectsBy anc) most-depth (entryIn types sets) a t
 
 abbrev pub numberBy : Result
-numberBy = makes (e-num 0) pure
+numberBy = makes [] (e-num 0) pure
 
 abbrev pub topBy : Result
-topBy = makes (e-lim 0 1) pure
+topBy = makes [] (e-lim 0 1) pure
 
 abbrev pub variableBy : List ℕ → ℕ → Result
 variableBy vars v = points (getD vars v 0) pure
 
 abbrev pub pairBy : List ℕ → Operand → Operand → Result
-pairBy anc x y = makes (e-pair 0 (x .ty) (y .ty)) (ofWord (reduceBy anc (joinBy (x .effect) (y .effect))))
+pairBy anc x y = makes [] (e-pair 0 (x .ty) (y .ty)) (ofWord (reduceBy anc (joinBy (x .effect) (y .effect))))
 
 abbrev pub partBy : List ℕ → List ℕ → List ℕ → Operand → ℕ → Result
 partBy anc types sets x i = needPair (entryIn types sets (x .ty)) (λ q a b. points (cond (eqb i 1) a b) (ofWord (reduceBy anc (touchBy q (x .effect)))))
 
 abbrev pub functionBy : ℕ → Operand → Result
-functionBy t x = makes (e-fn 0 t (x .ty) (ofWord (x .effect))) pure
+functionBy t x = makes [] (e-fn 0 t (x .ty) (ofWord (x .effect))) pure
 
 abbrev pub applyBy : List ℕ → List ℕ → List ℕ → Operand → Operand → Result
 applyBy anc types sets x y =
@@ -47,7 +47,7 @@ applyBy anc types sets x y =
     (λ q t u l. need 12 (fitsBy anc types sets (y .ty) t) (points u (ofWord (reduceBy anc (touchBy q (joinBy (l .set) (joinBy (x .effect) (y .effect))))))))
 
 abbrev pub cellBy : List ℕ → List ℕ → List ℕ → ℕ → Operand → Result
-cellBy anc types sets t x = need 12 (fitsBy anc types sets (x .ty) t) (makes (e-cell 0 t) (ofWord (x .effect)))
+cellBy anc types sets t x = need 12 (fitsBy anc types sets (x .ty) t) (makes [] (e-cell 0 t) (ofWord (x .effect)))
 
 abbrev pub assignBy : List ℕ → List ℕ → List ℕ → Operand → Operand → Result
 assignBy anc types sets x y =
@@ -60,7 +60,7 @@ readBy anc types sets x = needCell (entryIn types sets (x .ty)) (λ q t. points 
 abbrev pub sumBy : List ℕ → List ℕ → List ℕ → Operand → Operand → Result
 sumBy anc types sets x y =
     needNum (entryIn types sets (x .ty))
-    (λ p. needNum (entryIn types sets (y .ty)) (λ q. makes (e-num 0) (ofWord (reduceBy anc (touchBy p (touchBy q (joinBy (x .effect) (y .effect))))))))
+    (λ p. needNum (entryIn types sets (y .ty)) (λ q. makes [] (e-num 0) (ofWord (reduceBy anc (touchBy p (touchBy q (joinBy (x .effect) (y .effect))))))))
 
 abbrev pub testBy : List ℕ → List ℕ → List ℕ → Operand → Operand → Operand → ℕ → Result
 testBy anc types sets x y z t =
@@ -101,7 +101,7 @@ newKeyBy anc types sets names r x y t =
 abbrev pub associateBy : List ℕ → List ℕ → List ℕ → Operand → Operand → Result
 associateBy anc types sets x y =
     needLim (entryIn types sets (y .ty))
-    (λ q r. makes (rekeyed r (entryIn types sets (x .ty)))
+    (λ q r. makes [] (rekeyed r (entryIn types sets (x .ty)))
     (ofWord (reduceBy anc (touchBy (keyIn (entryIn types sets (x .ty))) (touchBy q (joinBy (x .effect) (y .effect)))))))
 
 -- the commands with two operands or more, by a head and the five places from `at` on; any other stands for a number

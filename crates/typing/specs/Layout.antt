@@ -73,30 +73,34 @@ unfoldable pub rekeyed : ℕ → Option TypeEntry → TypeEntry
 unfolding byEntry
 rekeyed k o = byEntry (e-num k) (λ q. e-num k) (λ q a b. e-pair k a b) (λ q a. e-cell k a) (λ q a b s. e-fn k a b s) (λ q r. e-lim k r) (λ q r. e-grant k r) o
 
--- an expression's type: a new entry, or one already there
+-- the most entries that an expression makes
+abbrev pub most-made : ℕ
+most-made = 1
+
+-- an expression's type: the last of the entries that it makes, in order, or an entry already there
 pub data Points : Type 0 where
-  new : TypeEntry → Points
+  new : List TypeEntry → TypeEntry → Points
   old : ℕ → Points
 
 -- var: the entry of each variable; eff: the effect of each expression; T: the entries so far; of: the entry of each expression so far
 unfoldable pub pointsTo : (ℕ → ℕ) → (ℕ → Effect) → List TypeEntry → (ℕ → ℕ) → Cmd ℕ → Points
-pointsTo var eff T of (c-num n) = new (e-num 0)
-pointsTo var eff T of c-top = new (e-lim 0 1)
+pointsTo var eff T of (c-num n) = new [] (e-num 0)
+pointsTo var eff T of c-top = new [] (e-lim 0 1)
 pointsTo var eff T of (c-var v) = old (var v)
-pointsTo var eff T of (c-pair a b) = new (e-pair 0 (of a) (of b))
+pointsTo var eff T of (c-pair a b) = new [] (e-pair 0 (of a) (of b))
 pointsTo var eff T of (c-part a true) = old (firstPart (getElem? T (of a)))
 pointsTo var eff T of (c-part a false) = old (secondPart (getElem? T (of a)))
-pointsTo var eff T of (c-fn v t b) = new (e-fn 0 t (of b) (eff b))
+pointsTo var eff T of (c-fn v t b) = new [] (e-fn 0 t (of b) (eff b))
 pointsTo var eff T of (c-app f a) = old (secondPart (getElem? T (of f)))
-pointsTo var eff T of (c-new t a) = new (e-cell 0 t)
+pointsTo var eff T of (c-new t a) = new [] (e-cell 0 t)
 pointsTo var eff T of (c-asg a b) = old (firstPart (getElem? T (of a)))
 pointsTo var eff T of (c-read a) = old (firstPart (getElem? T (of a)))
-pointsTo var eff T of (c-sum i a b) = new (e-num 0)
+pointsTo var eff T of (c-sum i a b) = new [] (e-num 0)
 pointsTo var eff T of (c-test a b c t) = old t
 pointsTo var eff T of (c-lim ks b) = old (of b)
 pointsTo var eff T of (c-grant a b) = old (of b)
 pointsTo var eff T of (c-newkey v r a b t) = old t
-pointsTo var eff T of (c-assoc a b) = new (rekeyed (firstPart (getElem? T (of b))) (getElem? T (of a)))
+pointsTo var eff T of (c-assoc a b) = new [] (rekeyed (firstPart (getElem? T (of b))) (getElem? T (of a)))
 
 -- the entries, and the entry of each expression
 pub record Layout : Type 0 where
@@ -104,7 +108,7 @@ pub record Layout : Type 0 where
   pub of : List ℕ
 
 unfoldable pub point : Points → Layout → Layout
-point (new e) L = record { entries = L .entries ++ (e ∷ []); of = L .of ++ (length (L .entries) ∷ []) }
+point (new l x) L = record { entries = L .entries ++ (l ++ (x ∷ [])); of = L .of ++ ((length l + length (L .entries)) ∷ []) }
 point (old i) L = record { entries = L .entries; of = L .of ++ (i ∷ []) }
 
 unfoldable pub layoutFrom : (ℕ → ℕ) → (ℕ → Effect) → List (Cmd ℕ) → Layout → Layout

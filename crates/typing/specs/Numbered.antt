@@ -1,6 +1,6 @@
 -- Typing by numbers: the type of each expression as the number of an entry of the type table, the effects beside it, expression after expression, as a program
 -- does it. `NumberedLaws` shows that this is the typing by trees of `Least` and the table of `Layout`.
-use Prim.Native.Nat.{ℕ, suc}
+use Prim.Native.Nat.{ℕ, suc, _+_}
 use mathlib.Core.Bool.{Bool, true, false, cond}
 use mathlib.Core.List.{List, [], _∷_, _++_}
 use mathlib.Core.Option.{Option}
@@ -40,9 +40,9 @@ opsOf up =
       raise = λ r u s. raise r u s;
     }
 
--- an expression's type, as a new entry or the number of one, and its effect; or the number of a refusal
+-- an expression's type, as the last of the entries that it makes or the number of one, and its effect; or the number of a refusal
 pub data Result : Type 0 where
-  makes : TypeEntry → Effect → Result
+  makes : List TypeEntry → TypeEntry → Effect → Result
   points : ℕ → Effect → Result
   wrong : ℕ → Result
 
@@ -93,18 +93,18 @@ module _ (O : Ops) (var : ℕ → ℕ) (at : ℕ → Option TypeEntry) (of : ℕ
   keysFrom (a ∷ ks) rs s f = needLim (at (of a)) (λ q r. keysFrom ks (O .touch r rs) (O .touch q (join (eff a) s)) f)
 
   unfoldable pub resultAt : Cmd ℕ → Result
-  resultAt (c-num n) = makes (e-num 0) pure
-  resultAt c-top = makes (e-lim 0 1) pure
+  resultAt (c-num n) = makes [] (e-num 0) pure
+  resultAt c-top = makes [] (e-lim 0 1) pure
   resultAt (c-var v) = points (var v) pure
-  resultAt (c-pair a b) = makes (e-pair 0 (of a) (of b)) (O .reduce (join (eff a) (eff b)))
+  resultAt (c-pair a b) = makes [] (e-pair 0 (of a) (of b)) (O .reduce (join (eff a) (eff b)))
   resultAt (c-part a i) = needPair (at (of a)) (λ q x y. points (cond i x y) (O .reduce (O .touch q (eff a))))
-  resultAt (c-fn v t b) = makes (e-fn 0 t (of b) (eff b)) pure
+  resultAt (c-fn v t b) = makes [] (e-fn 0 t (of b) (eff b)) pure
   resultAt (c-app f a) = needFn (at (of f)) (λ q t u l. need 12 (fits (of a) t) (points u (O .reduce (O .touch q (join l (join (eff f) (eff a)))))))
-  resultAt (c-new t a) = need 12 (fits (of a) t) (makes (e-cell 0 t) (eff a))
+  resultAt (c-new t a) = need 12 (fits (of a) t) (makes [] (e-cell 0 t) (eff a))
   resultAt (c-asg a b) = needCell (at (of a)) (λ q t. need 12 (fits (of b) t) (points t (O .reduce (O .touch q (join (eff a) (eff b))))))
   resultAt (c-read a) = needCell (at (of a)) (λ q t. points t (O .reduce (O .touch q (eff a))))
   resultAt (c-sum i a b) =
-      needNum (at (of a)) (λ p. needNum (at (of b)) (λ q. makes (e-num 0) (O .reduce (O .touch p (O .touch q (join (eff a) (eff b)))))))
+      needNum (at (of a)) (λ p. needNum (at (of b)) (λ q. makes [] (e-num 0) (O .reduce (O .touch p (O .touch q (join (eff a) (eff b)))))))
   resultAt (c-test a b c t) =
       needNum (at (of a)) (λ q. need 12 (fits (of b) t) (need 12 (fits (of c) t) (points t (O .reduce (O .touch q (join (eff a) (join (eff b) (eff c))))))))
   resultAt (c-lim ks b) = keysFrom ks pure pure (λ rs s. need 13 (O .effBelow (eff b) rs) (points (of b) (O .reduce (join s (eff b)))))
@@ -112,7 +112,7 @@ module _ (O : Ops) (var : ℕ → ℕ) (at : ℕ → Option TypeEntry) (of : ℕ
   resultAt (c-newkey v r a b t) =
       needLim (at (of a)) (λ q u. need 11 (O .over r u) (need 12 (fits (of b) t) (points t (O .reduce (O .touch q (join (eff a) (O .raise r u (eff b))))))))
   resultAt (c-assoc a b) =
-      needLim (at (of b)) (λ q r. makes (rekeyed r (at (of a))) (O .reduce (O .touch (keyIn (at (of a))) (O .touch q (join (eff a) (eff b))))))
+      needLim (at (of b)) (λ q r. makes [] (rekeyed r (at (of a))) (O .reduce (O .touch (keyIn (at (of a))) (O .touch q (join (eff a) (eff b))))))
 
 -- the entries so far, and the entry and the effect of each expression so far
 pub record Sofar : Type 0 where
@@ -126,7 +126,7 @@ pub data Numbered : Type 0 where
   stop : ℕ → Numbered
 
 unfoldable pub settle : Sofar → Result → Numbered
-settle σ (makes e s) = next (record { entries = σ .entries ++ (e ∷ []); of = σ .of ++ (length (σ .entries) ∷ []); effects = σ .effects ++ (s ∷ []) })
+settle σ (makes l x s) = next (record { entries = σ .entries ++ (l ++ (x ∷ [])); of = σ .of ++ ((length l + length (σ .entries)) ∷ []); effects = σ .effects ++ (s ∷ []) })
 settle σ (points i s) = next (record { entries = σ .entries; of = σ .of ++ (i ∷ []); effects = σ .effects ++ (s ∷ []) })
 settle σ (wrong n) = stop n
 

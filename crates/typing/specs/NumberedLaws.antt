@@ -30,7 +30,7 @@ use Rattle.syntax.specs.Context.{stands}
 use Rattle.syntax.specs.TreeExactly.{tree-ok}
 use Rattle.typing.specs.Subtype.{subTy}
 use Rattle.typing.specs.Least.{Typed, typed, untyped, varType, typeAt, get, typesTo, types, typeOf, firstUntyped}
-use Rattle.typing.specs.Layout.{newKeys, keyEntries, varEntry, firstPart, secondPart, rekeyed, Points, new, old, pointsTo, Layout, point, layoutFrom, layoutOf}
+use Rattle.typing.specs.Layout.{newKeys, keyEntries, varEntry, firstPart, secondPart, rekeyed, most-made, Points, new, old, pointsTo, Layout, point, layoutFrom, layoutOf}
 use Rattle.syntax.specs.Loading.{most-entries}
 use Rattle.typing.specs.Tables.{effectOf, effectIn, layoutFor}
 use Rattle.typing.specs.Filled.{typesTo-length, seen, typeOf-is, untyped-not, all-typed}
@@ -40,13 +40,13 @@ use Rattle.typing.specs.Numbered.{Ops, Result, makes, points, wrong, nee
 use Rattle.typing.specs.EntryLaws.{sub-by-second}
 use Rattle.typing.specs.NumberedOps.{Agree, agree-order}
 use Rattle.typing.specs.NumberedTables.{EntryOk, ok-num, ok-pair, ok-cell, ok-fn, ok-lim, ok-grant, TableOk, part-low, table-earlier, table-snoc, keys-length, TreeAt, local-lt, start-ok, start-kept, var-tree}
-use Rattle.typing.specs.NumberedStep.{Same, Match, m-new, m-old, m-no, Operand, matches}
+use Rattle.typing.specs.NumberedStep.{Same, Match, m-made, m-old, m-no, Operand, matches}
 
 -- Where an expression's type stands
 
 -- a result and what the layout says of the same expression
 data LayoutAgrees : Result → Points → Type 0 where
-  l-new : {x : TypeEntry} {s : Effect} → LayoutAgrees (makes x s) (new x)
+  l-new : {l : List TypeEntry} {x : TypeEntry} {s : Effect} → LayoutAgrees (makes l x s) (new l x)
   l-old : {i : ℕ} {s : Effect} → LayoutAgrees (points i s) (old i)
   l-no : {n : ℕ} {p : Points} → LayoutAgrees (wrong n) p
 
@@ -129,7 +129,7 @@ module _ (O : Ops) (var : ℕ → ℕ) (E : List TypeEntry) (of : ℕ → ℕ) (
   layout-at fin (c-pair a b) h = l-new
   layout-at fin (c-part a true) h = layout-pair (getElem? E (of a)) _ (λ o. old (firstPart o)) (λ q x y. l-old)
   layout-at fin (c-part a false) h = layout-pair (getElem? E (of a)) _ (λ o. old (secondPart o)) (λ q x y. l-old)
-  layout-at fin (c-fn v t b) h = subst⁻¹ (λ s. LayoutAgrees (makes (e-fn 0 t (of b) (eff b)) pure) (new (e-fn 0 t (of b) s))) (h b (List·Memᴰ·head refl)) l-new
+  layout-at fin (c-fn v t b) h = subst⁻¹ (λ s. LayoutAgrees (makes [] (e-fn 0 t (of b) (eff b)) pure) (new [] (e-fn 0 t (of b) s))) (h b (List·Memᴰ·head refl)) l-new
   layout-at fin (c-app f a) h = layout-fn (getElem? E (of f)) _ (λ o. old (secondPart o)) (λ q x y s. layout-need 12 _ l-old)
   layout-at fin (c-new t a) h = layout-need 12 _ l-new
   layout-at fin (c-asg a b) h = layout-cell (getElem? E (of a)) _ (λ o. old (firstPart o)) (λ q x. layout-need 12 _ l-old)
@@ -139,7 +139,7 @@ module _ (O : Ops) (var : ℕ → ℕ) (E : List TypeEntry) (of : ℕ → ℕ) (
   layout-at fin (c-lim ks b) h = layout-keys ks pure pure _ (λ rs s. layout-need 13 _ l-old)
   layout-at fin (c-grant a b) h = layout-grant (getElem? E (of a)) _ (λ q r. l-old)
   layout-at fin (c-newkey v r a b t) h = layout-lim (getElem? E (of a)) _ (λ o. old t) (λ q u. layout-need 11 _ (layout-need 12 _ l-old))
-  layout-at fin (c-assoc a b) h = layout-lim (getElem? E (of b)) _ (λ o. new (rekeyed (firstPart o) (getElem? E (of a)))) (λ q r. l-new)
+  layout-at fin (c-assoc a b) h = layout-lim (getElem? E (of b)) _ (λ o. new [] (rekeyed (firstPart o) (getElem? E (of a)))) (λ q r. l-new)
 
 -- What holds when e expressions are done
 
@@ -149,7 +149,7 @@ pub record Inv (J : Job) (e : ℕ) (σ : Sofar) : Type 0 where
   -- the declared types and the entries of 3E come first
   pub more : List TypeEntry
   pub extended : σ .entries ≡ startOf J .entries ++ more
-  pub few : length more ≤ e
+  pub few : length more ≤ e * most-made
   pub table : TableOk (length (J .types)) (length (upOf (sourceOf J))) (σ .entries)
   -- each expression's entry has the expression's type, and its effect is the expression's
   pub each : (c : ℕ) → c < e → Operand (length (upOf (sourceOf J))) (σ .entries) (typeOf (sourceOf J)) (λ a. getD (σ .of) a 0) (λ a. getD (σ .effects) a pure) c
@@ -168,7 +168,7 @@ operand-on : {N : ℕ} {E F : List TypeEntry} {tab : ℕ → Typed} {of ov : ℕ
 operand-on {of = of} c p h a b d = record { is = p .is ∙ rw (b, d, a); low = rw b (omega (arith, p .low)); small = rw d (p .small) }
 
 -- one expression more, whose entry is i among the entries F
-extend-inv : (J : Job) (e : ℕ) (σ : Sofar) → Inv J e σ → (F U : List TypeEntry) → F ≡ σ .entries ++ U → length U ≤ 1 → TableOk (length (J .types)) (length (upOf (sourceOf J))) F
+extend-inv : (J : Job) (e : ℕ) (σ : Sofar) → Inv J e σ → (F U : List TypeEntry) → F ≡ σ .entries ++ U → length U ≤ most-made → TableOk (length (J .types)) (length (upOf (sourceOf J))) F
     → {A : Ty} {i : ℕ} → TreeAt F A i → {s t : Effect} → Same (length (upOf (sourceOf J))) s t → typeOf (sourceOf J) e ≡ typed A s
     → Inv J (suc e) (record { entries = F; of = σ .of ++ (i ∷ []); effects = σ .effects ++ (t ∷ []) })
 extend-inv J e σ v F U q u ok {A} {i} p {s} {t} same g =
@@ -233,9 +233,16 @@ var-used J e x m = cmd-at J e ∙ at (nth (J .cmds) e) m
 settled : (J : Job) (e : ℕ) (σ : Sofar) (k : Cmd ℕ) → Inv J e σ → {o : Typed} {r : Result} {p : Points} → Match (length (J .types)) (length (upOf (sourceOf J))) (σ .entries) o r → LayoutAgrees r p
     → typeOf (sourceOf J) e ≡ o → pointsTo (varEntry J) (effectIn J) (σ .entries) (λ a. getD (σ .of) a 0) k ≡ p → Stepped J e σ k (settle σ r)
 unfolding settle point
-settled J e σ k v (m-new {x = x} w a s) l-new g q =
-    went _ (extend-inv J e σ v (σ .entries ++ (x ∷ [])) (x ∷ []) refl (omega arith) (table-snoc (v .table) w) (record { is = tree-new (table-earlier (v .table)) x (λ c p. part-low w p) ∙ sym a; low = omega (arith, length-snoc (σ .entries) x) }) s g)
+settled J e σ k v (m-made {A = A} f t w a s) (l-new {l = l} {x = x}) g q =
+    went _
+    (extend-inv J e σ v (σ .entries ++ (l ++ (x ∷ []))) (l ++ (x ∷ [])) refl (omega (arith, length-snoc l x)) (subst (λ F. TableOk (length (J .types)) (length (upOf (sourceOf J))) F) (append-assoc (σ .entries) l (x ∷ [])) (table-snoc t w))
+    (subst (λ F. TreeAt F A (length l + length (σ .entries))) (append-assoc (σ .entries) l (x ∷ []))
+    (record { is = ap (tree ((σ .entries ++ l) ++ (x ∷ []))) (at l) ∙ tree-new (table-earlier t) x (λ c p. part-low w p) ∙ sym a; low = omega (arith, length-snoc (σ .entries ++ l) x, at l) }))
+    s g)
     (ap (λ z. point z (layoutIn σ)) q)
+  where
+    at : (l : List TypeEntry) → length l + length (σ .entries) ≡ length (σ .entries ++ l)
+    at l = omega (arith, length-append (σ .entries) l)
 settled J e σ k v (m-old {i = i} a s) l-old g q = went _ (extend-inv J e σ v (σ .entries) [] (sym (append-nil (σ .entries))) (omega arith) (v .table) a s g) (ap (λ z. point z (layoutIn σ)) q)
 settled J e σ k v (m-no {n = n}) l-no g q = stopped n g
 
@@ -452,10 +459,6 @@ inv-fits {J} j {e} {σ} h v =
       entry = λ i x g. entry-wider (v .table .each i x g) (j .few-types) (omega (arith, up-length J, j .few-names));
       effect = λ c l. within-wider {k = most-names} (v .each c (omega (arith, v .count-effects)) .small) (omega (arith, up-length J, j .few-names));
     }
-
--- there is a place for the entry that the next expression may make
-pub inv-room : {J : Job} → JobOk J → {e : ℕ} {σ : Sofar} → e < length (J .cmds) → Inv J e σ → length (σ .entries) < most-entries
-inv-room {J} j {e} {σ} h v = omega (arith, ap length (v .extended), length-append (startOf J .entries) (v .more), v .few, start-few j, j .few-cmds)
 
 -- Turn by turn: the next expression, and the end
 

@@ -1,9 +1,9 @@
 -- Typing by numbers is typing by trees, for one expression: where its operands' entries have the trees that their types are, the result is the same.
-use mathlib.Core.Path.{_≡_, refl, sym, ap, _∙_, subst⁻¹}
+use mathlib.Core.Path.{_≡_, refl, sym, ap, _∙_, subst⁻¹, subst}
 use Prim.Native.Nat.{ℕ, _≤_, _<_}
 use native.Mathlib.Omega.{arith}
 use mathlib.Core.Bool.{Bool, true, false, cond}
-use mathlib.Core.List.{List, [], _∷_, List·Memᴰ, List·Memᴰ·head, List·Memᴰ·tail, Memᴰ·append-left, Memᴰ·append-right}
+use mathlib.Core.List.{List, [], _∷_, List·Memᴰ, List·Memᴰ·head, List·Memᴰ·tail, Memᴰ·append-left, Memᴰ·append-right, _++_, append-nil}
 use mathlib.Core.Option.{Option, some}
 use lib.ListN.{drop, length, getElem?}
 use Rattle.order.specs.OrderLaws.{getElem?-some}
@@ -16,7 +16,7 @@ use Rattle.syntax.specs.Operands.{plain, inner, children, typesOf, usesVar, bin
 use Rattle.syntax.specs.Job.{Src, upOf}
 use Rattle.typing.specs.Subtype.{subTy}
 use Rattle.typing.specs.Least.{Typed, typed, untyped, with, wantNum, wantPair, wantCell, wantFn, wantLim, wantGrant, require, varType, ofVar, keysAt, typeAt}
-use Rattle.typing.specs.Layout.{rekeyed}
+use Rattle.typing.specs.Layout.{most-made, rekeyed}
 use Rattle.typing.specs.Numbered.{Ops, Result, makes, points, wrong, needNum, needPair, needCell, needFn, needLim, needGrant, need, keyIn, fits, keysFrom, resultAt}
 use Rattle.typing.specs.NumberedOps.{Agree}
 use Rattle.typing.specs.NumberedTables.{EntryOk, ok-num, ok-pair, ok-cell, ok-fn, ok-lim, ok-grant, TableOk, key-low, table-earlier, TreeAt}
@@ -28,7 +28,8 @@ pub record Same (N : ℕ) (s t : Effect) : Type 0 where
 
 -- what typing by trees and typing by numbers come to for one expression, when the entries so far are E
 pub data Match (D N : ℕ) (E : List TypeEntry) : Typed → Result → Type 0 where
-  m-new : {x : TypeEntry} {A : Ty} {s t : Effect} → EntryOk D N (length E) x → A ≡ entryTree (some x) (tree E) → Same N s t → Match D N E (typed A s) (makes x t)
+  m-made : {l : List TypeEntry} {x : TypeEntry} {A : Ty} {s t : Effect} → length l < most-made → TableOk D N (E ++ l) → EntryOk D N (length (E ++ l)) x → A ≡ entryTree (some x) (tree (E ++ l)) → Same N s t
+      → Match D N E (typed A s) (makes l x t)
   m-old : {i : ℕ} {A : Ty} {s t : Effect} → TreeAt E A i → Same N s t → Match D N E (typed A s) (points i t)
   m-no : {n : ℕ} → Match D N E (untyped n) (wrong n)
 
@@ -100,6 +101,12 @@ module _ (S : Src) {O : Ops} (ag : Agree (upOf S) O) (ts : List TypeEntry) {E : 
 
   abbrev M : Typed → Result → Type 0
   M o r = Match D N E o r
+
+  -- one entry and no more
+  m-new : {x : TypeEntry} {A : Ty} {s t : Effect} → EntryOk D N (length E) x → A ≡ entryTree (some x) (tree E) → Same N s t → M (typed A s) (makes [] x t)
+  m-new {x} {A} w a z =
+      let e = sym (append-nil E) in
+      m-made {l = []} (omega arith) (subst (λ F. TableOk D N F) e ok) (subst (λ F. EntryOk D N (length F) x) e w) (subst (λ F. A ≡ entryTree (some x) (tree F)) e a) z
 
   abbrev Op : ℕ → Type 0
   Op a = Operand N E tab of eff a
@@ -331,5 +338,5 @@ module _ (S : Src) {O : Ops} (ag : Agree (upOf S) O) (ts : List TypeEntry) {E : 
       let q = h .operand b (List·Memᴰ·tail (List·Memᴰ·head refl)) in
       by-operand p _ (by-operand q _ (by-lim (q .low) _ _ (λ k r hk hr.
       by-entry (p .low) (λ A o. M (typed (rekey r A) (reduce (upOf S) (touch (keyOf A) (touch k (join (eff a) (eff b))))))
-      (makes (rekeyed r o) (O .reduce (O .touch (keyIn o) (O .touch k (join (eff a) (eff b)))))))
+      (makes [] (rekeyed r o) (O .reduce (O .touch (keyIn o) (O .touch k (join (eff a) (eff b)))))))
       (λ x w. m-new (rekey-ok x w (omega (arith, p .low)) hr) (rekey-tree r x (tree E)) (same-key x w (same-touch ag hk (same-join (eff-of p) (eff-of q))))))))

@@ -26,7 +26,7 @@ use Rattle.typing.specs.NumberedVerdict.{lastOf, lastEntry, lastEffect, 
 -- One expression: 11, 12 or 13
 
 data Fine : Result → Type 0 where
-  f-makes : (x : TypeEntry) (s : Effect) → Fine (makes x s)
+  f-makes : (l : List TypeEntry) (x : TypeEntry) (s : Effect) → Fine (makes l x s)
   f-points : (i : ℕ) (s : Effect) → Fine (points i s)
   f-wrong : (n : ℕ) → 11 ≤ n → n ≤ 13 → Fine (wrong n)
 
@@ -115,22 +115,22 @@ module _ (O : Ops) (var : ℕ → ℕ) (at : ℕ → Option TypeEntry) (of : ℕ
 
   result-fine : (k : Cmd ℕ) → Fine (resultAt O var at of eff k)
   unfolding resultAt
-  result-fine (c-num n) = f-makes _ _
-  result-fine c-top = f-makes _ _
+  result-fine (c-num n) = f-makes _ _ _
+  result-fine c-top = f-makes _ _ _
   result-fine (c-var v) = f-points _ _
-  result-fine (c-pair a b) = f-makes _ _
+  result-fine (c-pair a b) = f-makes _ _ _
   result-fine (c-part a i) = pair-fine (at (of a)) (λ q x y. f-points _ _)
-  result-fine (c-fn v t b) = f-makes _ _
+  result-fine (c-fn v t b) = f-makes _ _ _
   result-fine (c-app f a) = fn-fine (at (of f)) (λ q t u l. need-12 _ (f-points _ _))
-  result-fine (c-new t a) = need-12 _ (f-makes _ _)
+  result-fine (c-new t a) = need-12 _ (f-makes _ _ _)
   result-fine (c-asg a b) = cell-fine (at (of a)) (λ q t. need-12 _ (f-points _ _))
   result-fine (c-read a) = cell-fine (at (of a)) (λ q t. f-points _ _)
-  result-fine (c-sum i a b) = num-fine (at (of a)) (λ p. num-fine (at (of b)) (λ q. f-makes _ _))
+  result-fine (c-sum i a b) = num-fine (at (of a)) (λ p. num-fine (at (of b)) (λ q. f-makes _ _ _))
   result-fine (c-test a b c t) = num-fine (at (of a)) (λ q. need-12 _ (need-12 _ (f-points _ _)))
   result-fine (c-lim ks b) = keys-fine ks pure _ (λ rs s. need-13 _ (f-points _ _))
   result-fine (c-grant a b) = grant-fine (at (of a)) (λ q r. f-points _ _)
   result-fine (c-newkey v r a b t) = lim-fine (at (of a)) (λ q u. need-11 _ (need-12 _ (f-points _ _)))
-  result-fine (c-assoc a b) = lim-fine (at (of b)) (λ q r. f-makes _ _)
+  result-fine (c-assoc a b) = lim-fine (at (of b)) (λ q r. f-makes _ _ _)
 
 -- All expressions of a job, of which there are k
 
@@ -144,7 +144,7 @@ halts O var e [] σ k h = h-whole σ
 halts O var e (c ∷ l) σ k h = go (result-fine O var (getElem? (σ .entries)) (λ a. getD (σ .of) a 0) (λ a. getD (σ .effects) a pure) c) (λ τ. halts O var (suc e) l τ k (omega arith))
   where
     go : {r : Result} → Fine r → ((τ : Sofar) → Halts k (numberAll O var (suc e) l τ)) → Halts k (onto (settle σ r) e (λ τ. numberAll O var (suc e) l τ))
-    go (f-makes x s) g = g _
+    go (f-makes l x s) g = g _
     go (f-points i s) g = g _
     go (f-wrong n a b) g = h-halted (record { number = n; place = e }) a b (omega arith)
 

@@ -29,7 +29,7 @@ at16-requires c κs = search needs
 
 returns : tie.Need-returns
 unfolding binderOf codeIn decode
-returns c = simp (← (c .before .before .before .before .at64 .ensures), ← (c .before .before .before .byte-of .ensures), (c .before .before .match .keys1), lead-low, (c .before .key-of .ensures), (c .at16 .ensures))
+returns c = simp (← (c .before .before .before .before .at64 .ensures), ← (c .before .before .before .byte-of .ensures), (c .before .before .match .keys1), (c .before .key-of .ensures), ← lead-low, (c .at16 .ensures))
 
 key-of-requires-2 : tie.Need-key-of-requires-2
 key-of-requires-2 c κs = search needs
@@ -39,7 +39,7 @@ name-of-requires c κs = search needs
 
 returns-2 : tie.Need-returns-2
 unfolding binderOf codeIn decode
-returns-2 c = simp (← (c .before .before .before .before .at64 .ensures), ← (c .before .before .before .byte-of .ensures), (c .before .before .match .keys2), lead-low, (c .before .key-of2 .ensures), lead-local, (c .name-of .ensures))
+returns-2 c = simp (← (c .before .before .before .before .at64 .ensures), ← (c .before .before .before .byte-of .ensures), (c .before .before .match .keys2), (c .before .key-of2 .ensures), ← lead-low, (c .name-of .ensures), ← lead-local)
 
 returns-3 : tie.Need-returns-3
 unfolding codeIn

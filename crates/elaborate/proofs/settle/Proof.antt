@@ -1,7 +1,7 @@
 use mathlib.Core.Path.{refl}
 use borrow.Author.Needs.{needs}
 use Rattle.infer.specs.Answer.{resultIn}
-use Rattle.elaborate.specs.Pass.{nextOf, settled}
+use Rattle.elaborate.specs.Pass.{after, stored, nextOf, settled}
 use Rattle.elaborate.proofs.settle.Statement.{statement}
 use Rattle.elaborate.proofs.settle.Tie as tie
 
@@ -54,7 +54,7 @@ same-length-5 : tie.Need-same-length-5
 same-length-5 c = search needs
 
 returns : tie.Need-returns
-unfolding resultIn nextOf settled
+unfolding resultIn nextOf settled after stored
 returns c = (simp ((c .before .before .before .before .before .before .before .before .before .before .before .before .before .before .before .before .before .before .before .before .before .before .before .before .before .t .given .1)) (record { next = refl; types = simp ((c .before .before .before .before .before .before .before .before .before .before .before .before .before .before .before .before .put64 .ensures), (c .before .before .before .before .before .before .before .before .before .before .before .before .before .before .before .before .before .entry-word .ensures)); sets = simp ((c .before .before .before .before .before .before .before .before .before .before .before .put642 .ensures), (c .before .before .before .before .before .before .before .before .before .before .before .before .set-word .ensures)); entries = simp ((c .before .before .before .before .before .before .put16 .ensures), (c .before .before .before .before .before .before .before .short .ensures)); effects = simp ((c .before .before .put643 .ensures)) }), record { right = λ anc k. simp ((c .before .before .before .before .before .before .before .before .before .before .before .before .before .before .before .before .put64 .ensures), (c .before .before .before .before .before .before .before .before .before .before .before .put642 .ensures)) (c .before .before .before .before .before .before .before .before .before .before .before .before .before .before .before .before .before .before .before .before .before .make-room .ensures .right anc _ _ _ k) })
 
 enum-known-t-2 : tie.Need-enum-known-t-2

@@ -1,8 +1,8 @@
 use native.Mathlib.Omega.{arith}
 use borrow.Author.Tests.{ne-eqb}
 use borrow.Author.Needs.{needs}
-use Rattle.order.specs.Effects.{ofWord}
 use Rattle.infer.proofs.Fields.{lead-low}
+use Rattle.order.specs.Effects.{ofWord}
 use Rattle.typing.specs.Numbered.{resultAt, fits}
 use Rattle.syntax.specs.Words.{codeIn, decode, entryIn}
 use Rattle.syntax.specs.DecodeLaws.{decodeBy, decode-is}
@@ -45,7 +45,7 @@ variable-requires c κs = search needs
 
 returns-3 : tie.Need-returns-3
 unfolding resultAt codeIn decode fits
-returns-3 c = (simp (← (c .before .before .before .before .at64 .ensures), (c .before .before .match .keys3), (c .variable .ensures), lead-low, (c .before .key-of .ensures)), c .before .before .before .before .before .before .before .before .before .before .before .before .before .before .pre)
+returns-3 c = (simp (← (c .before .before .before .before .at64 .ensures), (c .before .before .match .keys3), (c .variable .ensures), (c .before .key-of .ensures), ← lead-low), c .before .before .before .before .before .before .before .before .before .before .before .before .before .before .pre)
 
 lead-requires : tie.Need-lead-requires
 lead-requires c κs = search needs

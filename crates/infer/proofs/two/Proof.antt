@@ -91,7 +91,7 @@ same-length-4 c = search needs
 
 returns-7 : tie.Need-returns-7
 unfolding resultAt fits
-returns-7 c = (λ var. simp ((c .before .before .before .before .before .before .match .keys7), (c .before .before .new-key .ensures .0), (c .before .before .before .before .before .before .before .operand-at .ensures), lead-local, (c .before .before .before .before .name-of .ensures), (c .before .before .before .before .before .at162 .ensures), (c .before .before .before .before .before .before .before .before .before .before .before .before .before .before .before .pre .1)), c .before .before .new-key .ensures .1)
+returns-7 c = (λ var. simp ((c .before .before .before .before .before .before .match .keys7), (c .before .before .new-key .ensures .0), (c .before .before .before .before .before .before .before .operand-at .ensures), (c .before .before .before .before .name-of .ensures), ← lead-local, (c .before .before .before .before .before .at162 .ensures), (c .before .before .before .before .before .before .before .before .before .before .before .before .before .before .before .pre .1)), c .before .before .new-key .ensures .1)
 
 associate-requires : tie.Need-associate-requires
 associate-requires c κs = search needs
