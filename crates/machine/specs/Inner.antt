@@ -81,16 +81,25 @@ abbrev pub stopOf : State → Answer → Acted
 stopOf t a = record { state = t; answer = a }
 
 abbrev pub withNow : State → Now → State
-withNow t n = record { thread = record { now = n; frames = t .thread .frames }; used = t .used }
+withNow t n = record { now = n; frames = t .frames; cells = t .cells; keys = t .keys; pairs = t .pairs; functions = t .functions; bindings = t .bindings }
 
 abbrev pub giveOf : State → Value → Acted
-giveOf t v = record { state = withNow t (record { control = Hand v; env = t .thread .now .env; on = t .thread .now .on }); answer = Taken }
+giveOf t v = record { state = withNow t (record { control = Hand v; env = t .now .env; on = t .now .on }); answer = Taken }
 
 abbrev pub goOf : State → Expr → ℕ → Keys → Acted
 goOf t e env on = record { state = withNow t (record { control = Enter e; env = env; on = on }); answer = Taken }
 
 abbrev pub resumeOf : State → ℕ → ℕ → Keys → State
-resumeOf t top env on = record { thread = record { now = record { control = t .thread .now .control; env = env; on = on }; frames = top }; used = t .used }
+resumeOf t top env on =
+    record {
+      now = record { control = t .now .control; env = env; on = on };
+      frames = top;
+      cells = t .cells;
+      keys = t .keys;
+      pairs = t .pairs;
+      functions = t .functions;
+      bindings = t .bindings;
+    }
 
 abbrev pub unkeyedOf : Kind → ℕ → Value
 unkeyedOf k n = record { key = record { 0 = 0 }; kind = k; payload = n }

@@ -32,24 +32,24 @@ view s w =
     record {
       thread =
           record {
-            control = controlIn (s .thread .now .control);
-            env = s .thread .now .env;
-            on = keysIn (s .thread .now .on);
-            frames = stackOf frameIn (w .frames) (capped (s .thread .frames) most-frames);
+            control = controlIn (s .now .control);
+            env = s .now .env;
+            on = keysIn (s .now .on);
+            frames = stackOf frameIn (w .frames) (capped (s .frames) most-frames);
           };
       store =
           record {
-            cells = listOf cellIn (w .cells) (capped (s .used .cells) most-cells);
-            keys = listOf upIn (w .keys) (capped (s .used .keys) most-keys);
-            pairs = listOf pairIn (w .pairs) (capped (s .used .pairs) most-pairs);
-            functions = listOf functionIn (w .functions) (capped (s .used .functions) most-functions);
-            bindings = listOf linkIn (w .bindings) (capped (s .used .bindings) most-bindings);
+            cells = listOf cellIn (w .cells) (capped (s .cells) most-cells);
+            keys = listOf upIn (w .keys) (capped (s .keys) most-keys);
+            pairs = listOf pairIn (w .pairs) (capped (s .pairs) most-pairs);
+            functions = listOf functionIn (w .functions) (capped (s .functions) most-functions);
+            bindings = listOf linkIn (w .bindings) (capped (s .bindings) most-bindings);
           };
     }
 
 -- a thread over a store
 abbrev pub stateOf : Thread → Used → State
-stateOf t u = record { thread = t; used = u }
+stateOf t u = record { now = t .now; frames = t .frames; cells = u .cells; keys = u .keys; pairs = u .pairs; functions = u .functions; bindings = u .bindings }
 
 -- the whole machine
 abbrev pub seen : Machine → Clean

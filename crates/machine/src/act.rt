@@ -78,7 +78,7 @@ fn sum_of(sum: bool, a: u32, b: u32) -> u32
 
 impl State {
     fn touch_all(self, a: Value, b: Value, c: Value, d: Value, keys: &[u8; KEY_BYTES]) -> bool
-        ensures { λ r. ⌜ r ≡ all-of (enabled (listOf upIn (now (keys .entry)) (capped (self .used .keys) most-keys)) (keysIn (self .thread .now .on))) (a .key .0 ∷ b .key .0 ∷ c .key .0 ∷ d .key .0 ∷ []) ⌝ }
+        ensures { λ r. ⌜ r ≡ all-of (enabled (listOf upIn (now (keys .entry)) (capped (self .keys) most-keys)) (keysIn (self .now .on))) (a .key .0 ∷ b .key .0 ∷ c .key .0 ∷ d .key .0 ∷ []) ⌝ }
     {
         if self.touch(a, keys) {} else {
             return false;
@@ -101,7 +101,7 @@ impl State {
     ) -> Acted
         ensures { λ r. ⌜ ((w : Tables) → acted r (putPairs w (now (pairs .exit))) ≡ tried self back (putPairs w (now (pairs .entry))) (actPair (valueIn x) (valueIn y))) ⌝ }
     {
-        let n = back.used.pairs;
+        let n = back.pairs;
         if n < MOST_PAIRS {
             store::put_pair(
                 pairs,
@@ -113,7 +113,7 @@ impl State {
             );
             let more = n + 1;
             let mut next = back;
-            next.used.pairs = more;
+            next.pairs = more;
             let v = unkeyed(Kind::Pair, n as u32);
             next.give(v)
         } else {
@@ -136,7 +136,7 @@ impl State {
             return self.stop(Answer::Stuck);
         };
         let touched = back.touch(x, keys);
-        if (x.payload as u64) < store::cap(back.used.pairs, MOST_PAIRS) {} else {
+        if (x.payload as u64) < store::cap(back.pairs, MOST_PAIRS) {} else {
             return self.stop(Answer::Stuck);
         }
         if touched {} else {
@@ -172,22 +172,22 @@ impl State {
             return self.stop(Answer::Stuck);
         };
         let touched = back.touch(x, keys);
-        if (x.payload as u64) < store::cap(back.used.functions, MOST_FUNCTIONS) {} else {
+        if (x.payload as u64) < store::cap(back.functions, MOST_FUNCTIONS) {} else {
             return self.stop(Answer::Stuck);
         }
         if touched {} else {
             return self.stop(Answer::Denied);
         }
-        let n = back.used.bindings;
+        let n = back.bindings;
         if n < MOST_BINDINGS {
             let f = store::closure_at(functions, x.payload);
             let body = f.body;
             store::put_variable(bindings, n as u16, f.var, y, f.env);
-            let now = back.thread.now;
+            let now = back.now;
             let on = now.on;
             let more = n + 1;
             let mut next = back;
-            next.used.bindings = more;
+            next.bindings = more;
             next.go(body, more as u16, on)
         } else {
             self.stop(Answer::NoRoom)
@@ -197,12 +197,12 @@ impl State {
     pub(crate) fn act_cell(self, back: State, x: Value, cells: &mut [u64; CELL_WORDS]) -> Acted
         ensures { λ r. ⌜ ((w : Tables) → acted r (putCells w (now (cells .exit))) ≡ tried self back (putCells w (now (cells .entry))) (actNew (valueIn x))) ⌝ }
     {
-        let n = back.used.cells;
+        let n = back.cells;
         if n < MOST_CELLS {
             store::put_cell(cells, n as u32, x);
             let more = n + 1;
             let mut next = back;
-            next.used.cells = more;
+            next.cells = more;
             let v = unkeyed(Kind::Cell, n as u32);
             next.give(v)
         } else {
@@ -229,7 +229,7 @@ impl State {
             return self.stop(Answer::Stuck);
         };
         let touched = back.touch(cell, keys);
-        if (cell.payload as u64) < store::cap(back.used.cells, MOST_CELLS) {} else {
+        if (cell.payload as u64) < store::cap(back.cells, MOST_CELLS) {} else {
             return self.stop(Answer::Stuck);
         }
         if touched {} else {
@@ -253,7 +253,7 @@ impl State {
             return self.stop(Answer::Stuck);
         };
         let touched = back.touch(x, keys);
-        if (x.payload as u64) < store::cap(back.used.cells, MOST_CELLS) {} else {
+        if (x.payload as u64) < store::cap(back.cells, MOST_CELLS) {} else {
             return self.stop(Answer::Stuck);
         }
         if touched {} else {
@@ -308,7 +308,7 @@ impl State {
         if back.touch(x, keys) {} else {
             return self.stop(Answer::Denied);
         }
-        let now = back.thread.now;
+        let now = back.now;
         let on = now.on;
         if x.payload == 0 {
             back.go(no, now.env, on)
@@ -336,9 +336,9 @@ impl State {
         if back.touch_all(a, b, c, d, keys) {} else {
             return self.stop(Answer::Denied);
         }
-        let now = back.thread.now;
+        let now = back.now;
         let on = now.on;
-        let left = store::narrow(keys, back.used.keys, on, own);
+        let left = store::narrow(keys, back.keys, on, own);
         back.go(body, now.env, left)
     }
 
@@ -358,10 +358,10 @@ impl State {
         if back.touch(x, keys) {} else {
             return self.stop(Answer::Denied);
         }
-        let now = back.thread.now;
+        let now = back.now;
         let on = now.on;
         let j = store::key_in(x);
-        let more = store::add(back.used.keys, on, j);
+        let more = store::add(back.keys, on, j);
         back.go(body, now.env, more)
     }
 
@@ -389,9 +389,9 @@ impl State {
         if back.touch(v, keys) {} else {
             return self.stop(Answer::Denied);
         }
-        let nk = back.used.keys;
-        let np = back.used.pairs;
-        let nb = back.used.bindings;
+        let nk = back.keys;
+        let np = back.pairs;
+        let nb = back.bindings;
         if nk < MOST_KEYS {} else {
             return self.stop(Answer::NoRoom);
         }
@@ -416,16 +416,16 @@ impl State {
         pairs: &mut [u64; PAIR_WORDS],
         bindings: &mut [u64; BINDING_WORDS],
     ) -> Acted
-        requires { ⌜ (self .used .keys < most-keys) × (self .used .pairs < most-pairs) × (suc (self .used .bindings) < most-bindings) ⌝ }
+        requires { ⌜ (self .keys < most-keys) × (self .pairs < most-pairs) × (suc (self .bindings) < most-bindings) ⌝ }
         ensures { λ t. ⌜
             ((w : Tables) →
             Went t (afterKey w keys pairs bindings) (settle (makeKey [] x r (body .0) (j .0) (view self (beforeKey w keys pairs bindings)))))
             ⌝ }
     {
-        let nk = self.used.keys;
-        let np = self.used.pairs;
-        let nb = self.used.bindings;
-        let now = self.thread.now;
+        let nk = self.keys;
+        let np = self.pairs;
+        let nb = self.bindings;
+        let now = self.now;
         let on = now.on;
         let i = nk as u8;
         let key = Key(i);
@@ -447,9 +447,9 @@ impl State {
         let mp = np + 1;
         let mb = nb + 2;
         let mut next = self;
-        next.used.keys = mk;
-        next.used.pairs = mp;
-        next.used.bindings = mb;
+        next.keys = mk;
+        next.pairs = mp;
+        next.bindings = mb;
         next.go(body, mb as u16, on)
     }
 

@@ -90,14 +90,14 @@ impl State {
     fn push(self, e: Expr, first: Expr, frames: &mut [u64; FRAME_WORDS]) -> Acted
         ensures { λ r. ⌜ ((w : Tables) → acted r (putFrames w (now (frames .exit))) ≡ tried self self (putFrames w (now (frames .entry))) (push (e .0) (first .0))) ⌝ }
     {
-        let n = self.thread.frames;
+        let n = self.frames;
         if n < MOST_FRAMES {
-            let now = self.thread.now;
+            let now = self.now;
             let on = now.on;
             store::put_fresh(frames, n as u16, e, now.env, on);
             let more = n + 1;
             let mut next = self;
-            next.thread.frames = more;
+            next.frames = more;
             next.go(first, now.env, on)
         } else {
             self.stop(Answer::NoRoom)
@@ -107,9 +107,9 @@ impl State {
     fn function(self, x: u8, body: Expr, functions: &mut [u64; FUNCTION_WORDS]) -> Acted
         ensures { λ r. ⌜ ((w : Tables) → acted r (putFunctions w (now (functions .exit))) ≡ tried self self (putFunctions w (now (functions .entry))) (actFn x (body .0))) ⌝ }
     {
-        let n = self.used.functions;
+        let n = self.functions;
         if n < MOST_FUNCTIONS {
-            let now = self.thread.now;
+            let now = self.now;
             store::put_closure(
                 functions,
                 n as u16,
@@ -121,7 +121,7 @@ impl State {
             );
             let more = n + 1;
             let mut next = self;
-            next.used.functions = more;
+            next.functions = more;
             let v = unkeyed(Kind::Function, n as u32);
             next.give(v)
         } else {
@@ -132,8 +132,8 @@ impl State {
     fn variable(self, x: u8, bindings: &[u64; BINDING_WORDS]) -> Acted
         ensures { λ r. ⌜ ((w : Tables) → acted r (putBindings w (now (bindings .entry))) ≡ tried self self (putBindings w (now (bindings .entry))) (variable x)) ⌝ }
     {
-        let now = self.thread.now;
-        let n = store::cap(self.used.bindings, MOST_BINDINGS) as u16;
+        let now = self.now;
+        let n = store::cap(self.bindings, MOST_BINDINGS) as u16;
         let found = lookup(bindings, n, x, now.env);
         match found {
             Found::At(v) => self.give(v),
@@ -175,7 +175,7 @@ impl State {
                 self.function((x % 256) as u8, body, functions)
             }
             0x3C => {
-                let now = self.thread.now;
+                let now = self.now;
                 self.go(Expr(table::at16(slots, i * 5 + 4)), now.env, Keys(0, 0))
             }
             _ => {

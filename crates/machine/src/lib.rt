@@ -65,10 +65,16 @@ pub struct Thread {
     pub frames: u64,
 }
 
-// What changes at each step beside the tables: the thread, and how many entries of the store's tables are used.
+// What changes at each step beside the tables: the thread, and how many entries of the store's tables are used. It is flat, and only what changes is written:
+// a struct in a struct is copied at each step, which makes a step half as long again.
 pub struct State {
-    pub thread: Thread,
-    pub used: Used,
+    pub now: Now,
+    pub frames: u64,
+    pub cells: u64,
+    pub keys: u64,
+    pub pairs: u64,
+    pub functions: u64,
+    pub bindings: u64,
 }
 
 pub struct Acted {
@@ -120,50 +126,34 @@ impl State {
         }
     }
 
-    fn give(self, v: Value) -> Acted
+    fn give(mut self, v: Value) -> Acted
         ensures { λ r. ⌜ r ≡ giveOf self v ⌝ }
     {
-        let now = self.thread.now;
+        let now = self.now;
         let on = now.on;
-        let frames = self.thread.frames;
-        let used = self.used;
         let n = Now {
             control: Control::Hand(v),
             env: now.env,
             on: on,
         };
-        let t = Thread {
-            now: n,
-            frames: frames,
-        };
+        self.now = n;
         Acted {
-            state: State {
-                thread: t,
-                used: used,
-            },
+            state: self,
             answer: Answer::Taken,
         }
     }
 
-    fn go(self, e: Expr, env: u16, on: Keys) -> Acted
+    fn go(mut self, e: Expr, env: u16, on: Keys) -> Acted
         ensures { λ r. ⌜ r ≡ goOf self e env on ⌝ }
     {
-        let frames = self.thread.frames;
-        let used = self.used;
         let n = Now {
             control: Control::Enter(e),
             env: env,
             on: on,
         };
-        let t = Thread {
-            now: n,
-            frames: frames,
-        };
+        self.now = n;
         Acted {
-            state: State {
-                thread: t,
-                used: used,
-            },
+            state: self,
             answer: Answer::Taken,
         }
     }
@@ -172,31 +162,26 @@ impl State {
     fn resume(self, top: u16, env: u16, on: Keys) -> State
         ensures { λ r. ⌜ r ≡ resumeOf self top env on ⌝ }
     {
-        let now = self.thread.now;
+        let now = self.now;
         let control = now.control;
-        let used = self.used;
         let n = Now {
             control: control,
             env: env,
             on: on,
         };
-        let t = Thread {
-            now: n,
-            frames: top as u64,
-        };
-        State {
-            thread: t,
-            used: used,
-        }
+        let mut next = self;
+        next.now = n;
+        next.frames = top as u64;
+        next
     }
 
     // Is the value's key enabled?
     fn touch(self, x: Value, keys: &[u8; KEY_BYTES]) -> bool
-        ensures { λ r. ⌜ r ≡ enabled (listOf upIn (now (keys .entry)) (capped (self .used .keys) most-keys)) (keysIn (self .thread .now .on)) (x .key .0) ⌝ }
+        ensures { λ r. ⌜ r ≡ enabled (listOf upIn (now (keys .entry)) (capped (self .keys) most-keys)) (keysIn (self .now .on)) (x .key .0) ⌝ }
     {
         let key = x.key;
-        let now = self.thread.now;
+        let now = self.now;
         let on = now.on;
-        store::enabled(keys, self.used.keys, on, key)
+        store::enabled(keys, self.keys, on, key)
     }
 }

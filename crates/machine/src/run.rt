@@ -5,12 +5,14 @@ use crate::Ended;
 use crate::Machine;
 use crate::Outcome;
 use crate::State;
+use crate::Thread;
 use store::BINDING_WORDS;
 use store::CELL_WORDS;
 use store::FRAME_WORDS;
 use store::FUNCTION_WORDS;
 use store::KEY_BYTES;
 use store::PAIR_WORDS;
+use store::Used;
 ghost use mathlib.Core.Path.{_≡_};
 ghost use Rattle.syntax.specs.Words.{codeIn};
 ghost use Rattle.semantics.specs.Room.{isDone};
@@ -109,11 +111,11 @@ impl State {
     fn is_done(self) -> bool
         ensures { λ r. ⌜ ((w : Tables) → r ≡ isDone (view self w)) ⌝ }
     {
-        let now = self.thread.now;
+        let now = self.now;
         let control = now.control;
         match control {
             Control::Enter(_) => false,
-            Control::Hand(_) => self.thread.frames == 0,
+            Control::Hand(_) => self.frames == 0,
         }
     }
 }
@@ -125,9 +127,15 @@ impl Machine {
     {
         let thread = self.thread;
         let used = self.used;
+        let now = thread.now;
         let start = State {
-            thread: thread,
-            used: used,
+            now: now,
+            frames: thread.frames,
+            cells: used.cells,
+            keys: used.keys,
+            pairs: used.pairs,
+            functions: used.functions,
+            bindings: used.bindings,
         };
         let mut frames = self.frames;
         let mut cells = self.cells;
@@ -148,11 +156,19 @@ impl Machine {
         );
         let next = s.state;
         let answer = s.answer;
-        let thread = next.thread;
-        let used = next.used;
+        let now = next.now;
         let m = Machine {
-            thread: thread,
-            used: used,
+            thread: Thread {
+                now: now,
+                frames: next.frames,
+            },
+            used: Used {
+                cells: next.cells,
+                keys: next.keys,
+                pairs: next.pairs,
+                functions: next.functions,
+                bindings: next.bindings,
+            },
             frames: frames,
             cells: cells,
             keys: keys,
@@ -173,9 +189,15 @@ impl Machine {
     {
         let thread = self.thread;
         let used = self.used;
+        let now = thread.now;
         let start = State {
-            thread: thread,
-            used: used,
+            now: now,
+            frames: thread.frames,
+            cells: used.cells,
+            keys: used.keys,
+            pairs: used.pairs,
+            functions: used.functions,
+            bindings: used.bindings,
         };
         let mut frames = self.frames;
         let mut cells = self.cells;
@@ -198,11 +220,19 @@ impl Machine {
         let done = next.is_done();
         let a = s.answer;
         let answer = close(done, a);
-        let thread = next.thread;
-        let used = next.used;
+        let now = next.now;
         let m = Machine {
-            thread: thread,
-            used: used,
+            thread: Thread {
+                now: now,
+                frames: next.frames,
+            },
+            used: Used {
+                cells: next.cells,
+                keys: next.keys,
+                pairs: next.pairs,
+                functions: next.functions,
+                bindings: next.bindings,
+            },
             frames: frames,
             cells: cells,
             keys: keys,

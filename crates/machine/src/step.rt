@@ -191,7 +191,7 @@ impl State {
             tried self self (before frames cells keys pairs functions bindings) (λ m. handTo (lentCode heads slots) (valueIn v) (m .thread .frames) m)
             ⌝ }
     {
-        let n = store::cap(self.thread.frames, MOST_FRAMES) as u16;
+        let n = store::cap(self.frames, MOST_FRAMES) as u16;
         if n == 0 {
             return self.stop(Answer::Finished);
         }
@@ -241,7 +241,7 @@ impl State {
             stepped self (before frames cells keys pairs functions bindings) (step (lentCode heads slots))
             ⌝ }
     {
-        let now = self.thread.now;
+        let now = self.now;
         let control = now.control;
         match control {
             Control::Enter(e) => self.enter(e, heads, slots, frames, functions, bindings),

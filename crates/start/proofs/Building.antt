@@ -27,10 +27,7 @@ same-parts f ps fs e e' n n' o o' cs cs' ks ks' bs bs' a b c d g h = cc
 
 pub started : (S : Src) (b : Started) → Begun S b → (fr pa fu : List ℕ)
     → view
-    (record {
-      thread = record { now = record { control = Enter (record { 0 = b .root }); env = b .nbindings; on = b .on }; frames = 0 };
-      used = record { cells = b .ncells; keys = b .nkeys; pairs = 0; functions = 0; bindings = b .nbindings };
-    })
+    (record { now = record { control = Enter (record { 0 = b .root }); env = b .nbindings; on = b .on }; frames = 0; cells = b .ncells; keys = b .nkeys; pairs = 0; functions = 0; bindings = b .nbindings })
     (tables fr (b .cells) (b .keys) pa fu (b .bindings))
     ≡ startOf S
 unfolding view startOf listOf stackOf

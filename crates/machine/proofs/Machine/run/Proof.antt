@@ -13,7 +13,7 @@ close-requires : tie.Need-close-requires
 close-requires c κs = search needs
 
 returns : tie.Need-returns
-returns c = run-closed _ _ _ _ _ (c .before .before .before .before .before .run .ensures) (c .before .before .before .is-done .ensures _) (c .before .before .close .ensures)
+returns c = run-closed _ _ _ _ _ (c .before .before .before .before .run .ensures) (c .before .before .is-done .ensures _) (c .before .close .ensures)
 
 pub run-spec : {M : Type 1} → statement M
 run-spec = tie.close (tie.spec run-requires is-done-requires close-requires returns)

@@ -8,7 +8,7 @@ run-requires : tie.Need-run-requires
 run-requires c κs = search needs
 
 returns : tie.Need-returns
-returns c = c .before .before .before .run .ensures ∙ loop-one _ _
+returns c = c .before .before .run .ensures ∙ loop-one _ _
 
 pub step-spec : {M : Type 1} → statement M
 step-spec = tie.close (tie.spec run-requires returns)

@@ -61,7 +61,7 @@ stop-requires-4 : tie.Need-stop-requires-4
 stop-requires-4 c κs = search needs
 
 returns-4 : tie.Need-returns-4
-returns-4 c = λ w. goes _ _ _ _ _ _ _ (c .go .ensures) (app-made (c .before .before .before .before .before .before .before .before .before .before .before .before .before .before .before .before .args .back) (putBindings (putFunctions (putKeys w (now (c .before .before .before .before .before .before .before .before .before .before .before .before .before .before .before .before .args .keys))) (now (c .before .before .before .before .before .before .before .before .before .before .before .before .before .before .before .before .args .functions))) (now (c .before .before .before .before .before .before .before .before .before .before .before .before .before .before .before .before .args .bindings))) (valueIn (c .before .before .before .before .before .before .before .before .before .before .before .before .before .before .before .before .args .x)) (valueIn (c .before .before .before .before .before .before .before .before .before .before .before .before .before .before .before .before .args .y)) (of-kind _ (c .before .before .before .before .before .before .before .before .before .before .before .before .before .before .enum-told .given .1)) (c .before .before .before .before .before .before .before .before .before .before .before .before .before .touch .ensures) _ (c .before .before .before .before .before .before .before .before .before .if2 .taken) (c .before .before .before .before .before .before .before .before .before .before .before .cap .ensures .0) (c .before .before .before .before .before .before .before .before .before .before .if1 .taken) (c .before .before .before .before .before .before .before .before .if3 .taken) (c .before .before .before .before .before .before .before .closure-at .ensures) (c .before .before .before .before .put-variable .ensures))
+returns-4 c = λ w. goes _ _ _ _ _ _ _ (c .go .ensures) (app-made (c .before .before .before .before .before .before .before .before .before .before .before .before .before .before .before .args .back) (putBindings (putFunctions (putKeys w (now (c .before .before .before .before .before .before .before .before .before .before .before .before .before .before .before .args .keys))) (now (c .before .before .before .before .before .before .before .before .before .before .before .before .before .before .before .args .functions))) (now (c .before .before .before .before .before .before .before .before .before .before .before .before .before .before .before .args .bindings))) (valueIn (c .before .before .before .before .before .before .before .before .before .before .before .before .before .before .before .args .x)) (valueIn (c .before .before .before .before .before .before .before .before .before .before .before .before .before .before .before .args .y)) (of-kind _ (c .before .before .before .before .before .before .before .before .before .before .before .before .before .enum-told .given .1)) (c .before .before .before .before .before .before .before .before .before .before .before .before .touch .ensures) _ (c .before .before .before .before .before .before .before .before .if2 .taken) (c .before .before .before .before .before .before .before .before .before .before .cap .ensures .0) (c .before .before .before .before .before .before .before .before .before .if1 .taken) (c .before .before .before .before .before .before .before .if3 .taken) (c .before .before .before .before .before .before .closure-at .ensures) (c .before .before .before .put-variable .ensures))
 
 returns-5 : tie.Need-returns-5
 returns-5 c = λ w. is-full _ _ _ (c .stop4 .ensures) (app-full (c .before .before .before .before .before .before .before .before .before .args .back) (putBindings (putFunctions (putKeys w (now (c .before .before .before .before .before .before .before .before .before .args .keys))) (now (c .before .before .before .before .before .before .before .before .before .args .functions))) (now (c .before .before .before .before .before .before .before .before .before .args .bindings))) (valueIn (c .before .before .before .before .before .before .before .before .before .args .x)) (valueIn (c .before .before .before .before .before .before .before .before .before .args .y)) (of-kind _ (c .before .before .before .before .before .before .before .enum-told .given .1)) (c .before .before .before .before .before .before .touch .ensures) (c .before .before .if2 .taken) (c .before .before .before .before .cap .ensures .0) (c .before .before .before .if1 .taken) (c .before .if3 .left))

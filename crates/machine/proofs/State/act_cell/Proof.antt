@@ -28,7 +28,7 @@ stop-requires : tie.Need-stop-requires
 stop-requires c κs = search needs
 
 returns : tie.Need-returns
-returns c = λ w. gave-new _ _ _ _ _ _ (c .before .unkeyed .ensures) (c .give .ensures) (cell-made (c .before .before .before .before .before .before .args .back) (putCells w (now (c .before .before .before .before .before .before .args .cells))) (valueIn (c .before .before .before .before .before .before .args .x)) _ (c .before .before .before .before .before .if1 .taken) (c .before .before .before .put-cell .ensures))
+returns c = λ w. gave-new _ _ _ _ _ _ (c .before .unkeyed .ensures) (c .give .ensures) (cell-made (c .before .before .before .before .before .args .back) (putCells w (now (c .before .before .before .before .before .args .cells))) (valueIn (c .before .before .before .before .before .args .x)) _ (c .before .before .before .before .if1 .taken) (c .before .before .put-cell .ensures))
 
 returns-2 : tie.Need-returns-2
 returns-2 c = λ w. is-full _ _ _ (c .stop .ensures) (cell-full (c .before .before .args .back) (putCells w (now (c .before .before .args .cells))) (valueIn (c .before .before .args .x)) (c .before .if1 .left))

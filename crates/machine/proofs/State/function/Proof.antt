@@ -27,7 +27,7 @@ stop-requires : tie.Need-stop-requires
 stop-requires c κs = search needs
 
 returns : tie.Need-returns
-returns c = λ w. gave-new _ _ _ _ _ _ (c .before .unkeyed .ensures) (c .give .ensures) (fn-made (c .before .before .before .before .before .before .before .args .self) (putFunctions w (now (c .before .before .before .before .before .before .before .args .functions))) _ _ _ (c .before .before .before .before .before .before .if1 .taken) (c .before .before .before .put-closure .ensures))
+returns c = λ w. gave-new _ _ _ _ _ _ (c .before .unkeyed .ensures) (c .give .ensures) (fn-made (c .before .before .before .before .before .before .args .self) (putFunctions w (now (c .before .before .before .before .before .before .args .functions))) _ _ _ (c .before .before .before .before .before .if1 .taken) (c .before .before .put-closure .ensures))
 
 returns-2 : tie.Need-returns-2
 returns-2 c = λ w. is-full _ _ _ (c .stop .ensures) (fn-full (c .before .before .args .self) (putFunctions w (now (c .before .before .args .functions))) (c .before .before .args .x) (c .before .before .args .body .0) (c .before .if1 .left))

@@ -75,7 +75,7 @@ go-requires : tie.Need-go-requires
 go-requires c κs = search needs
 
 returns : tie.Need-returns
-returns c = λ w. made-all (c .before .before .before .before .before .before .before .before .before .before .before .before .before .before .before .before .before .args .self) (putBindings (putPairs (putKeys w (now (c .before .before .before .before .before .before .before .before .before .before .before .before .before .before .before .before .before .args .keys))) (now (c .before .before .before .before .before .before .before .before .before .before .before .before .before .before .before .before .before .args .pairs))) (now (c .before .before .before .before .before .before .before .before .before .before .before .before .before .before .before .before .before .args .bindings))) (c .before .before .before .before .before .before .before .before .before .before .before .before .before .before .before .before .before .args .x) (c .before .before .before .before .before .before .before .before .before .before .before .before .before .before .before .before .before .args .r) (c .before .before .before .before .before .before .before .before .before .before .before .before .before .before .before .before .before .args .body) (c .before .before .before .before .before .before .before .before .before .before .before .before .before .before .before .before .before .args .j .0) _ _ _ _ (c .before .before .before .before .before .before .before .before .before .before .before .before .before .before .before .before .before .pre .0) (c .before .before .before .before .before .before .before .before .before .before .before .before .before .before .before .before .before .pre .1) (c .before .before .before .before .before .before .before .before .before .before .before .before .before .before .before .before .before .pre .2) (c .before .before .before .before .before .before .before .before .before .before .before .before .before .before .unkeyed .ensures) (c .before .before .before .before .before .before .before .before .before .before .before .before .before .unkeyed2 .ensures) (c .before .before .before .before .before .before .before .before .before .before .before .before .unkeyed3 .ensures) (c .before .before .before .before .before .before .before .before .before .before .put-up .ensures) (c .before .before .before .before .before .before .before .before .put-pair .ensures) (c .before .before .before .before .before .before .put-name .ensures) (c .before .before .before .before .put-variable .ensures) (c .go .ensures)
+returns c = λ w. made-all (c .before .before .before .before .before .before .before .before .before .before .before .before .before .before .args .self) (putBindings (putPairs (putKeys w (now (c .before .before .before .before .before .before .before .before .before .before .before .before .before .before .args .keys))) (now (c .before .before .before .before .before .before .before .before .before .before .before .before .before .before .args .pairs))) (now (c .before .before .before .before .before .before .before .before .before .before .before .before .before .before .args .bindings))) (c .before .before .before .before .before .before .before .before .before .before .before .before .before .before .args .x) (c .before .before .before .before .before .before .before .before .before .before .before .before .before .before .args .r) (c .before .before .before .before .before .before .before .before .before .before .before .before .before .before .args .body) (c .before .before .before .before .before .before .before .before .before .before .before .before .before .before .args .j .0) _ _ _ _ (c .before .before .before .before .before .before .before .before .before .before .before .before .before .before .pre .0) (c .before .before .before .before .before .before .before .before .before .before .before .before .before .before .pre .1) (c .before .before .before .before .before .before .before .before .before .before .before .before .before .before .pre .2) (c .before .before .before .before .before .before .before .before .before .before .before .unkeyed .ensures) (c .before .before .before .before .before .before .before .before .before .before .unkeyed2 .ensures) (c .before .before .before .before .before .before .before .before .before .unkeyed3 .ensures) (c .before .before .before .before .before .before .before .put-up .ensures) (c .before .before .before .before .before .put-pair .ensures) (c .before .before .before .put-name .ensures) (c .before .put-variable .ensures) (c .go .ensures)
 
 pub new-key-spec : {M : Type 1} → statement M
 new-key-spec =

@@ -21,7 +21,7 @@ stop-requires : tie.Need-stop-requires
 stop-requires c κs = search needs
 
 returns : tie.Need-returns
-returns c = λ w. goes _ _ _ _ _ _ _ (c .go .ensures) (pushed (c .before .before .before .before .before .before .before .args .self) (putFrames w (now (c .before .before .before .before .before .before .before .args .frames))) (c .before .before .before .before .before .before .before .args .e) (c .before .before .before .before .before .before .before .args .first .0) _ (c .before .before .before .before .before .before .if1 .taken) (c .before .before .put-fresh .ensures))
+returns c = λ w. goes _ _ _ _ _ _ _ (c .go .ensures) (pushed (c .before .before .before .before .before .before .args .self) (putFrames w (now (c .before .before .before .before .before .before .args .frames))) (c .before .before .before .before .before .before .args .e) (c .before .before .before .before .before .before .args .first .0) _ (c .before .before .before .before .before .if1 .taken) (c .before .put-fresh .ensures))
 
 returns-2 : tie.Need-returns-2
 returns-2 c = λ w. is-full _ _ _ (c .stop .ensures) (push-full (c .before .before .args .self) (putFrames w (now (c .before .before .args .frames))) (c .before .before .args .e .0) (c .before .before .args .first .0) (c .before .if1 .left))
