@@ -1,6 +1,6 @@
 -- Demand 3 of `jobdesk_run`: of bytes that the check accepts, with tables and answers that are long enough, it gives only answers that demand 3 allows. The hypotheses are what
 -- `check` and `jobdesk_run` ensure, and nothing else.
-use mathlib.Core.Path.{_≡_, refl, sym, ap, _∙_, fun-ext}
+use mathlib.Core.Path.{_≡_, refl, ap, _∙_, fun-ext}
 use Prim.Native.Nat.{ℕ, _*_}
 use mathlib.Core.Bool.{Bool, true, false}
 use mathlib.Core.List.{List, _++_}

@@ -46,7 +46,7 @@ use Rattle.checker.specs.declared.Verdict.{Verdict}
 use Rattle.checker.specs.declared.Verdict.the-variants.{Accepted, Refused}
 use Rattle.checker.specs.declared.Checked.{Checked}
 use Rattle.checker.specs.Answer as judged
-use Rattle.checker.specs.Answer.{tables, treeOf, verdictIn, noShape, refusedBy, shapeRead, shapeFor, lastIn, CheckTo, Given, Untyped, unlessOne, Judged, accepted}
+use Rattle.checker.specs.Answer.{tables, treeOf, verdictIn, refusedBy, shapeRead, shapeFor, lastIn, CheckTo, Given, Untyped, unlessOne, Judged, accepted}
 
 -- Lengths
 

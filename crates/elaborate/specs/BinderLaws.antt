@@ -1,4 +1,4 @@
--- Binders by the tables of a job: the type table with the entries of each 3E, and the entries of the variables.
+-- Binders by the tables of a job: the type table with the entries of each 0x3E, and the entries of the variables.
 use mathlib.Core.Path.{_≡_, refl, sym, ap, _∙_, subst}
 use Prim.Native.Nat.{ℕ, zero, suc, _+_, _*_, _/_, _%_, _<_, _≤_}
 use native.Mathlib.Omega.{arith}
@@ -74,7 +74,7 @@ vars-by n k l = at (rows.bound k)
     at rows.bound-type = refl
     at rows.bound-keys = refl
 
--- The entries of each 3E
+-- The entries of each 0x3E
 
 -- entries with one more at the end, in the type table
 word-more : (k : ℕ) (T : List TypeEntry) (x : TypeEntry) (i w : ℕ) → i ≡ length T → w ≡ typeWord x → length T < k → set (filled k 0 (typeWords T)) i w ≡ filled k 0 (typeWords (T ++ (x ∷ [])))
@@ -137,7 +137,7 @@ keys-all k (c ∷ l) T vs h g =
     (subst (λ (rs : List ℕ). length T + 3 * length rs ≤ k) (keys-by c l) h)
     (subst (λ (rs : List ℕ). length T + 3 * length rs ≤ 65536) (keys-by c l) g))
 
--- the sets of the entries of 3E are none
+-- the sets of the entries of 0x3E are none
 key-sets : (k n : ℕ) (rs : List ℕ) (l : List ℕ) → length l + 3 * length rs ≤ k → filled k 0 (l ++ map setWord (keyEntries n rs)) ≡ filled k 0 l
 unfolding keyEntries setWord
 key-sets k n [] l h = ap (filled k 0) (append-nil l)

@@ -1,4 +1,4 @@
--- Binders by the tables: the entries of each 3E and the entries of the variables, expression after expression.
+-- Binders by the tables: the entries of each 0x3E and the entries of the variables, expression after expression.
 use Prim.Native.Nat.{ℕ, zero, suc, _+_, _/_, _%_}
 use mathlib.Core.List.{List, [], _∷_}
 use lib.ListN.{getD, set}
@@ -21,7 +21,7 @@ unfoldable pub binderOf : Cmd ℕ → Binder
 unfolding binderBy ofRoles typesOf bindsName
 binderOf k = binderBy (ofRoles (r-parameter ∷ []) k) (typesOf k) (ofRoles (r-keypair ∷ []) k) (bindsName k)
 
--- the type table with the entries of a 3E from n on
+-- the type table with the entries of a 0x3E from n on
 unfoldable pub storeKey : List ℕ → ℕ → ℕ → List ℕ
 storeKey types n r = set (set (set types n (typeBits 0x14 0 r 0)) (n + 1) (typeBits 0x15 0 r 0)) (n + 2) (typeBits 0x11 0 (n % 65536) ((n + 1) % 65536))
 

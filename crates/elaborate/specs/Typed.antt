@@ -1,5 +1,5 @@
 -- What typing all expressions comes to: the pass over the tables for all tables, and typing by numbers for a job that the tables hold.
-use mathlib.Core.Path.{_≡_, refl, sym, ap, _∙_, subst}
+use mathlib.Core.Path.{_≡_, subst}
 use Prim.Native.Nat.{ℕ, _≤_}
 use mathlib.Core.List.{List, []}
 use mathlib.Core.Option.{none}

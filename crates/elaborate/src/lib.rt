@@ -15,7 +15,7 @@ use types::Entry;
 use types::MEMORY;
 ghost use mathlib.Core.Path.{_≡_};
 ghost use Prim.Native.Nat.{_%_, _≤_};
-ghost use Rattle.syntax.specs.Words.{typeBits, typeWord, setWord, codeIn};
+ghost use Rattle.syntax.specs.Words.{typeWord, setWord, codeIn};
 ghost use Rattle.types.specs.Entry.{entryOf};
 ghost use Rattle.types.specs.Known.{Known};
 ghost use Rattle.infer.specs.Answer.{made, resultIn};

@@ -1,20 +1,19 @@
 -- Words that hold a job: its start is the one that they give, and tables filled with a job's words, and 0 after them, hold the job.
-use Prim.Native.Nat.{ℕ, zero, suc, _+_, _*_, _/_, _%_, _<_, _≤_}
+use Prim.Native.Nat.{ℕ, suc, _+_, _*_, _/_, _%_, _<_, _≤_}
 use mathlib.Core.Path.{_≡_, refl, ap, ap₂, sym, _∙_}
-use mathlib.Core.Bool.{Bool, true, false, cond, false≢true}
+use mathlib.Core.Bool.{Bool, true, cond, false≢true}
 use mathlib.Core.List.{List, [], _∷_, map}
 use mathlib.Core.Option.{Option, none, some}
 use native.Mathlib.Omega.{arith}
 use borrow.Author.Tests.{ltb-true, eqb-true, lt-ltb, le-leb}
-use lib.Dec.{ltb}
-use lib.ListN.{length, getD, getElem?, take, length-take, length-map, replicate}
+use lib.ListN.{length, getD, getElem?, take, length-take, length-map}
 use lib.ListN.{length-replicate}
 use Rattle.order.specs.Bools.{_and_, and-l, and-r}
 use Rattle.order.specs.OrderLaws.{getElem?-lt}
 use Rattle.order.specs.Sets.{setOf}
 use Rattle.order.specs.Effects as effects
 use Rattle.syntax.specs.Types.{Ty, num, pair, cell, fn, lim, grant, TypeEntry, e-num, e-pair, e-cell, e-fn, e-lim, e-grant, entryTree, treeIn, tree, byType, onNum, onCell, onGrant, onLim}
-use Rattle.syntax.specs.Commands.{Cmd, c-top, mapCmd}
+use Rattle.syntax.specs.Commands.{c-top, mapCmd}
 use Rattle.syntax.specs.Job.{Name, HostValue, Job, Src, valueOf, sourceOf}
 use Rattle.syntax.specs.Tree.{root, predecessor}
 use Rattle.syntax.specs.Words.{nameWord, typeWord, valueWord, nameWords, typeWords, valueWords, filled}

@@ -7,7 +7,7 @@ use mathlib.Core.List.{List, [], _∷_}
 use lib.ListN.{length, take, drop}
 use lib.Dec.{eqb, ltb, leb}
 use borrow.Author.Tests.{eqb-true, le-leb, lt-leb}
-use Rattle.order.specs.Bools.{_and_, _or_}
+use Rattle.order.specs.Bools.{_and_}
 use Rattle.order.specs.Sets.{all-of}
 use Rattle.syntax.specs.Commands.{Cmd, c-part, c-sum, c-lim}
 use Rattle.syntax.specs.Commands.{operands}

@@ -6,7 +6,7 @@ use mathlib.Core.Bool.{Bool, true, false}
 use mathlib.Core.List.{List}
 use Rattle.syntax.specs.Job.{Job}
 use Rattle.syntax.specs.Reading.{Read, refused, read, refusedAt}
-use Rattle.syntax.specs.Loading.{JobTables, short, filledWith, loading, loadWith, holding, tablesAfterLoad}
+use Rattle.syntax.specs.Loading.{JobTables, short, filledWith, loading, loadWith, holding}
 use Rattle.syntax.specs.LoadLaws.{long-load, long-after, short-load}
 use Rattle.table.specs.declared.Refusal.{Refusal}
 use Rattle.job.specs.declared.Shape.{Shape}

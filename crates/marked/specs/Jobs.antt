@@ -1,5 +1,5 @@
 -- The jobs of the marked cases, in bytes.
-use Prim.Native.Nat.{ℕ, zero, suc, _+_}
+use Prim.Native.Nat.{ℕ, zero, suc}
 use mathlib.Core.List.{List, [], _∷_, _++_}
 
 -- a name 2 of the host, a cell of numbers with that key, starting at 7; the rights s; variable 0, read

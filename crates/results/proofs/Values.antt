@@ -20,7 +20,6 @@ use Rattle.store.proofs.Laws.{list-get, list-beyond}
 use Rattle.store.specs.declared.Used.{Used}
 use Rattle.machine.specs.declared.Thread.{Thread}
 use Rattle.machine.specs.declared.Control.the-variants.{Enter, Hand}
-use Rattle.machine.specs.Meaning.{controlIn}
 use Rattle.machine.specs.declared.Machine.{Machine}
 use Rattle.machine.specs.View.{Tables, stateOf, view, seen}
 use Rattle.calls.specs.Words.{over}

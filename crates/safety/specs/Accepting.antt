@@ -1,21 +1,21 @@
 -- What an accepted job's tables say: the job that its bytes are, held by the tables, and demand 3 of its calls.
-use mathlib.Core.Path.{_≡_, refl, sym, ap, _∙_, subst}
-use Prim.Native.Nat.{ℕ, zero, suc, _+_}
+use mathlib.Core.Path.{_≡_, refl, sym, ap, _∙_}
+use Prim.Native.Nat.{ℕ, zero, suc}
 use native.Mathlib.Omega.{arith}
 use mathlib.Core.Bool.{Bool, true, false, cond}
 use mathlib.Core.List.{List, [], _∷_, _++_}
-use mathlib.Core.Option.{Option, none, some}
+use mathlib.Core.Option.{some}
 use lib.ListN.{length, getElem?}
 use Rattle.order.specs.Effects.{Effect, ofWord}
 use Rattle.syntax.specs.Types.{Ty, TypeEntry}
 use Rattle.syntax.specs.Commands.{Cmd}
-use Rattle.syntax.specs.Job.{Job, sourceOf}
-use Rattle.syntax.specs.Reading.{Refusal, Read, refused, read, reading}
+use Rattle.syntax.specs.Job.{Job}
+use Rattle.syntax.specs.Reading.{Refusal, read, reading}
 use Rattle.syntax.specs.ReadLaws.{JobOk, read-ok}
-use Rattle.syntax.specs.Words.{codeIn, filled, nameWords, typeWords, valueWords, headWords, slotWords, typeWord, valueWord}
+use Rattle.syntax.specs.Words.{codeIn, filled, nameWords, typeWords, valueWords, typeWord}
 use Rattle.syntax.specs.WordLaws.{Bytes, JobFits, job-fits, code-back, word-at}
 use Rattle.syntax.specs.Loading.{filledWith}
-use Rattle.typing.specs.Layout.{Points, new, old, Layout, point, pointsTo, layoutFrom, layoutOf}
+use Rattle.typing.specs.Layout.{Points, new, old, Layout, point, layoutFrom, layoutOf}
 use Rattle.typing.specs.Verdict.{Verdict, accept, refuse, verdictOf}
 use Rattle.typing.specs.Tables.{Tables, short, layoutFor, filledBy, verdictWith, keptOn, tablesAfter}
 use Rattle.semantics.specs.Calls.{Call}
@@ -37,7 +37,7 @@ some-left (y ∷ a) b (suc i) x e = some-left a b i x e
 
 point-keeps : (p : Points) (L : Layout) (i : ℕ) (x : TypeEntry) → getElem? (L .entries) i ≡ some x → getElem? (point p L .entries) i ≡ some x
 unfolding point
-point-keeps (new y) L i x e = some-left (L .entries) (y ∷ []) i x e
+point-keeps (new l y) L i x e = some-left (L .entries) (l ++ (y ∷ [])) i x e
 point-keeps (old j) L i x e = e
 
 layoutFrom-keeps : (var : ℕ → ℕ) (eff : ℕ → Effect) (l : List (Cmd ℕ)) (L : Layout) (i : ℕ) (x : TypeEntry) → getElem? (L .entries) i ≡ some x → getElem? (layoutFrom var eff l L .entries) i ≡ some x

@@ -18,7 +18,7 @@ use Rattle.syntax.specs.Words.{codeIn}
 use Rattle.syntax.specs.WordLaws.{Bytes, job-fits, code-back}
 use Rattle.syntax.specs.Loading.{JobTables, short, filledWith, loading, holding, tablesAfterLoad}
 use Rattle.syntax.specs.LoadLaws.{load-whole, short-load, long-load, long-after, long-with}
-use Rattle.typing.specs.Verdict.{Verdict, accept, refuse, unless, judge, judgeRead, verdictOf}
+use Rattle.typing.specs.Verdict.{accept, refuse, unless, judge, judgeRead, verdictOf}
 use Rattle.typing.specs.Tables as tables
 use Rattle.typing.specs.Tables.{Tables, verdictWith}
 use Rattle.semantics.specs.Machine.{Machine as Clean}

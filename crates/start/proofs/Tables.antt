@@ -1,15 +1,14 @@
 -- From what the load comes to, to what the start comes to.
-use mathlib.Core.Path.{_≡_, refl, sym, ap, _∙_}
+use mathlib.Core.Path.{_≡_, refl, ap, _∙_}
 use Prim.Native.Nat.{ℕ}
 use mathlib.Core.List.{List}
 use lib.ListN.{length}
 use Rattle.order.specs.Bools.{_and_}
-use Rattle.syntax.specs.Job.{Job, sourceOf}
+use Rattle.syntax.specs.Job.{Job}
 use Rattle.syntax.specs.ReadLaws.{JobOk, read-ok}
 use Rattle.syntax.specs.WordLaws.{Bytes, JobFits, job-fits}
 use Rattle.syntax.specs.Loading.{JobTables, filledWith}
 use Rattle.syntax.specs.LoadLaws.{loaded, long-load}
-use Rattle.semantics.specs.Start.{startOf}
 use Rattle.semantics.specs.Starting.{started, startLoaded, startWith}
 use Rattle.machine.specs.declared.Machine.{Machine}
 use Rattle.machine.specs.View.{seen}

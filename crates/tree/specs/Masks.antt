@@ -1,6 +1,6 @@
 -- The names in each declared type: the pass over the type table finds those of its tree. 0 is left out: it is in scope everywhere.
 use mathlib.Core.Path.{_≡_, refl, sym, ap, ap₂, _∙_}
-use Prim.Native.Nat.{ℕ, zero, suc, _+_, _-_, _/_, _%_, _≤_, _<_}
+use Prim.Native.Nat.{ℕ, zero, suc, _+_, _/_, _%_, _≤_, _<_}
 use native.Mathlib.Omega.{arith}
 use mathlib.Core.Bool.{Bool, true, false, cond, _||_}
 use mathlib.Core.List.{List, [], _∷_, _++_}
@@ -11,7 +11,7 @@ use lib.Seq.{getD-set-same, getD-set-other}
 use lib.Dec.{eqb}
 use lib.Bits.{bitOr}
 use borrow.Author.Tests.{ltb-true, eqb-true, eqb-false}
-use Rattle.order.specs.Bools.{_and_, and-l, and-r}
+use Rattle.order.specs.Bools.{and-l, and-r}
 use Rattle.order.specs.Sets.{bit, some-of}
 use Rattle.order.specs.SetLaws.{bool-ext, bit-or, bit-pow}
 use Rattle.order.specs.Effects.{Effect, names}

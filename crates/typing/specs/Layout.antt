@@ -12,7 +12,7 @@ use Rattle.syntax.specs.Commands.{Cmd, c-num, c-top, c-var, c-pair, c-part, c-f
 use Rattle.syntax.specs.Operands.{ofRoles, typesOf, bindsName}
 use Rattle.syntax.specs.Job.{HostValue, Job}
 
--- the local names of the 3E's, in order
+-- the local names of the 0x3E's, in order
 unfoldable pub newKeys : List (Cmd ℕ) → List ℕ
 unfolding bindsName flatMap
 newKeys l = flatMap bindsName l
@@ -45,7 +45,7 @@ unfoldable pub typingsOf : ℕ → List ℕ → List ℕ → List ℕ → List T
 unfolding zipWith
 typingsOf n ps ts qs = zipWith typing ps ts ++ map (λ v. typing v (2 + n)) qs
 
--- bound variables; the next 3E's entries start at n
+-- bound variables; the next 0x3E's entries start at n
 unfoldable pub boundVars : ℕ → List (Cmd ℕ) → List Typing
 unfolding typingsOf keysEnd ofRoles typesOf bindsName
 boundVars n [] = []

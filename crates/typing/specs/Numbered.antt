@@ -87,7 +87,7 @@ module _ (O : Ops) (var : ℕ → ℕ) (at : ℕ → Option TypeEntry) (of : ℕ
   unfoldable pub fits : ℕ → ℕ → Bool
   fits a t = subIn (O .below) (O .effBelow) most-depth at a t
 
-  -- the limit keys of 3C, in order: the set of their names and the effect so far
+  -- the limit keys of 0x3C, in order: the set of their names and the effect so far
   unfoldable pub keysFrom : List ℕ → Effect → Effect → (Effect → Effect → Result) → Result
   keysFrom [] rs s f = f rs s
   keysFrom (a ∷ ks) rs s f = needLim (at (of a)) (λ q r. keysFrom ks (O .touch r rs) (O .touch q (join (eff a) s)) f)
@@ -147,7 +147,7 @@ unfoldable pub numberAll : Ops → (ℕ → ℕ) → ℕ → List (Cmd ℕ) → 
 numberAll O var e [] σ = whole σ
 numberAll O var e (k ∷ l) σ = onto (numberAt O var σ k) e (λ τ. numberAll O var (suc e) l τ)
 
--- the declared types and the entries of 3E, no expression yet
+-- the declared types and the entries of 0x3E, no expression yet
 unfoldable pub startOf : Job → Sofar
 startOf J = record { entries = J .types ++ keyEntries (length (J .types)) (newKeys (J .cmds)); of = []; effects = [] }
 

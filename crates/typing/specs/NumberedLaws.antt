@@ -146,7 +146,7 @@ module _ (O : Ops) (var : ℕ → ℕ) (E : List TypeEntry) (of : ℕ → ℕ) (
 pub record Inv (J : Job) (e : ℕ) (σ : Sofar) : Type 0 where
   pub count-of : length (σ .of) ≡ e
   pub count-effects : length (σ .effects) ≡ e
-  -- the declared types and the entries of 3E come first
+  -- the declared types and the entries of 0x3E come first
   pub more : List TypeEntry
   pub extended : σ .entries ≡ startOf J .entries ++ more
   pub few : length more ≤ e * most-made
@@ -477,7 +477,7 @@ pub number-end : (O : Ops) (var : ℕ → ℕ) (l : List (Cmd ℕ)) (e : ℕ) �
 unfolding numberAll
 number-end O var l e h σ = ap (λ m. numberAll O var e m σ) (drop-of-length-le l h)
 
--- the keys of 3C need the touch alone
+-- the keys of 0x3C need the touch alone
 pub keys-same : (O P : Ops) → ((q : ℕ) (s : Effect) → O .touch q s ≡ P .touch q s) → (var ver : ℕ → ℕ) (at : ℕ → Option TypeEntry) (of : ℕ → ℕ) (eff : ℕ → Effect)
     → (ks : List ℕ) (n s : Effect) (f : Effect → Effect → Result) → keysFrom O var at of eff ks n s f ≡ keysFrom P ver at of eff ks n s f
 unfolding keysFrom

@@ -235,7 +235,7 @@ module _ (S : Src) {O : Ops} (ag : Agree (upOf S) O) (ts : List TypeEntry) {E : 
   cast : {o : Typed} (g : Effect → Effect → Result) {m n s t : Effect} → m ≡ n → s ≡ t → M o (g n t) → M o (g m s)
   cast {o} g {m} {n} {s} {t} a b x = subst⁻¹ (λ k. M o (g k s)) a (subst⁻¹ (λ u. M o (g n u)) b x)
 
-  -- the limit keys of 3C: n and t are what came before
+  -- the limit keys of 0x3C: n and t are what came before
   by-keys : (ks : List ℕ) → ((a : ℕ) → List·Memᴰ a ks → Op a) → (n t : Effect) → Within N n → Within N t → (f : List ℕ → Effect → Typed) (g : Effect → Effect → Result)
       → ((rs : List ℕ) (s : Effect) → Within N (ofNames rs) → Within N s → M (f rs s) (g (join n (ofNames rs)) (join t s)))
       → M (keysAt tab ks f) (keysFrom O var (getElem? E) of eff ks n t g)

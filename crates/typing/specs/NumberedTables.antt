@@ -94,7 +94,7 @@ parts-ok ds D n l (e-grant q r) h = ok-grant (declared-lt ds q (and-l _ _ (and-l
 pub declared-ok : (ds : List Name) {ts : List TypeEntry} → TypesOk ds ts → TableOk (length ts) (2 + length ds) ts
 declared-ok ds {ts} b = record { each = λ i x e. let l : i ≤ length ts = omega (arith, getElem?-lt ts i x e) in parts-ok ds (length ts) i l x (entry-parts ds b i x e) }
 
--- The entries of 3E
+-- The entries of 0x3E
 
 pub keys-length : (n : ℕ) (rs : List ℕ) → length (keyEntries n rs) ≡ 3 * length rs
 unfolding keyEntries
@@ -108,7 +108,7 @@ three T x y z l = simp append-assoc
 three-length : {A : Type 0} (T : List A) (x y z : A) → length (((T ++ (x ∷ [])) ++ (y ∷ [])) ++ (z ∷ [])) ≡ 3 + length T
 three-length T x y z = omega (arith, length-snoc ((T ++ (x ∷ [])) ++ (y ∷ [])) z, length-snoc (T ++ (x ∷ [])) y, length-snoc T x)
 
--- the table with one 3E's entries more
+-- the table with one 0x3E's entries more
 abbrev pub withKey : List TypeEntry → ℕ → List TypeEntry
 withKey T r = ((T ++ (e-lim 0 r ∷ [])) ++ (e-grant 0 r ∷ [])) ++ (e-pair 0 (length T) (suc (length T)) ∷ [])
 
@@ -131,7 +131,7 @@ table-keys {D} {N} {T} ok p [] h = unfold keyEntries in subst⁻¹ (λ l. TableO
 table-keys {D} {N} {T} ok p (r ∷ rs) h =
     subst⁻¹ (λ l. TableOk D N l) (key-split T r rs) (table-keys (with-key ok p r (h r (List·Memᴰ·head refl))) p rs (λ x m. h x (List·Memᴰ·tail m)))
 
--- the entries of the 3E's with the local names rs stand from n on
+-- the entries of the 0x3E's with the local names rs stand from n on
 pub data KeysAt (E : List TypeEntry) : ℕ → List ℕ → Type 0 where
   at-none : {n : ℕ} → KeysAt E n []
   at-key : {n r : ℕ} {rs : List ℕ} → getElem? E n ≡ some (e-lim 0 r) → getElem? E (suc n) ≡ some (e-grant 0 r) → getElem? E (2 + n) ≡ some (e-pair 0 n (suc n)) → KeysAt E (3 + n) rs

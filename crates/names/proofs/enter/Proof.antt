@@ -8,36 +8,28 @@ use Rattle.names.proofs.enter.Lts as lts
 use Rattle.names.proofs.entry.Reads as entry-reads
 use Rattle.names.proofs.single.Reads as single-reads
 
--- src/lib.rt:85:32
 cast-entry : tie.Need-cast-entry
 cast-entry c = search needs
 
--- src/lib.rt:85:13
 entry-requires : tie.Need-entry-requires
 entry-requires c κs = search needs
 
--- src/lib.rt:86:25
 cast-single : tie.Need-cast-single
 cast-single c = search needs
 
--- src/lib.rt:86:18
 single-requires : tie.Need-single-requires
 single-requires c κs = search needs
 
--- src/lib.rt:86:9
 mul-anc : tie.Need-mul-anc
 mul-anc c = search needs
 
--- src/lib.rt:86:9
 element-write-anc : tie.Need-element-write-anc
 element-write-anc c = search needs
 
--- src/lib.rt:81:1
 returns : tie.Need-returns
 unfolding entered nameOf
 returns c = simp (lt-ltb _ _ (c .before .before .before .if1 .taken), ← c .single .ensures, ← c .before .entry .ensures)
 
--- src/lib.rt:81:1
 returns-2 : tie.Need-returns-2
 unfolding entered nameOf
 returns-2 c = simp (le-ltb _ _ (c .if1 .left))

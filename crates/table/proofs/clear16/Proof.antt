@@ -1,10 +1,10 @@
 use borrow.Author.Needs.{needs}
-use borrow.Author.Fill.{fill-none, fill-more}
+use borrow.Author.Fill.{fill-none}
 use native.Mathlib.Omega.{arith}
-use mathlib.Core.Path.{_≡_, ap, _∙_}
-use mathlib.Core.List.{List, _++_}
-use Prim.Native.Nat.{ℕ, _≤_, _-_}
-use lib.ListN.{length, set, drop, replicate, length-append, length-replicate, length-drop, length-set}
+use mathlib.Core.Path.{_≡_}
+use mathlib.Core.List.{_++_}
+use Prim.Native.Nat.{_≤_, _-_}
+use lib.ListN.{length, drop, replicate, length-set}
 use Rattle.table.proofs.Filling.{fill-all, fill-next}
 use Rattle.table.proofs.clear16.Statement.{statement}
 use Rattle.table.proofs.clear16.Tie as tie
