@@ -86,6 +86,8 @@ unfoldable pub started : ℕ → List ℕ → Option Told
 started n s = ranFrom n (Reading.reading s) (Starting.starting s)
 
 pub record Marked : Type 0 where
+  -- "bit i stands for name i"
+  pub bits : Effects.ofNames (2 ∷ 3 ∷ []) .set ≡ 0x0C
   -- {3} below {2}
   pub below : Effects.effBelow up (Effects.ofNames (3 ∷ [])) (Effects.ofNames (2 ∷ [])) ≡ true
   -- {2} not below {3}
@@ -130,6 +132,7 @@ pub marked : Marked
 unfolding Bools._and_ Bools._or_ Order.onUpper Order.belowIn Order.below Sets.bit Sets.consIf Sets.membersFrom Sets.members Sets.setOf Sets.keep Sets.some-of Sets.all-of Effects.ofNames Effects.names Effects.touch Effects.join Effects.effBelow Effects.maximal Effects.reduced Effects.reduce Effects.drop Effects.raise Types.keyOf Types.rekey Types.depth Types.namesIn Types.entryTree Types.treeIn Types.tree Commands.mapCmd Commands.commands Commands.findOp Commands.opOf Commands.operands Commands.total Commands.width Commands.sectionOf Commands.little Commands.fields Operands.nth Operands.plain Operands.inner Operands.children Operands.typesOf Operands.usesVar Operands.bindsVar Operands.bindsName Job.uppers Job.valueOf Job.sourceOf Reading.declared Reading.isHost Reading.hostName Reading.openName Reading.localName Reading.setOk Reading.nameOk Reading.partsOk Reading.typeOk Reading.unkeyedNumber Reading.hostTypeOk Reading.hostValueOk Reading.rightsOk Reading.cmdOk Reading.written Reading.given Reading.enter Reading.misplaced Reading.full Reading.settle Reading.command Reading.ended Reading.onward Reading.onOp Reading.readFrom Reading.reading Tree.binds Tree.varsOf Tree.namesOf Tree.memB Tree.usesName Tree.addHost Tree.nameCtx Tree.valueCtx Tree.hostCtx Tree.root Tree.count Tree.uses Tree.usedRight Tree.boundBy Tree.bindsNew Tree.parent Tree.scopeIn Tree.ctx Tree.nameIn Tree.inScope Tree.firstBad Tree.orElse Tree.numbered Tree.lowest Tree.treeRefusal Subtype.sameTy Subtype.subTy Subtype.superTy Least.with Least.wantNum Least.wantPair Least.wantCell Least.wantFn Least.wantLim Least.wantGrant Least.require Least.isUpper Least.typeIn Least.varType Least.ofVar Least.keysAt Least.typeAt Least.get Least.extend Least.typesTo Least.types Least.typeOf Least.firstUntyped Verdict.unless Verdict.within Verdict.judged Verdict.judge Verdict.judgeRead Verdict.verdictOf Keys.enabled Keys.upto Keys.narrow Keys.add Step.room Step.touch Step.touchAll Step.settle Step.asNum Step.asPair Step.asFn Step.asCell Step.asLim Step.asGrant Step.found Step.bare Step.one Step.two Step.actPair Step.partOf Step.actPart Step.actFn Step.actApp Step.actNew Step.actAsg Step.actRead Step.sumN Step.actSum Step.branch Step.actTest Step.limitKeys Step.keysOf Step.actLim Step.actGrant Step.makeKey Step.actNewkey Step.actAssoc Operands.evaluated Step.push Step.act Step.seekIn Step.seekAt Step.seek Step.variable Step.enterAt Step.enterCmd Step.receive Step.handTo Step.planOn Step.plan Step.step Room.doneAt Room.isDone Start.bindTo Start.addName Start.addNames Start.named Start.hostValue Start.hostCell Start.addValues Start.keyNamed Start.valued Start.startOf Calls.turn Calls.run Calls.call Calls.calls Lines.decimalIn Lines.decimal Lines.hexDigit Lines.hex Lines.w-refused Lines.w-at Lines.w-accepted Lines.w-done Lines.w-spent Lines.w-no-room Lines.w-number Lines.w-pair Lines.w-cell Lines.w-function Lines.w-limit Lines.w-grant Lines.space Lines.line Lines.typeKind Lines.valueKind Lines.handed Lines.refusedLine Lines.acceptedLine Lines.ranLine Lines.ranOf Lines.runLine Lines.runRead Lines.reported Lines.deskOf Lines.printed flatMap Jobs.example Jobs.cellsFrom Jobs.nested Jobs.unkeyedRead Jobs.limitedRead Jobs.everyCommand Jobs.unscoped isRead told ranFrom started Loading.unless Loading.inTree Loading.loading Starting.startLoaded Starting.starting Tree.predecessor Types.byType Types.onNum Types.onPair Types.onCell Types.onFn Types.onLim Types.onGrant Effects.setNames Effects.setTouch Effects.setBelow Effects.setReduced Effects.setReduce Effects.setDrop Effects.setRaise
 marked =
     record {
+      bits = refl;
       below = refl;
       not-below = refl;
       reduces = refl;

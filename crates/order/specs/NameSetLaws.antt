@@ -126,7 +126,7 @@ join-cases s t {n} m = at (name-bit (bitOr s t) m .1) (or→ (bit s n) (bit t n)
 
 -- The order
 
--- an effect whose names are all names of another
+-- a set whose names are all names of another
 pub eff-sub : {up : List ℕ} {s t : ℕ} → ((n : ℕ) → List·Memᴰ n (setNames s) → List·Memᴰ n (setNames t)) → SetBelow up s t
 eff-sub f = record { each = λ n m. (n, f n m, here) }
 
@@ -158,7 +158,7 @@ eff-join-mono {s′ = s′} {t′ = t′} p q = eff-join (eff-trans p (join-uppe
 pub touch-upper : {up : List ℕ} (q : ℕ) (s : ℕ) → SetBelow up s (setTouch q s)
 touch-upper q s = eff-sub (λ n m. touch-old q s m)
 
--- a touched name that is below some name of the upper effect
+-- a touched name that is below some name of the upper set
 pub eff-touch : {up : List ℕ} {s t : ℕ} {p m : ℕ} → List·Memᴰ m (setNames t) → Below up p m → SetBelow up s t → SetBelow up (setTouch p s) t
 eff-touch {up} {s} {t} {p} {m} w b q = record { each = λ n k. at n (touch-cases p s k) }
   where

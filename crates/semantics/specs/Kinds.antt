@@ -33,9 +33,9 @@ pub data OfAll : List Ty → List Value → Type 0 where
   of-cons : {A : Ty} {v : Value} {As : List Ty} {vs : List Value} → Of A (v .kind) → OfAll As vs → OfAll (A ∷ As) (v ∷ vs)
 
 -- "names aside": 0x3E's key is a limit key of another name than r's upper name; or 0x32's variable is not bound, which is refusal 10
-pub data OtherName (S : Src) (ty : ℕ → Ty) : Cmd Ty → Type 0 where
-  unbound : {x : ℕ} → varType S x ≡ none → OtherName S ty (c-var x)
-  other-name : {x r a b q u : ℕ} {T : Ty} → ty a ≡ lim q u → isUpper (getElem? (upOf S) r) u ≡ false → OtherName S ty (c-newkey x r a b T)
+pub data Aside (S : Src) (ty : ℕ → Ty) : Cmd Ty → Type 0 where
+  unbound : {x : ℕ} → varType S x ≡ none → Aside S ty (c-var x)
+  other-name : {x r a b q u : ℕ} {T : Ty} → ty a ≡ lim q u → isUpper (getElem? (upOf S) r) u ≡ false → Aside S ty (c-newkey x r a b T)
 
 no-number : {T : Ty} {e : Effect} {n : ℕ} {A : Type 0} → typed T e ≡ untyped n → A
 no-number h = let z : _≡_ {A = ℕ} 0 1 = cc in absurd (omega arith)
@@ -128,7 +128,7 @@ module _ (S : Src) (ty : ℕ → Ty) (ef : ℕ → Effect) (s : Store) where
   keys-is (a ∷ ks) (of-cons k o) h f g e = lim-is s k (and-l _ _ h) _ (λ q r z w. keys-is ks o (and-r _ _ h) _ (λ rs t x. g _ _ x) w) e
 
   -- the theorem
-  pub wrong-is-11 : (k : Cmd Ty) {h : List Value} → OfAll (map ty (evaluated k)) h → suit (wantsOf k (length h) .uses) h s ≡ true → typeAt S tab k ≡ untyped 11 → OtherName S ty k
+  pub wrong-is-11 : (k : Cmd Ty) {h : List Value} → OfAll (map ty (evaluated k)) h → suit (wantsOf k (length h) .uses) h s ≡ true → typeAt S tab k ≡ untyped 11 → Aside S ty k
   unfolding wantsOf suit evaluated typeAt with
   wrong-is-11 (c-num n) o a e = no-number e
   wrong-is-11 c-top o a e = no-number e

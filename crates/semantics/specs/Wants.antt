@@ -1,5 +1,5 @@
 -- What an act wants of its operands, how it uses them and which places it needs: document 01's list, one row a command, apart from the step; and from it when a step is stuck,
--- denied or without room. Shared with the step are which operands are evaluated before an act and how a variable is looked up.
+-- denied or without room. Shared with the step are which operands are evaluated before an act, how a variable is looked up, which keys are enabled, and the limits of room.
 use mathlib.Core.Path.{_≡_}
 use Prim.Native.Nat.{ℕ, zero, suc}
 use mathlib.Core.Bool.{Bool, true, false, cond, not}

@@ -93,7 +93,7 @@ mutual
     -- subsumption
     h-sub : {Γ : List Entry} {e : ℕ} {A B : Ty} {s t : Effect} → Has S Γ e A s → Sub (upOf S) A B → ScopedType Γ B → EffBelow (upOf S) s t → ScopedEffect Γ t → Has S Γ e B t
 
-  -- the limit keys of 0x3C: their names, and the effect of working them out and touching them
+  -- the limit keys of 0x3C: their names, and the effect of evaluating and touching them
   pub data HasKeys (S : Src) : List Entry → List ℕ → List ℕ → Effect → Type 0 where
     k-nil : {Γ : List Entry} → HasKeys S Γ [] [] pure
     k-cons : {Γ : List Entry} {a q r : ℕ} {ks rs : List ℕ} {s t : Effect} → Has S Γ a (lim q r) s → HasKeys S Γ ks rs t → HasKeys S Γ (a ∷ ks) (r ∷ rs) (touch q (join s t))
