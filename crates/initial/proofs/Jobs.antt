@@ -20,7 +20,7 @@ use Rattle.store.specs.Tables.{listOf, capped}
 use Rattle.initial.specs.Entries.{keyIn, namedIn, NamesEntered, valuesFrom, valuedIn, ValuesEntered}
 use Rattle.initial.specs.Empty.{noJob}
 use Rattle.initial.specs.Begun.{wordSource, isJob, sourceIn, Begun}
-use Rattle.initial.specs.declared.Started.{Started}
+use Rattle.initial.specs.declared.Initial.{Initial}
 
 -- a count that is within its places
 pub capped-le : (n most : ℕ) → n ≤ most → capped n most ≡ n
@@ -61,7 +61,7 @@ predecessor-none n e = rw e
 
 -- what the passes over names, host values and rights give together
 pub begun :
-    (names : List ℕ) (n : ℕ) (types values : List ℕ) (m rights cmds : ℕ) (of bound : List ℕ) (r : Started) → n ≤ 62 → m ≤ 64 → r .nbindings ≡ r .nkeys - 2 + m → r .root ≡ predecessor cmds →
+    (names : List ℕ) (n : ℕ) (types values : List ℕ) (m rights cmds : ℕ) (of bound : List ℕ) (r : Initial) → n ≤ 62 → m ≤ 64 → r .nbindings ≡ r .nkeys - 2 + m → r .root ≡ predecessor cmds →
     NamesEntered (namesIn names n) (r .keys) of bound (r .nkeys) (n + 2) →
     ValuesEntered (keyIn of (n + 2)) types values m (r .nkeys - 2) bound (r .cells) (r .bindings) (r .ncells) →
     keysIn (r .on) ≡ setOf (map (keyIn of (n + 2)) (effects.names (effects.ofWord rights))) → Begun (wordSource names n types values m rights cmds) r
@@ -93,7 +93,7 @@ begun names n types values m rights cmds of bound r hn hm eb er sn sv so =
         ∙ ap (λ (f : ℕ → ℕ). addValues f 0 (valuesFrom types values 0 m) (record { cells = []; bindings = listOf linkIn bound (r .nkeys - 2) })) key
         ∙ ap (λ (s : Named). addValues (keyNamed S) 0 (valuesFrom types values 0 m) (record { cells = []; bindings = s .bindings })) all
 
-module _ (names : List ℕ) (n : ℕ) (types values : List ℕ) (m rights cmds : ℕ) (r : Started) where
+module _ (names : List ℕ) (n : ℕ) (types values : List ℕ) (m rights cmds : ℕ) (r : Initial) where
   pub begun-job : isJob n m cmds ≡ true → Begun (wordSource names n types values m rights cmds) r → Begun (sourceIn names n types values m rights cmds) r
   unfolding sourceIn
   begun-job e b = rw e b

@@ -18,7 +18,7 @@ use Rattle.store.specs.Words.{upIn, cellIn, linkIn}
 use Rattle.store.specs.Tables.{listOf}
 use Rattle.initial.specs.Entries.{valuesFrom}
 use Rattle.initial.specs.Empty.{noJob}
-use Rattle.initial.specs.declared.Started.{Started}
+use Rattle.initial.specs.declared.Initial.{Initial}
 
 -- what the start looks at in a job, by its words: its names, its host values, its rights, and how many expressions it has; which they are is not looked at
 unfoldable pub wordSource : List ℕ → ℕ → List ℕ → List ℕ → ℕ → ℕ → ℕ → Src
@@ -34,7 +34,7 @@ unfoldable pub sourceIn : List ℕ → ℕ → List ℕ → List ℕ → ℕ →
 sourceIn names nnames types values nvalues rights cmds = cond (isJob nnames nvalues cmds) (wordSource names nnames types values nvalues rights cmds) noJob
 
 -- the tables are those of the start of S, and the counts are within the rooms
-pub record Begun (S : Src) (r : Started) : Type 0 where
+pub record Begun (S : Src) (r : Initial) : Type 0 where
   pub keys : listOf upIn (r .keys) (r .nkeys) ≡ named S .keys
   pub cells : listOf cellIn (r .cells) (r .ncells) ≡ valued S .cells
   pub bindings : listOf linkIn (r .bindings) (r .nbindings) ≡ valued S .bindings

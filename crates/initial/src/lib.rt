@@ -18,7 +18,8 @@ use store::Kind;
 use store::Value;
 use table::Key;
 
-pub struct Started {
+// The tables, how many entries each has, the enabled keys, and the expression to enter.
+pub struct Initial {
     pub keys: [u8; 128],
     pub cells: [u64; 256],
     pub bindings: [u64; 2048],
@@ -230,7 +231,7 @@ fn entered(
     nvalues: usize,
     rights: u64,
     cmds: usize,
-) -> Started
+) -> Initial
     requires { ⌜ (nnames ≤ 62) × (nvalues ≤ 64) × (cmds ≤ 512) ⌝ }
     ensures { λ r. ⌜ Begun (wordSource (now (names .entry)) nnames (now (types .entry)) (now (values .entry)) nvalues rights cmds) r ⌝ }
 {
@@ -251,7 +252,7 @@ fn entered(
         &mut bindings,
     );
     let on = enabled_keys(&of, nnames + 2, nkeys, rights);
-    Started {
+    Initial {
         keys: keys,
         cells: cells,
         bindings: bindings,
@@ -279,8 +280,8 @@ fn is_job(nnames: usize, nvalues: usize, cmds: usize) -> bool
     cmds <= 512
 }
 
-// The start of the job that the words hold. Where the counts are no job's, nothing is entered and nothing is enabled.
-pub fn begin(
+// The tables at the start of the job that the words hold. Where the counts are no job's, nothing is entered and nothing is enabled.
+pub fn tables(
     names: &[u16],
     nnames: usize,
     types: &[u64],
@@ -288,7 +289,7 @@ pub fn begin(
     nvalues: usize,
     rights: u64,
     cmds: usize,
-) -> Started
+) -> Initial
     ensures { λ r. ⌜ Begun (sourceIn (now (names .entry)) nnames (now (types .entry)) (now (values .entry)) nvalues rights cmds) r ⌝ }
 {
     if is_job(nnames, nvalues, cmds) {

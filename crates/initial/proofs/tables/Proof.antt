@@ -1,8 +1,8 @@
 use mathlib.Core.Path.{sym, _∙_}
 use borrow.Author.Needs.{needs}
 use Rattle.initial.proofs.Jobs.{job-few, begun-job, begun-none}
-use Rattle.initial.proofs.begin.Statement.{statement}
-use Rattle.initial.proofs.begin.Tie as tie
+use Rattle.initial.proofs.tables.Statement.{statement}
+use Rattle.initial.proofs.tables.Tie as tie
 
 is-job-requires : tie.Need-is-job-requires
 is-job-requires c κs = search needs
@@ -19,5 +19,5 @@ entered-requires-2 c κs = search needs
 returns-2 : tie.Need-returns-2
 returns-2 c = begun-none _ _ _ _ _ _ _ _ (sym (c .before .before .is-job .ensures) ∙ c .before .if1 .left) (c .entered2 .ensures)
 
-pub begin-spec : {M : Type 1} → statement M
-begin-spec = tie.close (tie.spec is-job-requires entered-requires returns entered-requires-2 returns-2)
+pub tables-spec : {M : Type 1} → statement M
+tables-spec = tie.close (tie.spec is-job-requires entered-requires returns entered-requires-2 returns-2)
