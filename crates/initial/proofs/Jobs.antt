@@ -1,6 +1,6 @@
 -- The passes over names, host values and rights give the start of what the words hold.
 use Prim.Native.Nat.{ℕ, _+_, _-_, _<_, _≤_}
-use mathlib.Core.Path.{_≡_, refl, ap, sym, _∙_}
+use mathlib.Core.Path.{_≡_, refl, ap, sym, _∙_, subst}
 use mathlib.Core.Bool.{Bool, true, false, cond}
 use mathlib.Core.List.{List, [], map}
 use native.Mathlib.Omega.{arith}
@@ -20,7 +20,7 @@ use Rattle.store.specs.Tables.{listOf, capped}
 use Rattle.initial.specs.Entries.{keyIn, namedIn, NamesEntered, valuesFrom, valuedIn, ValuesEntered}
 use Rattle.initial.specs.Empty.{noJob}
 use Rattle.initial.specs.Begun.{wordSource, isJob, sourceIn, Begun}
-use Rattle.initial.specs.declared.Started.{Started}
+use Rattle.initial.specs.declared.Initial.{Initial}
 
 -- a count that is within its places
 pub capped-le : (n most : ℕ) → n ≤ most → capped n most ≡ n
@@ -61,7 +61,7 @@ predecessor-none n e = rw e
 
 -- what the passes over names, host values and rights give together
 pub begun :
-    (names : List ℕ) (n : ℕ) (types values : List ℕ) (m rights cmds : ℕ) (of bound : List ℕ) (r : Started) → n ≤ 62 → m ≤ 64 → r .nbindings ≡ r .nkeys - 2 + m → r .root ≡ predecessor cmds →
+    (names : List ℕ) (n : ℕ) (types values : List ℕ) (m rights cmds : ℕ) (of bound : List ℕ) (r : Initial) → n ≤ 62 → m ≤ 64 → r .nbindings ≡ r .nkeys - 2 + m → r .root ≡ predecessor cmds →
     NamesEntered (namesIn names n) (r .keys) of bound (r .nkeys) (n + 2) →
     ValuesEntered (keyIn of (n + 2)) types values m (r .nkeys - 2) bound (r .cells) (r .bindings) (r .ncells) →
     keysIn (r .on) ≡ setOf (map (keyIn of (n + 2)) (effects.names (effects.ofWord rights))) → Begun (wordSource names n types values m rights cmds) r
@@ -93,11 +93,26 @@ begun names n types values m rights cmds of bound r hn hm eb er sn sv so =
         ∙ ap (λ (f : ℕ → ℕ). addValues f 0 (valuesFrom types values 0 m) (record { cells = []; bindings = listOf linkIn bound (r .nkeys - 2) })) key
         ∙ ap (λ (s : Named). addValues (keyNamed S) 0 (valuesFrom types values 0 m) (record { cells = []; bindings = s .bindings })) all
 
-module _ (names : List ℕ) (n : ℕ) (types values : List ℕ) (m rights cmds : ℕ) (r : Started) where
-  pub begun-job : isJob n m cmds ≡ true → Begun (wordSource names n types values m rights cmds) r → Begun (sourceIn names n types values m rights cmds) r
-  unfolding sourceIn
-  begun-job e b = rw e b
+-- the counts as they are where they can be a job's, else those of no job
+pub as-counted : (j : Bool) (x : ℕ) → j ≡ true → x ≡ cond j x 0
+as-counted j x e = rw e refl
 
-  pub begun-none : isJob n m cmds ≡ false → Begun (wordSource names 0 types values 0 0 0) r → Begun (sourceIn names n types values m rights cmds) r
-  unfolding sourceIn wordSource noJob namesIn valuesFrom
-  begun-none e b = rw e b
+pub not-counted : (j : Bool) (x : ℕ) → j ≡ false → 0 ≡ cond j x 0
+not-counted j x e = rw e refl
+
+pub counted-few : (n m k : ℕ) {a b c : ℕ} → a ≡ cond (isJob n m k) n 0 → b ≡ cond (isJob n m k) m 0 → c ≡ cond (isJob n m k) k 0 → (a ≤ 62) × (b ≤ 64) × (c ≤ 512)
+counted-few n m k {a} {b} {c} ea eb ec = at (isJob n m k) refl ea eb ec
+  where
+    at : (j : Bool) → isJob n m k ≡ j → a ≡ cond j n 0 → b ≡ cond j m 0 → c ≡ cond j k 0 → (a ≤ 62) × (b ≤ 64) × (c ≤ 512)
+    at true h x y z = let f = job-few n m k h in (omega (arith, f .0), omega (arith, f .1), omega (arith, f .2))
+    at false h x y z = (omega arith, omega arith, omega arith)
+
+pub counted-start : (names : List ℕ) (n : ℕ) (types values : List ℕ) (m rights k : ℕ) {r : Initial} {a b s c : ℕ}
+    → a ≡ cond (isJob n m k) n 0 → b ≡ cond (isJob n m k) m 0 → s ≡ cond (isJob n m k) rights 0 → c ≡ cond (isJob n m k) k 0
+    → Begun (wordSource names a types values b s c) r → Begun (sourceIn names n types values m rights k) r
+unfolding sourceIn wordSource noJob namesIn valuesFrom
+counted-start names n types values m rights k {r} {a} {b} {s} {c} ea eb es ec g = at (isJob n m k) ea eb es ec
+  where
+    at : (j : Bool) → a ≡ cond j n 0 → b ≡ cond j m 0 → s ≡ cond j rights 0 → c ≡ cond j k 0 → Begun (cond j (wordSource names n types values m rights k) noJob) r
+    at true x y z w = subst (λ (q : ℕ × ℕ × ℕ × ℕ). Begun (wordSource names (q .0) types values (q .1) (q .2) (q .3)) r) (λ i. (x i, y i, z i, w i)) g
+    at false x y z w = subst (λ (q : ℕ × ℕ × ℕ × ℕ). Begun (wordSource names (q .0) types values (q .1) (q .2) (q .3)) r) (λ i. (x i, y i, z i, w i)) g

@@ -13,7 +13,7 @@ use Rattle.store.specs.Words.{linkIn}
 use Rattle.store.proofs.Laws.{list-length}
 use Rattle.machine.specs.declared.Control.the-variants.{Enter}
 use Rattle.machine.specs.View.{view, tables}
-use Rattle.initial.specs.declared.Started.{Started}
+use Rattle.initial.specs.declared.Initial.{Initial}
 use Rattle.initial.specs.Begun.{Begun}
 use Rattle.initial.proofs.Jobs.{capped-le}
 
@@ -25,7 +25,7 @@ same-parts : (f : List Frame) (ps : List Two) (fs : List Closure) (e e' : ℕ) (
     → e ≡ e' → n ≡ n' → o ≡ o' → cs ≡ cs' → ks ≡ ks' → bs ≡ bs' → parts (enter e) n o f cs ks ps fs bs ≡ parts (enter e') n' o' f cs' ks' ps fs bs'
 same-parts f ps fs e e' n n' o o' cs cs' ks ks' bs bs' a b c d g h = cc
 
-pub started : (S : Src) (b : Started) → Begun S b → (fr pa fu : List ℕ)
+pub started : (S : Src) (b : Initial) → Begun S b → (fr pa fu : List ℕ)
     → view
     (record { now = record { control = Enter (record { 0 = b .root }); env = b .nbindings; on = b .on }; frames = 0; cells = b .ncells; keys = b .nkeys; pairs = 0; functions = 0; bindings = b .nbindings })
     (tables fr (b .cells) (b .keys) pa fu (b .bindings))

@@ -1,5 +1,5 @@
 // The start of a job: it is loaded, and its machine is built. Types are not looked at.
-use initial::Started;
+use initial::Initial;
 use job::Answer;
 use job::Shape;
 use machine::Control;
@@ -33,7 +33,7 @@ pub struct Opened {
 }
 
 // The machine of the tables of a start: it enters the last expression.
-fn machine_of(b: Started) -> Machine
+fn machine_of(b: Initial) -> Machine
     ensures { λ r. ⌜ ((S : Src) → Begun S b → seen r ≡ startOf S) ⌝ }
 {
     let on = b.on;
@@ -73,7 +73,7 @@ fn machine_of(b: Started) -> Machine
 pub fn built(g: Shape, names: &[u16], types: &[u64], values: &[u64]) -> Machine
     ensures { λ r. ⌜ seen r ≡ builtFrom g (now (names .entry)) (now (types .entry)) (now (values .entry)) ⌝ }
 {
-    let b = initial::begin(names, g.names, types, values, g.values, g.rights, g.cmds);
+    let b = initial::tables(names, g.names, types, values, g.values, g.rights, g.cmds);
     machine_of(b)
 }
 

@@ -4,14 +4,17 @@ use borrow.Author.Needs.{needs}
 use Rattle.initial.proofs.enter_name.Statement.{statement}
 use Rattle.initial.proofs.enter_name.Tie as tie
 
+cast-n : tie.Need-cast-n
+cast-n c = search needs
+
 at16-requires : tie.Need-at16-requires
 at16-requires c κs = search needs
 
-cast-k : tie.Need-cast-k
-cast-k c = search needs
+cast-i : tie.Need-cast-i
+cast-i c = search needs
 
-cast-key-of : tie.Need-cast-key-of
-cast-key-of c = search needs
+cast-a : tie.Need-cast-a
+cast-a c = search needs
 
 key-of-requires : tie.Need-key-of-requires
 key-of-requires c κs = search needs
@@ -24,9 +27,6 @@ put-key-requires c κs = search needs
 
 sub-put-name : tie.Need-sub-put-name
 sub-put-name c = search needs
-
-cast-put-name : tie.Need-cast-put-name
-cast-put-name c = search needs
 
 sub-put-name-2 : tie.Need-sub-put-name-2
 sub-put-name-2 c = search needs
@@ -47,20 +47,4 @@ returns-2 : tie.Need-returns-2
 returns-2 c = local-entered _ _ _ _ [] _ [] _ _ _ (c .before .before .before .at16 .ensures) (search needs) (search needs) (c .before .before .if1 .left) (c .put-key2 .ensures)
 
 pub enter-name-spec : {M : Type 1} → statement M
-enter-name-spec =
-    tie.close
-    (tie.spec
-    at16-requires
-    cast-k
-    cast-key-of
-    key-of-requires
-    put-up-requires
-    put-key-requires
-    sub-put-name
-    cast-put-name
-    sub-put-name-2
-    put-name-requires
-    add-result
-    returns
-    put-key-requires-2
-    returns-2)
+enter-name-spec = tie.close (tie.spec cast-n at16-requires cast-i cast-a key-of-requires put-up-requires put-key-requires sub-put-name sub-put-name-2 put-name-requires add-result returns put-key-requires-2 returns-2)

@@ -27,8 +27,11 @@ put-key-requires-2 c κs = search needs
 loop-holds : tie.Need-loop-holds Inv-loop μ-loop
 loop-holds c = (first-two _ _ _ _ _ _ _ (c .before .before .before .before .before .before .put-up .ensures .wrote (search needs)) (c .before .before .before .before .put-up2 .ensures .wrote (search needs)) (c .before .before .put-key .ensures) (c .put-key2 .ensures) _, search needs)
 
-add-enter-name : tie.Need-add-enter-name Inv-loop μ-loop
-add-enter-name c = search needs
+add-i : tie.Need-add-i Inv-loop μ-loop
+add-i c = search needs
+
+cast-i : tie.Need-cast-i Inv-loop μ-loop
+cast-i c = search needs
 
 enter-name-requires : tie.Need-enter-name-requires Inv-loop μ-loop
 enter-name-requires c κs = search needs
@@ -56,7 +59,8 @@ enter-names-spec =
     put-key-requires
     put-key-requires-2
     loop-holds
-    add-enter-name
+    add-i
+    cast-i
     enter-name-requires
     add-k
     loop-less
