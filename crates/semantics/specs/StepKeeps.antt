@@ -1,0 +1,245 @@
+-- What a step keeps, of every machine and every code. It stays within its room (`room-kept`); and it keeps every cell's value, unless an operand of its act is written
+-- (`unwritten-kept`). Which operands are written is read off document 01's list (`Wants`), apart from the step.
+use mathlib.Core.Path.{_≡_, refl, sym}
+use Prim.Native.Nat.{ℕ, suc, _≤_}
+use native.Mathlib.Omega.{arith}
+use mathlib.Core.Bool.{Bool, true, false, cond, false≢true}
+use mathlib.Core.List.{List, [], _∷_, _++_}
+use mathlib.Core.Option.{Option, none, some}
+use lib.ListN.{length, length-append, length-set, getElem?}
+use lib.Dec.{ltb}
+use borrow.Author.Tests.{ltb-true}
+use Rattle.order.specs.Bools.{_or_, and-l, and-r}
+use Rattle.order.specs.OrderLaws.{getElem?-append}
+use Rattle.syntax.specs.Commands.{Cmd, c-num, c-top, c-var, c-pair, c-part, c-fn, c-app, c-new, c-asg, c-read, c-sum, c-test, c-lim, c-grant, c-newkey, c-assoc}
+use Rattle.syntax.specs.Operands.{evaluated}
+use Rattle.semantics.specs.Machine.{Value, Frame, Control, enter, hand, Store, Machine, most-cells, most-keys, most-pairs, most-functions, most-frames, most-bindings}
+use Rattle.semantics.specs.Keys.{enabled}
+use Rattle.semantics.specs.Step.{Out, o-step, o-denied, Plan, p-done, p-wrong, p-try, room, touch, touchAll, settle, asNum, asPair, asFn, asCell, asLim, asGrant, found, bare, one, two}
+use Rattle.semantics.specs.Step.{seek, variable, actPair, actPart, actFn, actApp, actNew, actAsg, actRead, actSum, actTest, limitKeys, actLim, actGrant, makeKey, actNewkey, actAssoc}
+use Rattle.semantics.specs.Step.{resume, push, act, enterAt, enterCmd, receive, handTo, planOn, plan, step}
+use Rattle.semantics.specs.Wants.{Usage, read, write, read-and-write, Use, wantsOf}
+
+-- the machine after a plan, if its room is found free, is one of P
+data Ends (P : Machine → Type 0) : Plan → Type 0 where
+  en-done : Ends P p-done
+  en-wrong : Ends P p-wrong
+  en-try : {ks : List ℕ} {free : Bool} {m n : Machine} → (free ≡ true → P n) → Ends P (p-try ks free m n)
+
+module _ {P : Machine → Type 0} where
+  settle-ends : {p : Plan} {n : Machine} → Ends P p → settle p ≡ o-step n → P n
+  unfolding settle touchAll touch room
+  settle-ends en-done e = let z : _≡_ {A = ℕ} 0 1 = cc in absurd (omega arith)
+  settle-ends en-wrong e = let z : _≡_ {A = ℕ} 0 1 = cc in absurd (omega arith)
+  settle-ends {n = n} (en-try {ks = ks} {free = free} {m = m} {n = x} h) e = all ks e
+    where
+      last : (b : Bool) → (b ≡ true → P x) → room b (o-step x) ≡ o-step n → P n
+      last true g e = let z : x ≡ n = cc in rw (sym z) (g refl)
+      last false g e = let z : _≡_ {A = ℕ} 0 1 = cc in absurd (omega arith)
+
+      at : (b : Bool) (o : Out) → (o ≡ o-step n → P n) → cond b o o-denied ≡ o-step n → P n
+      at true o g e = g e
+      at false o g e = let z : _≡_ {A = ℕ} 0 1 = cc in absurd (omega arith)
+
+      all : (ks : List ℕ) → touchAll ks m (room free (o-step x)) ≡ o-step n → P n
+      all [] e = last free h e
+      all (k ∷ ks) e = at (enabled (m .store .keys) (m .thread .on) k) _ (all ks) e
+
+  found-ends : {A : Type 0} (o : Option A) (f : A → Plan) → ((a : A) → Ends P (f a)) → Ends P (found o f)
+  unfolding found
+  found-ends none f g = en-wrong
+  found-ends (some a) f g = g a
+
+  bare-ends : (h : List Value) {p : Plan} → Ends P p → Ends P (bare h p)
+  unfolding bare
+  bare-ends [] g = g
+  bare-ends (v ∷ h) g = en-wrong
+
+  one-ends : (h : List Value) (f : Value → Plan) → ((v : Value) → Ends P (f v)) → Ends P (one h f)
+  unfolding one
+  one-ends [] f g = en-wrong
+  one-ends (v ∷ []) f g = g v
+  one-ends (v ∷ w ∷ h) f g = en-wrong
+
+  two-ends : (h : List Value) (f : Value → Value → Plan) → ((v w : Value) → Ends P (f v w)) → Ends P (two h f)
+  unfolding two
+  two-ends [] f g = en-wrong
+  two-ends (v ∷ []) f g = en-wrong
+  two-ends (v ∷ w ∷ []) f g = g v w
+  two-ends (v ∷ w ∷ x ∷ h) f g = en-wrong
+
+  limits-end : (vs : List Value) (f : List ℕ → Plan) → ((js : List ℕ) → Ends P (f js)) → Ends P (limitKeys vs f)
+  unfolding limitKeys
+  limits-end [] f g = g []
+  limits-end (v ∷ vs) f g = found-ends (asLim (v .kind)) _ (λ j. limits-end vs _ (λ js. g (j ∷ js)))
+
+-- Room
+
+-- frames and a store that are within their room
+pub record Within (fs : List Frame) (s : Store) : Type 0 where
+  pub cells : length (s .cells) ≤ most-cells
+  pub keys : length (s .keys) ≤ most-keys
+  pub pairs : length (s .pairs) ≤ most-pairs
+  pub functions : length (s .functions) ≤ most-functions
+  pub bindings : length (s .bindings) ≤ most-bindings
+  pub frames : length fs ≤ most-frames
+
+abbrev pub Fits : Machine → Type 0
+Fits m = Within (m .thread .frames) (m .store)
+
+-- one entry more, where there is room for it
+one-more : {A : Type 0} (l : List A) (x : A) (most : ℕ) → ltb (length l) most ≡ true → length (l ++ (x ∷ [])) ≤ most
+one-more l x most e = omega (arith, length-append l (x ∷ []), ltb-true (length l) most e)
+
+-- two entries more
+two-more : {A : Type 0} (l : List A) (x y : A) (most : ℕ) → ltb (suc (length l)) most ≡ true → length (l ++ (x ∷ y ∷ [])) ≤ most
+two-more l x y most e = omega (arith, length-append l (x ∷ y ∷ []), ltb-true (suc (length l)) most e)
+
+module _ {T : Type 0} where
+  act-fits : (k : Cmd T) (h : List Value) (m : Machine) → Fits m → Ends Fits (act k h m)
+  unfolding act actPair actPart actFn actApp actNew actAsg actRead actSum actTest actLim actGrant makeKey actNewkey actAssoc variable
+  act-fits (c-num n) h m r = bare-ends h (en-try (λ e. r))
+  act-fits c-top h m r = bare-ends h (en-try (λ e. r))
+  act-fits (c-var x) h m r = bare-ends h (found-ends (seek most-bindings (m .store .bindings) (m .thread .env) x) _ (λ v. en-try (λ e. r)))
+  act-fits (c-pair a b) h m r =
+      two-ends h _ (λ v w. en-try (λ e. record { cells = r .cells; keys = r .keys; pairs = one-more (m .store .pairs) _ most-pairs e; functions = r .functions; bindings = r .bindings; frames = r .frames }))
+  act-fits (c-part a i) h m r = one-ends h _ (λ v. found-ends (asPair (v .kind)) _ (λ p. found-ends (getElem? (m .store .pairs) p) _ (λ t. en-try (λ e. r))))
+  act-fits (c-fn x t b) h m r =
+      bare-ends h (en-try (λ e. record { cells = r .cells; keys = r .keys; pairs = r .pairs; functions = one-more (m .store .functions) _ most-functions e; bindings = r .bindings; frames = r .frames }))
+  act-fits (c-app a b) h m r =
+      two-ends h _ (λ v w. found-ends (asFn (v .kind)) _ (λ f. found-ends (getElem? (m .store .functions) f) _ (λ c.
+      en-try (λ e. record { cells = r .cells; keys = r .keys; pairs = r .pairs; functions = r .functions; bindings = one-more (m .store .bindings) _ most-bindings e; frames = r .frames }))))
+  act-fits (c-new t a) h m r =
+      one-ends h _ (λ v. en-try (λ e. record { cells = one-more (m .store .cells) v most-cells e; keys = r .keys; pairs = r .pairs; functions = r .functions; bindings = r .bindings; frames = r .frames }))
+  act-fits (c-asg a b) h m r =
+      two-ends h _ (λ v w. found-ends (asCell (v .kind)) _ (λ c. found-ends (getElem? (m .store .cells) c) _ (λ old.
+      en-try (λ e. record { cells = omega (arith, length-set (m .store .cells) c w, r .cells); keys = r .keys; pairs = r .pairs; functions = r .functions; bindings = r .bindings; frames = r .frames }))))
+  act-fits (c-read a) h m r = one-ends h _ (λ v. found-ends (asCell (v .kind)) _ (λ c. found-ends (getElem? (m .store .cells) c) _ (λ w. en-try (λ e. r))))
+  act-fits (c-sum i a b) h m r = two-ends h _ (λ v w. found-ends (asNum (v .kind)) _ (λ x. found-ends (asNum (w .kind)) _ (λ y. en-try (λ e. r))))
+  act-fits (c-test a b c t) h m r = one-ends h _ (λ v. found-ends (asNum (v .kind)) _ (λ n. en-try (λ e. r)))
+  act-fits (c-lim ks b) h m r = limits-end h _ (λ js. en-try (λ e. r))
+  act-fits (c-grant a b) h m r = one-ends h _ (λ v. found-ends (asGrant (v .kind)) _ (λ j. en-try (λ e. r)))
+  act-fits (c-newkey x n a b t) h m r =
+      one-ends h _ (λ v. found-ends (asLim (v .kind)) _ (λ j. en-try (λ e. record {
+        cells = r .cells;
+        keys = one-more (m .store .keys) _ most-keys (and-l _ _ (and-l _ _ e));
+        pairs = one-more (m .store .pairs) _ most-pairs (and-r _ _ (and-l _ _ e));
+        functions = r .functions;
+        bindings = two-more (m .store .bindings) _ _ most-bindings (and-r _ _ e);
+        frames = r .frames;
+      })))
+  act-fits (c-assoc a b) h m r = two-ends h _ (λ v w. found-ends (asLim (w .kind)) _ (λ j. en-try (λ e. r)))
+
+  enter-fits : (e : ℕ) (l : List ℕ) (k : Cmd T) (m : Machine) → Fits m → Ends Fits (enterAt e l k m)
+  unfolding enterAt push
+  enter-fits e [] k m r = act-fits k [] m r
+  enter-fits e (a ∷ l) k m r =
+      en-try (λ z. record { cells = r .cells; keys = r .keys; pairs = r .pairs; functions = r .functions; bindings = r .bindings; frames = ltb-true (length (m .thread .frames)) most-frames z })
+
+module _ {T : Type 0} (code : ℕ → Cmd T) where
+  receive-fits : (o : Option ℕ) (f : Frame) (h : List Value) (fs : List Frame) (m : Machine) → Within (f ∷ fs) (m .store) → Ends Fits (receive code o f h fs m)
+  unfolding receive
+  receive-fits none f h fs m r =
+      act-fits (code (f .at)) h (resume f fs m) (record { cells = r .cells; keys = r .keys; pairs = r .pairs; functions = r .functions; bindings = r .bindings; frames = omega (arith, r .frames) })
+  receive-fits (some a) f h fs m r =
+      en-try (λ e. record { cells = r .cells; keys = r .keys; pairs = r .pairs; functions = r .functions; bindings = r .bindings; frames = r .frames })
+
+  on-fits : (c : Control) (m : Machine) → Fits m → Ends Fits (planOn code c m)
+  unfolding planOn handTo enterCmd
+  on-fits (enter e) m r = enter-fits e (evaluated (code e)) (code e) m r
+  on-fits (hand v) m r = at (m .thread .frames) r
+    where
+      at : (fs : List Frame) → Within fs (m .store) → Ends Fits (handTo code v fs m)
+      at [] r = en-done
+      at (f ∷ fs) r = receive-fits (getElem? (evaluated (code (f .at))) (suc (length (f .hand)))) f (f .hand ++ (v ∷ [])) fs m r
+
+  -- a step keeps the machine within its room
+  pub room-kept : (m n : Machine) → step code m ≡ o-step n → Fits m → Fits n
+  unfolding plan step
+  room-kept m n e r = settle-ends (on-fits (m .thread .control) m r) e
+
+-- Cells
+
+-- how the act touches it, if it does, is to write it. The `read-and-write` of 0x3F is of a value in hand, which it hands on with another key: it is no cell's.
+unfoldable pub isWrite : Option Usage → Bool
+isWrite none = false
+isWrite (some read) = false
+isWrite (some write) = true
+isWrite (some read-and-write) = false
+
+-- one of the operands is written
+unfoldable pub anyWritten : List Use → Bool
+anyWritten [] = false
+anyWritten (u ∷ us) = isWrite (u .touch) or anyWritten us
+
+-- The operands of the act that the next step makes, as `Wants` finds what the step needs. A push, and a frame that still lacks an operand, act on nothing.
+module _ {T : Type 0} where
+  unfoldable pub usesEntering : List ℕ → Cmd T → List Use
+  usesEntering [] k = wantsOf k 0 .uses
+  usesEntering (a ∷ l) k = []
+
+  unfoldable pub usesReceiving : Option ℕ → Cmd T → List Value → List Use
+  usesReceiving (some a) k h = []
+  usesReceiving none k h = wantsOf k (length h) .uses
+
+module _ {T : Type 0} (code : ℕ → Cmd T) where
+  unfoldable pub usesHanding : Value → List Frame → List Use
+  usesHanding v [] = []
+  usesHanding v (f ∷ fs) = usesReceiving (getElem? (evaluated (code (f .at))) (suc (length (f .hand)))) (code (f .at)) (f .hand ++ (v ∷ []))
+
+  unfoldable pub usesOn : Control → List Frame → List Use
+  usesOn (enter e) fs = usesEntering (evaluated (code e)) (code e)
+  usesOn (hand v) fs = usesHanding v fs
+
+  unfoldable pub usesOf : Machine → List Use
+  usesOf m = usesOn (m .thread .control) (m .thread .frames)
+
+-- every cell of s, n has with the same value
+pub record Kept (s : Store) (n : Machine) : Type 0 where
+  pub at : (i : ℕ) (v : Value) → getElem? (s .cells) i ≡ some v → getElem? (n .store .cells) i ≡ some v
+
+module _ {T : Type 0} where
+  -- a command whose row has no operand that is written
+  act-keeps : (k : Cmd T) (h : List Value) (m : Machine) → anyWritten (wantsOf k (length h) .uses) ≡ false → Ends (Kept (m .store)) (act k h m)
+  unfolding act actPair actPart actFn actApp actNew actAsg actRead actSum actTest actLim actGrant makeKey actNewkey actAssoc variable wantsOf anyWritten isWrite _or_
+  act-keeps (c-num n) h m r = bare-ends h (en-try (λ e. record { at = λ i v z. z }))
+  act-keeps c-top h m r = bare-ends h (en-try (λ e. record { at = λ i v z. z }))
+  act-keeps (c-var x) h m r = bare-ends h (found-ends (seek most-bindings (m .store .bindings) (m .thread .env) x) _ (λ v. en-try (λ e. record { at = λ i v z. z })))
+  act-keeps (c-pair a b) h m r = two-ends h _ (λ v w. en-try (λ e. record { at = λ i v z. z }))
+  act-keeps (c-part a i) h m r = one-ends h _ (λ v. found-ends (asPair (v .kind)) _ (λ p. found-ends (getElem? (m .store .pairs) p) _ (λ t. en-try (λ e. record { at = λ i v z. z }))))
+  act-keeps (c-fn x t b) h m r = bare-ends h (en-try (λ e. record { at = λ i v z. z }))
+  act-keeps (c-app a b) h m r = two-ends h _ (λ v w. found-ends (asFn (v .kind)) _ (λ f. found-ends (getElem? (m .store .functions) f) _ (λ c. en-try (λ e. record { at = λ i v z. z }))))
+  act-keeps (c-new t a) h m r = one-ends h _ (λ v. en-try (λ e. record { at = λ i w z. getElem?-append (m .store .cells) (v ∷ []) i w z }))
+  act-keeps (c-asg a b) h m r = absurd (false≢true (sym r))
+  act-keeps (c-read a) h m r = one-ends h _ (λ v. found-ends (asCell (v .kind)) _ (λ c. found-ends (getElem? (m .store .cells) c) _ (λ w. en-try (λ e. record { at = λ i v z. z }))))
+  act-keeps (c-sum i a b) h m r = two-ends h _ (λ v w. found-ends (asNum (v .kind)) _ (λ x. found-ends (asNum (w .kind)) _ (λ y. en-try (λ e. record { at = λ i v z. z }))))
+  act-keeps (c-test a b c t) h m r = one-ends h _ (λ v. found-ends (asNum (v .kind)) _ (λ n. en-try (λ e. record { at = λ i v z. z })))
+  act-keeps (c-lim ks b) h m r = limits-end h _ (λ js. en-try (λ e. record { at = λ i v z. z }))
+  act-keeps (c-grant a b) h m r = one-ends h _ (λ v. found-ends (asGrant (v .kind)) _ (λ j. en-try (λ e. record { at = λ i v z. z })))
+  act-keeps (c-newkey x n a b t) h m r = one-ends h _ (λ v. found-ends (asLim (v .kind)) _ (λ j. en-try (λ e. record { at = λ i v z. z })))
+  act-keeps (c-assoc a b) h m r = two-ends h _ (λ v w. found-ends (asLim (w .kind)) _ (λ j. en-try (λ e. record { at = λ i v z. z })))
+
+  enter-keeps : (e : ℕ) (l : List ℕ) (k : Cmd T) (m : Machine) → anyWritten (usesEntering l k) ≡ false → Ends (Kept (m .store)) (enterAt e l k m)
+  unfolding enterAt push usesEntering
+  enter-keeps e [] k m r = act-keeps k [] m r
+  enter-keeps e (a ∷ l) k m r = en-try (λ e. record { at = λ i v z. z })
+
+module _ {T : Type 0} (code : ℕ → Cmd T) where
+  receive-keeps : (o : Option ℕ) (f : Frame) (h : List Value) (fs : List Frame) (m : Machine) → anyWritten (usesReceiving o (code (f .at)) h) ≡ false → Ends (Kept (m .store)) (receive code o f h fs m)
+  unfolding receive usesReceiving
+  receive-keeps none f h fs m r = act-keeps (code (f .at)) h (resume f fs m) r
+  receive-keeps (some a) f h fs m r = en-try (λ e. record { at = λ i v z. z })
+
+  on-keeps : (c : Control) (m : Machine) → anyWritten (usesOn code c (m .thread .frames)) ≡ false → Ends (Kept (m .store)) (planOn code c m)
+  unfolding planOn handTo enterCmd usesOn usesHanding
+  on-keeps (enter e) m r = enter-keeps e (evaluated (code e)) (code e) m r
+  on-keeps (hand v) m r = at (m .thread .frames) r
+    where
+      at : (fs : List Frame) → anyWritten (usesHanding code v fs) ≡ false → Ends (Kept (m .store)) (handTo code v fs m)
+      at [] r = en-done
+      at (f ∷ fs) r = receive-keeps (getElem? (evaluated (code (f .at))) (suc (length (f .hand)))) f (f .hand ++ (v ∷ [])) fs m r
+
+  -- a step whose act has no operand that is written keeps every cell's value
+  pub unwritten-kept : (m n : Machine) → step code m ≡ o-step n → anyWritten (usesOf code m) ≡ false → (i : ℕ) (v : Value) → getElem? (m .store .cells) i ≡ some v → getElem? (n .store .cells) i ≡ some v
+  unfolding plan step usesOf
+  unwritten-kept m n e r = settle-ends (on-keeps (m .thread .control) m r) e .at
