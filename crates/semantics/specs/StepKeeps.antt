@@ -1,11 +1,12 @@
 -- What a step keeps, of every machine and every code. It stays within its room (`room-kept`); and it keeps every cell's value, unless an operand of its act is written
--- (`unwritten-kept`). Which operands are written is read off document 01's list (`Wants`), apart from the step.
-use mathlib.Core.Path.{_≡_, refl, sym}
-use Prim.Native.Nat.{ℕ, suc, _≤_}
+-- (`unwritten-kept`); one is written only where the act can change a cell (`written-changes`). Which operands are written is read off document 01's list (`Wants`), apart from the step.
+use mathlib.Core.Path.{_≡_, refl, sym, ap, _∙_}
+use Prim.Native.Nat.{ℕ, zero, suc, _≤_}
 use native.Mathlib.Omega.{arith}
 use mathlib.Core.Bool.{Bool, true, false, cond, false≢true}
 use mathlib.Core.List.{List, [], _∷_, _++_}
 use mathlib.Core.Option.{Option, none, some}
+use mathlib.Core.Logic.{_≢_}
 use lib.ListN.{length, length-append, length-set, getElem?}
 use lib.Dec.{ltb}
 use borrow.Author.Tests.{ltb-true}
@@ -13,12 +14,12 @@ use Rattle.order.specs.Bools.{_or_, and-l, and-r}
 use Rattle.order.specs.OrderLaws.{getElem?-append}
 use Rattle.syntax.specs.Commands.{Cmd, c-num, c-top, c-var, c-pair, c-part, c-fn, c-app, c-new, c-asg, c-read, c-sum, c-test, c-lim, c-grant, c-newkey, c-assoc}
 use Rattle.syntax.specs.Operands.{evaluated}
-use Rattle.semantics.specs.Machine.{Value, Frame, Control, enter, hand, Store, Machine, most-cells, most-keys, most-pairs, most-functions, most-frames, most-bindings}
+use Rattle.semantics.specs.Machine.{k-num, k-cell, Value, unkeyed, Frame, Control, enter, hand, Store, Machine, most-cells, most-keys, most-pairs, most-functions, most-frames, most-bindings}
 use Rattle.semantics.specs.Keys.{enabled}
-use Rattle.semantics.specs.Step.{Out, o-step, o-denied, Plan, p-done, p-wrong, p-try, room, touch, touchAll, settle, asNum, asPair, asFn, asCell, asLim, asGrant, found, bare, one, two}
+use Rattle.semantics.specs.Step.{Out, o-step, o-denied, Plan, p-done, p-wrong, p-try, handing, withCells, room, touch, touchAll, settle, asNum, asPair, asFn, asCell, asLim, asGrant, found, bare, one, two}
 use Rattle.semantics.specs.Step.{seek, variable, actPair, actPart, actFn, actApp, actNew, actAsg, actRead, actSum, actTest, limitKeys, actLim, actGrant, makeKey, actNewkey, actAssoc}
 use Rattle.semantics.specs.Step.{resume, push, act, enterAt, enterCmd, receive, handTo, planOn, plan, step}
-use Rattle.semantics.specs.Wants.{Usage, read, write, read-and-write, Use, wantsOf}
+use Rattle.semantics.specs.Wants.{Usage, read, write, read-and-write, Use, touches, a-limit, alike, wantsOf}
 
 -- the machine after a plan, if its room is found free, is one of P
 data Ends (P : Machine → Type 0) : Plan → Type 0 where
@@ -243,3 +244,64 @@ module _ {T : Type 0} (code : ℕ → Cmd T) where
   pub unwritten-kept : (m n : Machine) → step code m ≡ o-step n → anyWritten (usesOf code m) ≡ false → (i : ℕ) (v : Value) → getElem? (m .store .cells) i ≡ some v → getElem? (n .store .cells) i ≡ some v
   unfolding plan step usesOf
   unwritten-kept m n e r = settle-ends (on-keeps (m .thread .control) m r) e .at
+
+-- No row says more than that: where an operand is written, some machine with some values in hand takes the act's step, and a cell changes
+
+-- one cell, with number 0
+abbrev oneCell : Machine
+oneCell = record {
+  thread = record { control = enter 0; env = 0; on = 0; frames = [] };
+  store = record { cells = unkeyed (k-num 0) ∷ []; keys = []; pairs = []; functions = []; bindings = [] };
+}
+
+apart : k-num 0 ≢ k-num 1
+apart e = let z : _≡_ {A = ℕ} 0 1 = cc in absurd (omega arith)
+
+reads-only : (n : ℕ) → anyWritten (alike n (touches read a-limit)) ≡ false
+unfolding anyWritten isWrite alike _or_
+reads-only zero = refl
+reads-only (suc n) = reads-only n
+
+-- a step of the act from m to n, after which cell i has another value
+pub record Changes {T : Type 0} (k : Cmd T) : Type 0 where
+  pub m : Machine
+  pub n : Machine
+  pub held : List Value
+  pub taken : settle (act k held m) ≡ o-step n
+  pub i : ℕ
+  pub old : Value
+  pub new : Value
+  pub before : getElem? (m .store .cells) i ≡ some old
+  pub after : getElem? (n .store .cells) i ≡ some new
+  pub differ : old ≢ new
+
+module _ {T : Type 0} where
+  pub written-changes : (k : Cmd T) (i : ℕ) → anyWritten (wantsOf k i .uses) ≡ true → Changes k
+  unfolding wantsOf anyWritten isWrite _or_ settle act two actAsg found asCell touchAll touch enabled room
+  written-changes (c-num n) i e = absurd (false≢true e)
+  written-changes c-top i e = absurd (false≢true e)
+  written-changes (c-var x) i e = absurd (false≢true e)
+  written-changes (c-pair a b) i e = absurd (false≢true e)
+  written-changes (c-part a n) i e = absurd (false≢true e)
+  written-changes (c-fn x t b) i e = absurd (false≢true e)
+  written-changes (c-app a b) i e = absurd (false≢true e)
+  written-changes (c-new t a) i e = absurd (false≢true e)
+  written-changes (c-asg a b) i e = record {
+    m = oneCell;
+    n = handing (unkeyed (k-num 1)) (withCells oneCell (unkeyed (k-num 1) ∷ []));
+    held = unkeyed (k-cell 0) ∷ unkeyed (k-num 1) ∷ [];
+    taken = refl;
+    i = 0;
+    old = unkeyed (k-num 0);
+    new = unkeyed (k-num 1);
+    before = refl;
+    after = refl;
+    differ = λ z. apart (ap (λ v. v .kind) z);
+  }
+  written-changes (c-read a) i e = absurd (false≢true e)
+  written-changes (c-sum n a b) i e = absurd (false≢true e)
+  written-changes (c-test a b c t) i e = absurd (false≢true e)
+  written-changes (c-lim ks b) i e = absurd (false≢true (sym (reads-only i) ∙ e))
+  written-changes (c-grant a b) i e = absurd (false≢true e)
+  written-changes (c-newkey x r a b t) i e = absurd (false≢true e)
+  written-changes (c-assoc a b) i e = absurd (false≢true e)
