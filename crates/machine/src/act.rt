@@ -1,5 +1,4 @@
-// The acts: what an expression does with its operands in hand. Kinds and entries are tested first, then keys, then room. Where an entry is read, its key is looked up
-// before the entry's number is tested: so a step is some instructions shorter.
+// The acts: what an expression does with its operands in hand. Kinds and entries are tested first, then keys, then room.
 use crate::Acted;
 use crate::Answer;
 use crate::Limits;
@@ -135,11 +134,10 @@ impl State {
         let Kind::Pair = k else {
             return self.stop(Answer::Stuck);
         };
-        let touched = back.touch(x, keys);
         if (x.payload as u64) < store::cap(back.pairs, MOST_PAIRS) {} else {
             return self.stop(Answer::Stuck);
         }
-        if touched {} else {
+        if back.touch(x, keys) {} else {
             return self.stop(Answer::Denied);
         }
         let t = store::pair_at(pairs, x.payload);
@@ -171,11 +169,10 @@ impl State {
         let Kind::Function = k else {
             return self.stop(Answer::Stuck);
         };
-        let touched = back.touch(x, keys);
         if (x.payload as u64) < store::cap(back.functions, MOST_FUNCTIONS) {} else {
             return self.stop(Answer::Stuck);
         }
-        if touched {} else {
+        if back.touch(x, keys) {} else {
             return self.stop(Answer::Denied);
         }
         let n = back.bindings;
@@ -228,11 +225,10 @@ impl State {
         let Kind::Cell = k else {
             return self.stop(Answer::Stuck);
         };
-        let touched = back.touch(cell, keys);
         if (cell.payload as u64) < store::cap(back.cells, MOST_CELLS) {} else {
             return self.stop(Answer::Stuck);
         }
-        if touched {} else {
+        if back.touch(cell, keys) {} else {
             return self.stop(Answer::Denied);
         }
         store::put_cell(cells, cell.payload, value);
@@ -252,11 +248,10 @@ impl State {
         let Kind::Cell = k else {
             return self.stop(Answer::Stuck);
         };
-        let touched = back.touch(x, keys);
         if (x.payload as u64) < store::cap(back.cells, MOST_CELLS) {} else {
             return self.stop(Answer::Stuck);
         }
-        if touched {} else {
+        if back.touch(x, keys) {} else {
             return self.stop(Answer::Denied);
         }
         let v = store::cell_at(cells, x.payload);
