@@ -48,8 +48,11 @@ cast-put-variable c = search needs
 put-variable-requires : tie.Need-put-variable-requires
 put-variable-requires c κs = search needs
 
-add-more : tie.Need-add-more
-add-more c = search needs
+add-next : tie.Need-add-next
+add-next c = search needs
+
+add-go : tie.Need-add-go
+add-go c = search needs
 
 cast-go : tie.Need-cast-go
 cast-go c = search needs
@@ -83,7 +86,8 @@ act-apply-spec =
     closure-at-requires
     cast-put-variable
     put-variable-requires
-    add-more
+    add-next
+    add-go
     cast-go
     go-requires
     stop-requires-4
