@@ -1,5 +1,4 @@
-// The acts: what an expression does with its operands in hand. Kinds and entries are tested first, then keys, then room. Where an entry is read, its key is looked up
-// before the entry's number is tested: so a step is some instructions shorter.
+// The acts: what an expression does with its operands in hand. Kinds and entries are tested first, then keys, then room.
 use crate::Acted;
 use crate::Answer;
 use crate::Limits;
@@ -111,9 +110,8 @@ impl State {
                     second: y,
                 },
             );
-            let more = n + 1;
             let mut next = back;
-            next.pairs = more;
+            next.pairs = n + 1;
             let v = unkeyed(Kind::Pair, n as u32);
             next.give(v)
         } else {
@@ -135,11 +133,10 @@ impl State {
         let Kind::Pair = k else {
             return self.stop(Answer::Stuck);
         };
-        let touched = back.touch(x, keys);
         if (x.payload as u64) < store::cap(back.pairs, MOST_PAIRS) {} else {
             return self.stop(Answer::Stuck);
         }
-        if touched {} else {
+        if back.touch(x, keys) {} else {
             return self.stop(Answer::Denied);
         }
         let t = store::pair_at(pairs, x.payload);
@@ -171,11 +168,10 @@ impl State {
         let Kind::Function = k else {
             return self.stop(Answer::Stuck);
         };
-        let touched = back.touch(x, keys);
         if (x.payload as u64) < store::cap(back.functions, MOST_FUNCTIONS) {} else {
             return self.stop(Answer::Stuck);
         }
-        if touched {} else {
+        if back.touch(x, keys) {} else {
             return self.stop(Answer::Denied);
         }
         let n = back.bindings;
@@ -185,10 +181,9 @@ impl State {
             store::put_variable(bindings, n as u16, f.var, y, f.env);
             let now = back.now;
             let on = now.on;
-            let more = n + 1;
             let mut next = back;
-            next.bindings = more;
-            next.go(body, more as u16, on)
+            next.bindings = n + 1;
+            next.go(body, (n + 1) as u16, on)
         } else {
             self.stop(Answer::NoRoom)
         }
@@ -200,9 +195,8 @@ impl State {
         let n = back.cells;
         if n < MOST_CELLS {
             store::put_cell(cells, n as u32, x);
-            let more = n + 1;
             let mut next = back;
-            next.cells = more;
+            next.cells = n + 1;
             let v = unkeyed(Kind::Cell, n as u32);
             next.give(v)
         } else {
@@ -228,11 +222,10 @@ impl State {
         let Kind::Cell = k else {
             return self.stop(Answer::Stuck);
         };
-        let touched = back.touch(cell, keys);
         if (cell.payload as u64) < store::cap(back.cells, MOST_CELLS) {} else {
             return self.stop(Answer::Stuck);
         }
-        if touched {} else {
+        if back.touch(cell, keys) {} else {
             return self.stop(Answer::Denied);
         }
         store::put_cell(cells, cell.payload, value);
@@ -252,11 +245,10 @@ impl State {
         let Kind::Cell = k else {
             return self.stop(Answer::Stuck);
         };
-        let touched = back.touch(x, keys);
         if (x.payload as u64) < store::cap(back.cells, MOST_CELLS) {} else {
             return self.stop(Answer::Stuck);
         }
-        if touched {} else {
+        if back.touch(x, keys) {} else {
             return self.stop(Answer::Denied);
         }
         let v = store::cell_at(cells, x.payload);
@@ -427,8 +419,7 @@ impl State {
         let nb = self.bindings;
         let now = self.now;
         let on = now.on;
-        let i = nk as u8;
-        let key = Key(i);
+        let key = Key(nk as u8);
         let limit = unkeyed(Kind::Limit, nk as u32);
         let grant = unkeyed(Kind::Grant, nk as u32);
         let pair = unkeyed(Kind::Pair, np as u32);
@@ -443,14 +434,11 @@ impl State {
         );
         store::put_name(bindings, nb as u16, r, key, now.env);
         store::put_variable(bindings, (nb + 1) as u16, x, pair, (nb + 1) as u16);
-        let mk = nk + 1;
-        let mp = np + 1;
-        let mb = nb + 2;
         let mut next = self;
-        next.keys = mk;
-        next.pairs = mp;
-        next.bindings = mb;
-        next.go(body, mb as u16, on)
+        next.keys = nk + 1;
+        next.pairs = np + 1;
+        next.bindings = nb + 2;
+        next.go(body, (nb + 2) as u16, on)
     }
 
     pub(crate) fn act_associate(

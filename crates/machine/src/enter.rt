@@ -95,9 +95,8 @@ impl State {
             let now = self.now;
             let on = now.on;
             store::put_fresh(frames, n as u16, e, now.env, on);
-            let more = n + 1;
             let mut next = self;
-            next.frames = more;
+            next.frames = n + 1;
             next.go(first, now.env, on)
         } else {
             self.stop(Answer::NoRoom)
@@ -119,9 +118,8 @@ impl State {
                     env: now.env,
                 },
             );
-            let more = n + 1;
             let mut next = self;
-            next.functions = more;
+            next.functions = n + 1;
             let v = unkeyed(Kind::Function, n as u32);
             next.give(v)
         } else {

@@ -12,8 +12,8 @@ cast-put-cell c = search needs
 put-cell-requires : tie.Need-put-cell-requires
 put-cell-requires c κs = search needs
 
-add-more : tie.Need-add-more
-add-more c = search needs
+add-next : tie.Need-add-next
+add-next c = search needs
 
 cast-unkeyed : tie.Need-cast-unkeyed
 cast-unkeyed c = search needs
@@ -39,7 +39,7 @@ act-cell-spec =
     (tie.spec
     cast-put-cell
     put-cell-requires
-    add-more
+    add-next
     cast-unkeyed
     unkeyed-requires
     give-requires

@@ -12,8 +12,8 @@ cast-put-pair c = search needs
 put-pair-requires : tie.Need-put-pair-requires
 put-pair-requires c κs = search needs
 
-add-more : tie.Need-add-more
-add-more c = search needs
+add-next : tie.Need-add-next
+add-next c = search needs
 
 cast-unkeyed : tie.Need-cast-unkeyed
 cast-unkeyed c = search needs
@@ -39,7 +39,7 @@ act-pair-spec =
     (tie.spec
     cast-put-pair
     put-pair-requires
-    add-more
+    add-next
     cast-unkeyed
     unkeyed-requires
     give-requires

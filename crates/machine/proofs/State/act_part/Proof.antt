@@ -18,9 +18,6 @@ returns : tie.Need-returns
 unfolding actPart
 returns c = λ w. simp (c .stop .ensures, not-pair (c .before .before .args .x .kind) (c .before .match .keys2))
 
-touch-requires : tie.Need-touch-requires
-touch-requires c κs = search needs
-
 cast-if1 : tie.Need-cast-if1
 cast-if1 c = search needs
 
@@ -31,13 +28,16 @@ stop-requires-2 : tie.Need-stop-requires-2
 stop-requires-2 c κs = search needs
 
 returns-2 : tie.Need-returns-2
-returns-2 c = λ w. is-stuck _ _ _ (c .stop2 .ensures) (part-lost (c .before .before .before .before .before .before .before .args .back) (putKeys (putPairs w (now (c .before .before .before .before .before .before .before .args .pairs))) (now (c .before .before .before .before .before .before .before .args .keys))) (valueIn (c .before .before .before .before .before .before .before .args .x)) (c .before .before .before .before .before .before .before .args .first) (of-kind _ (c .before .before .before .before .before .enum-told .given .1)) (c .before .before .cap .ensures .0) (c .before .if1 .left))
+returns-2 c = λ w. is-stuck _ _ _ (c .stop2 .ensures) (part-lost (c .before .before .before .before .before .before .args .back) (putKeys (putPairs w (now (c .before .before .before .before .before .before .args .pairs))) (now (c .before .before .before .before .before .before .args .keys))) (valueIn (c .before .before .before .before .before .before .args .x)) (c .before .before .before .before .before .before .args .first) (of-kind _ (c .before .before .before .before .enum-told .given .1)) (c .before .before .cap .ensures .0) (c .before .if1 .left))
+
+touch-requires : tie.Need-touch-requires
+touch-requires c κs = search needs
 
 stop-requires-3 : tie.Need-stop-requires-3
 stop-requires-3 c κs = search needs
 
 returns-3 : tie.Need-returns-3
-returns-3 c = λ w. is-denied _ _ _ (c .stop3 .ensures) (part-denied (c .before .before .before .before .before .before .before .before .args .back) (putKeys (putPairs w (now (c .before .before .before .before .before .before .before .before .args .pairs))) (now (c .before .before .before .before .before .before .before .before .args .keys))) (valueIn (c .before .before .before .before .before .before .before .before .args .x)) (of-kind _ (c .before .before .before .before .before .before .enum-told .given .1)) (c .before .before .before .before .before .touch .ensures) (c .before .before .before .before .before .before .before .before .args .first) (c .before .if2 .left) (c .before .before .before .cap .ensures .0) (c .before .before .if1 .taken))
+returns-3 c = λ w. is-denied _ _ _ (c .stop3 .ensures) (part-denied (c .before .before .before .before .before .before .before .before .args .back) (putKeys (putPairs w (now (c .before .before .before .before .before .before .before .before .args .pairs))) (now (c .before .before .before .before .before .before .before .before .args .keys))) (valueIn (c .before .before .before .before .before .before .before .before .args .x)) (of-kind _ (c .before .before .before .before .before .before .enum-told .given .1)) (c .before .before .touch .ensures) (c .before .before .before .before .before .before .before .before .args .first) (c .before .if2 .left) (c .before .before .before .before .cap .ensures .0) (c .before .before .before .if1 .taken))
 
 pair-at-requires : tie.Need-pair-at-requires
 pair-at-requires c κs = search needs
@@ -49,10 +49,10 @@ give-requires-2 : tie.Need-give-requires-2
 give-requires-2 c κs = search needs
 
 returns-4 : tie.Need-returns-4
-returns-4 c = λ w. gave _ _ _ _ _ (c .give .ensures) (part-one (c .before .before .before .before .before .before .before .before .before .before .before .before .args .back) (putKeys (putPairs w (now (c .before .before .before .before .before .before .before .before .before .before .before .before .args .pairs))) (now (c .before .before .before .before .before .before .before .before .before .before .before .before .args .keys))) (valueIn (c .before .before .before .before .before .before .before .before .before .before .before .before .args .x)) (of-kind _ (c .before .before .before .before .before .before .before .before .before .before .enum-told .given .1)) (c .before .before .before .before .before .before .before .before .before .touch .ensures) (c .before .if3 .taken) (c .before .before .before .before .before .if2 .taken) (c .before .before .before .before .before .before .before .cap .ensures .0) (c .before .before .before .before .before .before .if1 .taken) (c .before .before .before .before .pair-at .ensures))
+returns-4 c = λ w. gave _ _ _ _ _ (c .give .ensures) (part-one (c .before .before .before .before .before .before .before .before .before .before .before .before .args .back) (putKeys (putPairs w (now (c .before .before .before .before .before .before .before .before .before .before .before .before .args .pairs))) (now (c .before .before .before .before .before .before .before .before .before .before .before .before .args .keys))) (valueIn (c .before .before .before .before .before .before .before .before .before .before .before .before .args .x)) (of-kind _ (c .before .before .before .before .before .before .before .before .before .before .enum-told .given .1)) (c .before .before .before .before .before .before .touch .ensures) (c .before .if3 .taken) (c .before .before .before .before .before .if2 .taken) (c .before .before .before .before .before .before .before .before .cap .ensures .0) (c .before .before .before .before .before .before .before .if1 .taken) (c .before .before .before .before .pair-at .ensures))
 
 returns-5 : tie.Need-returns-5
-returns-5 c = λ w. gave _ _ _ _ _ (c .give2 .ensures) (part-two (c .before .before .before .before .before .before .before .before .before .before .before .before .args .back) (putKeys (putPairs w (now (c .before .before .before .before .before .before .before .before .before .before .before .before .args .pairs))) (now (c .before .before .before .before .before .before .before .before .before .before .before .before .args .keys))) (valueIn (c .before .before .before .before .before .before .before .before .before .before .before .before .args .x)) (of-kind _ (c .before .before .before .before .before .before .before .before .before .before .enum-told .given .1)) (c .before .before .before .before .before .before .before .before .before .touch .ensures) (c .before .if3 .left) (c .before .before .before .before .before .if2 .taken) (c .before .before .before .before .before .before .before .cap .ensures .0) (c .before .before .before .before .before .before .if1 .taken) (c .before .before .before .before .pair-at .ensures))
+returns-5 c = λ w. gave _ _ _ _ _ (c .give2 .ensures) (part-two (c .before .before .before .before .before .before .before .before .before .before .before .before .args .back) (putKeys (putPairs w (now (c .before .before .before .before .before .before .before .before .before .before .before .before .args .pairs))) (now (c .before .before .before .before .before .before .before .before .before .before .before .before .args .keys))) (valueIn (c .before .before .before .before .before .before .before .before .before .before .before .before .args .x)) (of-kind _ (c .before .before .before .before .before .before .before .before .before .before .enum-told .given .1)) (c .before .before .before .before .before .before .touch .ensures) (c .before .if3 .left) (c .before .before .before .before .before .if2 .taken) (c .before .before .before .before .before .before .before .before .cap .ensures .0) (c .before .before .before .before .before .before .before .if1 .taken) (c .before .before .before .before .pair-at .ensures))
 
 pub act-part-spec : {M : Type 1} → statement M
 act-part-spec =
@@ -61,11 +61,11 @@ act-part-spec =
     enum-told
     stop-requires
     returns
-    touch-requires
     cast-if1
     cap-requires
     stop-requires-2
     returns-2
+    touch-requires
     stop-requires-3
     returns-3
     pair-at-requires

@@ -18,9 +18,6 @@ returns : tie.Need-returns
 unfolding actRead
 returns c = λ w. simp (c .stop .ensures, not-cell (c .before .before .args .x .kind) (c .before .match .keys2))
 
-touch-requires : tie.Need-touch-requires
-touch-requires c κs = search needs
-
 cast-if1 : tie.Need-cast-if1
 cast-if1 c = search needs
 
@@ -31,13 +28,16 @@ stop-requires-2 : tie.Need-stop-requires-2
 stop-requires-2 c κs = search needs
 
 returns-2 : tie.Need-returns-2
-returns-2 c = λ w. is-stuck _ _ _ (c .stop2 .ensures) (read-lost (c .before .before .before .before .before .before .before .args .back) (putCells (putKeys w (now (c .before .before .before .before .before .before .before .args .keys))) (now (c .before .before .before .before .before .before .before .args .cells))) (valueIn (c .before .before .before .before .before .before .before .args .x)) (of-kind _ (c .before .before .before .before .before .enum-told .given .1)) (c .before .before .cap .ensures .0) (c .before .if1 .left))
+returns-2 c = λ w. is-stuck _ _ _ (c .stop2 .ensures) (read-lost (c .before .before .before .before .before .before .args .back) (putCells (putKeys w (now (c .before .before .before .before .before .before .args .keys))) (now (c .before .before .before .before .before .before .args .cells))) (valueIn (c .before .before .before .before .before .before .args .x)) (of-kind _ (c .before .before .before .before .enum-told .given .1)) (c .before .before .cap .ensures .0) (c .before .if1 .left))
+
+touch-requires : tie.Need-touch-requires
+touch-requires c κs = search needs
 
 stop-requires-3 : tie.Need-stop-requires-3
 stop-requires-3 c κs = search needs
 
 returns-3 : tie.Need-returns-3
-returns-3 c = λ w. is-denied _ _ _ (c .stop3 .ensures) (read-denied (c .before .before .before .before .before .before .before .before .args .back) (putCells (putKeys w (now (c .before .before .before .before .before .before .before .before .args .keys))) (now (c .before .before .before .before .before .before .before .before .args .cells))) (valueIn (c .before .before .before .before .before .before .before .before .args .x)) (of-kind _ (c .before .before .before .before .before .before .enum-told .given .1)) (c .before .before .before .before .before .touch .ensures) (c .before .if2 .left) (c .before .before .before .cap .ensures .0) (c .before .before .if1 .taken))
+returns-3 c = λ w. is-denied _ _ _ (c .stop3 .ensures) (read-denied (c .before .before .before .before .before .before .before .before .args .back) (putCells (putKeys w (now (c .before .before .before .before .before .before .before .before .args .keys))) (now (c .before .before .before .before .before .before .before .before .args .cells))) (valueIn (c .before .before .before .before .before .before .before .before .args .x)) (of-kind _ (c .before .before .before .before .before .before .enum-told .given .1)) (c .before .before .touch .ensures) (c .before .if2 .left) (c .before .before .before .before .cap .ensures .0) (c .before .before .before .if1 .taken))
 
 cell-at-requires : tie.Need-cell-at-requires
 cell-at-requires c κs = search needs
@@ -46,7 +46,7 @@ give-requires : tie.Need-give-requires
 give-requires c κs = search needs
 
 returns-4 : tie.Need-returns-4
-returns-4 c = λ w. gave _ _ _ _ _ (c .give .ensures) (was-read (c .before .before .before .before .before .before .before .before .before .args .back) (putCells (putKeys w (now (c .before .before .before .before .before .before .before .before .before .args .keys))) (now (c .before .before .before .before .before .before .before .before .before .args .cells))) (valueIn (c .before .before .before .before .before .before .before .before .before .args .x)) (of-kind _ (c .before .before .before .before .before .before .before .enum-told .given .1)) (c .before .before .before .before .before .before .touch .ensures) (c .before .before .if2 .taken) (c .before .before .before .before .cap .ensures .0) (c .before .before .before .if1 .taken) (c .before .cell-at .ensures))
+returns-4 c = λ w. gave _ _ _ _ _ (c .give .ensures) (was-read (c .before .before .before .before .before .before .before .before .before .args .back) (putCells (putKeys w (now (c .before .before .before .before .before .before .before .before .before .args .keys))) (now (c .before .before .before .before .before .before .before .before .before .args .cells))) (valueIn (c .before .before .before .before .before .before .before .before .before .args .x)) (of-kind _ (c .before .before .before .before .before .before .before .enum-told .given .1)) (c .before .before .before .touch .ensures) (c .before .before .if2 .taken) (c .before .before .before .before .before .cap .ensures .0) (c .before .before .before .before .if1 .taken) (c .before .cell-at .ensures))
 
 pub act-read-spec : {M : Type 1} → statement M
 act-read-spec =
@@ -55,11 +55,11 @@ act-read-spec =
     enum-told
     stop-requires
     returns
-    touch-requires
     cast-if1
     cap-requires
     stop-requires-2
     returns-2
+    touch-requires
     stop-requires-3
     returns-3
     cell-at-requires

@@ -11,8 +11,8 @@ cast-put-closure c = search needs
 put-closure-requires : tie.Need-put-closure-requires
 put-closure-requires c κs = search needs
 
-add-more : tie.Need-add-more
-add-more c = search needs
+add-next : tie.Need-add-next
+add-next c = search needs
 
 cast-unkeyed : tie.Need-cast-unkeyed
 cast-unkeyed c = search needs
@@ -38,7 +38,7 @@ function-spec =
     (tie.spec
     cast-put-closure
     put-closure-requires
-    add-more
+    add-next
     cast-unkeyed
     unkeyed-requires
     give-requires

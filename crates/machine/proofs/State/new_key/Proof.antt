@@ -5,8 +5,8 @@ use borrow.Author.Needs.{needs}
 use Rattle.machine.proofs.State.new_key.Statement.{statement}
 use Rattle.machine.proofs.State.new_key.Tie as tie
 
-cast-i : tie.Need-cast-i
-cast-i c = search needs
+cast-t19 : tie.Need-cast-t19
+cast-t19 c = search needs
 
 cast-unkeyed : tie.Need-cast-unkeyed
 cast-unkeyed c = search needs
@@ -59,14 +59,17 @@ cast-put-variable-2 c = search needs
 put-variable-requires : tie.Need-put-variable-requires
 put-variable-requires c κs = search needs
 
-add-mk : tie.Need-add-mk
-add-mk c = search needs
+add-next : tie.Need-add-next
+add-next c = search needs
 
-add-mp : tie.Need-add-mp
-add-mp c = search needs
+add-next-2 : tie.Need-add-next-2
+add-next-2 c = search needs
 
-add-mb : tie.Need-add-mb
-add-mb c = search needs
+add-next-3 : tie.Need-add-next-3
+add-next-3 c = search needs
+
+add-go : tie.Need-add-go
+add-go c = search needs
 
 cast-go : tie.Need-cast-go
 cast-go c = search needs
@@ -81,7 +84,7 @@ pub new-key-spec : {M : Type 1} → statement M
 new-key-spec =
     tie.close
     (tie.spec
-    cast-i
+    cast-t19
     cast-unkeyed
     unkeyed-requires
     cast-unkeyed-2
@@ -99,9 +102,10 @@ new-key-spec =
     add-put-variable-2
     cast-put-variable-2
     put-variable-requires
-    add-mk
-    add-mp
-    add-mb
+    add-next
+    add-next-2
+    add-next-3
+    add-go
     cast-go
     go-requires
     returns)

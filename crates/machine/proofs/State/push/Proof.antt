@@ -11,8 +11,8 @@ cast-put-fresh c = search needs
 put-fresh-requires : tie.Need-put-fresh-requires
 put-fresh-requires c κs = search needs
 
-add-more : tie.Need-add-more
-add-more c = search needs
+add-next : tie.Need-add-next
+add-next c = search needs
 
 go-requires : tie.Need-go-requires
 go-requires c κs = search needs
@@ -32,7 +32,7 @@ push-spec =
     (tie.spec
     cast-put-fresh
     put-fresh-requires
-    add-more
+    add-next
     go-requires
     stop-requires
     returns
