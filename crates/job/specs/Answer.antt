@@ -1,12 +1,13 @@
 -- What `read` answers, and the lent tables afterwards.
 use mathlib.Core.Path.{_≡_}
-use Prim.Native.Nat.{ℕ, _+_, _*_, _≤_}
+use Prim.Native.Nat.{ℕ, _+_, _≤_}
 use mathlib.Core.Bool.{Bool, true, false, cond}
 use mathlib.Core.List.{List}
 use lib.ListN.{length, replicate}
 use lib.Dec.{eqb, leb}
 use Rattle.syntax.specs.Job.{Job}
 use Rattle.syntax.specs.Words.{filled, nameWords, typeWords, setWords, valueWords, headWords, slotWords}
+use Rattle.syntax.specs.Loading.{most-entries, most-slots}
 use Rattle.syntax.specs.Reading.{Read, refused, read, reading, most-names, most-variables, most-expressions}
 use Rattle.job.specs.Entries.{namesAfter, typesAfter, setsAfter, depthsAfter, valuesAfter, headsAfter, slotsAfter}
 use Rattle.job.specs.declared.Shape.{Shape}
@@ -32,18 +33,11 @@ unfoldable pub tableOf : (Job → List ℕ) → Read → ℕ → List ℕ
 tableOf words (refused r) n = replicate n 0
 tableOf words (read J) n = filled n 0 (words J)
 
--- "type table: 2,304 entries"; five places for each expression
-abbrev pub type-entries : ℕ
-type-entries = 2304
-
-abbrev pub all-places : ℕ
-all-places = most-expressions * 5
-
 -- every lent table is as long as its limit
 unfoldable pub longEnough : ℕ → ℕ → ℕ → ℕ → ℕ → ℕ → Bool
 longEnough n t s v h p =
     cond (leb most-names n)
-    (cond (leb type-entries t) (cond (leb type-entries s) (cond (leb most-variables v) (cond (leb most-expressions h) (leb all-places p) false) false) false) false)
+    (cond (leb most-entries t) (cond (leb most-entries s) (cond (leb most-variables v) (cond (leb most-expressions h) (leb most-slots p) false) false) false) false)
     false
 
 abbrev pub longTables : List ℕ → List ℕ → List ℕ → List ℕ → List ℕ → List ℕ → Bool

@@ -6,12 +6,16 @@ use super::bytes::op8;
 use super::bytes::op16;
 use super::bytes::op32;
 use table::Expr;
+use table::MOST_VARIABLES;
 ghost use mathlib.Core.Path.{_≡_};
 ghost use Prim.Native.Nat.{_<_};
 ghost use lib.Dec.{ltb};
 ghost use Rattle.job.specs.Bytes.{digitOf, rowOf, offsets, kinds, offsetOf, kindOf, slotOf, leadOf, formOf, slotOk, slotsOk, keyOk, limitOk};
 ghost use Rattle.names.specs.Ancestors.{namesIn};
 ghost use Rattle.job.specs.Entries.{bindsOk, eitherOf, newKeyOk, leadOk, placesOk, formEntry};
+
+// Variables are numbers of one byte.
+const VARIABLES: u8 = MOST_VARIABLES as u8;
 
 // Where the five places of an expression stand: one word for each command byte from 0x30 on, with place 0 in its last digit; 0 for a place that is not used.
 const OFFSETS: [u32; 16] = [
@@ -215,13 +219,13 @@ fn limit_ok(c: u8, f: Form, n: usize) -> bool
     false
 }
 
-// A bound variable is below 64 and none of the v host values.
+// A bound variable is below the limit and none of the v host values.
 fn binds_ok(v: usize, x: u8) -> bool
     ensures { λ r. ⌜ r ≡ bindsOk v x ⌝ }
 {
     let i = x as usize;
     if v <= i {
-        return x < 64;
+        return x < VARIABLES;
     }
     false
 }
@@ -252,7 +256,7 @@ fn lead_ok<'a>(op: u8, job: &'a [u8], names: &'a [u16], n: usize, v: usize) -> b
     ensures { λ r. ⌜ r ≡ leadOk op (now (job .entry)) (namesIn (now (names .entry)) n) v ⌝ }
 {
     match op {
-        0x32 => op8(job, 1) < 64,
+        0x32 => op8(job, 1) < VARIABLES,
         0x34 => one_of_two(op8(job, 3), 1),
         0x35 => binds_ok(v, op8(job, 1)),
         0x3A => one_of_two(op8(job, 1), 0),

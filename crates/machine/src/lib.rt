@@ -65,8 +65,8 @@ pub struct Thread {
     pub frames: u64,
 }
 
-// What changes at each step beside the tables: the thread, and how many entries of the store's tables are used. It is flat, and only what changes is written:
-// a struct in a struct is copied at each step, which makes a step half as long again.
+// What changes at each step beside the tables: the thread, and how many entries of the store's tables are used. It is flat, since a struct in a struct is copied at each step. A count
+// has a word of its own: narrower ones would be packed and unpacked at each step.
 pub struct State {
     pub now: Now,
     pub frames: u64,

@@ -17,6 +17,7 @@ ghost use mathlib.Core.Bool.{true, false, cond, not};
 ghost use lib.Bits.{bitOr};
 ghost use lib.Dec.{eqb};
 ghost use Rattle.order.specs.Sets.{bit};
+ghost use Rattle.syntax.specs.Reading.{most-types, most-expressions};
 ghost use Rattle.syntax.specs.Job.{Job, sourceOf};
 ghost use Rattle.syntax.specs.ReadLaws.{JobOk};
 ghost use Rattle.syntax.specs.Tree.{firstBad, numbered, treeRefusal};
@@ -145,7 +146,7 @@ fn tally(counts: &mut [u8; MOST_EXPRESSIONS], c: usize)
 
 // Counts the use in the last place of expression e, if it is an operand.
 fn tally_last(counts: &mut [u8; MOST_EXPRESSIONS], slots: &[u16], head: u64, e: usize)
-    requires { ⌜ e < 512 ⌝ }
+    requires { ⌜ e < most-expressions ⌝ }
     ensures { λ r. ⌜ now (counts .exit) ≡ atLast (tallyAt (now (slots .entry)) e) head (now (counts .entry)) ⌝ }
 {
     if ends_in_operand(head) {
@@ -155,7 +156,7 @@ fn tally_last(counts: &mut [u8; MOST_EXPRESSIONS], slots: &[u16], head: u64, e: 
 
 // Counts the uses in the first n places of expression e, from the highest down.
 fn tally_first(counts: &mut [u8; MOST_EXPRESSIONS], slots: &[u16], e: usize, n: usize)
-    requires { ⌜ (e < 512) × (n ≤ 4) ⌝ }
+    requires { ⌜ (e < most-expressions) × (n ≤ 4) ⌝ }
     ensures { λ r. ⌜ now (counts .exit) ≡ atFirst (tallyAt (now (slots .entry)) e) n (now (counts .entry)) ⌝ }
 {
     let mut i = n;
@@ -167,7 +168,7 @@ fn tally_first(counts: &mut [u8; MOST_EXPRESSIONS], slots: &[u16], e: usize, n: 
 
 // The uses of each expression.
 fn count(heads: &[u64], slots: &[u16], cmds: usize, counts: &mut [u8; MOST_EXPRESSIONS])
-    requires { ⌜ cmds ≤ 512 ⌝ }
+    requires { ⌜ cmds ≤ most-expressions ⌝ }
     ensures { λ r. ⌜ now (counts .exit) ≡ counted (now (heads .entry)) (now (slots .entry)) (cmds * 5) (now (counts .entry)) ⌝ }
 {
     let mut e = cmds;
@@ -181,7 +182,7 @@ fn count(heads: &[u64], slots: &[u16], cmds: usize, counts: &mut [u8; MOST_EXPRE
 
 // Whether expression e is used x times rightly: once, and the last of n not at all.
 fn right_count(x: u8, e: usize, n: usize) -> bool
-    requires { ⌜ e < 512 ⌝ }
+    requires { ⌜ e < most-expressions ⌝ }
     ensures { λ r. ⌜ r ≡ eqb x (cond (eqb (e + 1) n) 0 1) ⌝ }
 {
     if e + 1 == n {
@@ -192,7 +193,7 @@ fn right_count(x: u8, e: usize, n: usize) -> bool
 
 // Refusal 8: the lowest expression that is not used once; the last is not used at all.
 fn misused(counts: &[u8; MOST_EXPRESSIONS], cmds: usize) -> Answer
-    requires { ⌜ cmds ≤ 512 ⌝ }
+    requires { ⌜ cmds ≤ most-expressions ⌝ }
     ensures { λ r. ⌜ refusalOf r ≡ numbered 8 (firstBad (rightCount (now (counts .entry)) cmds) 0 cmds) ⌝ }
 {
     let mut e: usize = 0;
@@ -220,7 +221,7 @@ fn is_new(vars: u64, locals: u64, head: u64) -> bool
 
 // Refusal 9: the lowest expression that binds a variable or a name bound before.
 fn rebound(heads: &[u64], cmds: usize) -> Answer
-    requires { ⌜ cmds ≤ 512 ⌝ }
+    requires { ⌜ cmds ≤ most-expressions ⌝ }
     ensures { λ r. ⌜ refusalOf r ≡ numbered 9 (firstBad (isNew (now (heads .entry))) 0 cmds) ⌝ }
 {
     let mut vars: u64 = 0;
@@ -298,7 +299,7 @@ fn names_of(word: u64, set: u64, masks: &[u64; MOST_TYPES]) -> u64
 
 // The names in each declared type. Its parts are earlier types, so one pass finds them.
 fn type_masks(types: &[u64], sets: &[u64], n: usize) -> [u64; MOST_TYPES]
-    requires { ⌜ n ≤ 256 ⌝ }
+    requires { ⌜ n ≤ most-types ⌝ }
     ensures { λ r. ⌜ r ≡ masksBy (now (types .entry)) (now (sets .entry)) n ⌝ }
 {
     let mut masks = [0u64; MOST_TYPES];
@@ -320,7 +321,7 @@ fn inherit(
     e: usize,
     c: usize,
 )
-    requires { ⌜ e < 512 ⌝ }
+    requires { ⌜ e < most-expressions ⌝ }
     ensures { λ r. ⌜ (now (vars .exit) ≡ inheritTo false (now (vars .entry)) head i e c) × (now (locals .exit) ≡ inheritTo true (now (locals .entry)) head i e c) ⌝ }
 {
     if c < MOST_EXPRESSIONS {
@@ -342,7 +343,7 @@ fn inherit_last(
     head: u64,
     e: usize,
 )
-    requires { ⌜ e < 512 ⌝ }
+    requires { ⌜ e < most-expressions ⌝ }
     ensures { λ r. ⌜ (now (vars .exit) ≡ atLast (inheritAt false (now (slots .entry)) head e) head (now (vars .entry)))
         × (now (locals .exit) ≡ atLast (inheritAt true (now (slots .entry)) head e) head (now (locals .entry))) ⌝ }
 {
@@ -360,7 +361,7 @@ fn bind_first(
     e: usize,
     n: usize,
 )
-    requires { ⌜ (e < 512) × (n ≤ 4) ⌝ }
+    requires { ⌜ (e < most-expressions) × (n ≤ 4) ⌝ }
     ensures { λ r. ⌜ (now (vars .exit) ≡ atFirst (inheritAt false (now (slots .entry)) head e) n (now (vars .entry)))
         × (now (locals .exit) ≡ atFirst (inheritAt true (now (slots .entry)) head e) n (now (locals .entry))) ⌝ }
 {
@@ -378,7 +379,7 @@ fn pass(
     e: usize,
     c: usize,
 )
-    requires { ⌜ e < 512 ⌝ }
+    requires { ⌜ e < most-expressions ⌝ }
     ensures { λ r. ⌜ (now (vars .exit) ≡ passTo (now (vars .entry)) e c) × (now (locals .exit) ≡ passTo (now (locals .entry)) e c) ⌝ }
 {
     if c < MOST_EXPRESSIONS {
@@ -395,7 +396,7 @@ fn pass_first(
     e: usize,
     n: usize,
 )
-    requires { ⌜ (e < 512) × (n ≤ 4) ⌝ }
+    requires { ⌜ (e < most-expressions) × (n ≤ 4) ⌝ }
     ensures { λ r. ⌜ (now (vars .exit) ≡ atFirst (passAt (now (slots .entry)) e) n (now (vars .entry)))
         × (now (locals .exit) ≡ atFirst (passAt (now (slots .entry)) e) n (now (locals .entry))) ⌝ }
 {
@@ -415,7 +416,7 @@ fn inherit_first(
     e: usize,
     n: usize,
 )
-    requires { ⌜ (e < 512) × (n ≤ 4) ⌝ }
+    requires { ⌜ (e < most-expressions) × (n ≤ 4) ⌝ }
     ensures { λ r. ⌜ (now (vars .exit) ≡ atFirst (inheritAt false (now (slots .entry)) head e) n (now (vars .entry)))
         × (now (locals .exit) ≡ atFirst (inheritAt true (now (slots .entry)) head e) n (now (locals .entry))) ⌝ }
 {
@@ -434,7 +435,7 @@ fn scopes(
     vars: &mut [u64; MOST_EXPRESSIONS],
     locals: &mut [u64; MOST_EXPRESSIONS],
 )
-    requires { ⌜ cmds ≤ 512 ⌝ }
+    requires { ⌜ cmds ≤ most-expressions ⌝ }
     ensures { λ r. ⌜ (now (vars .exit) ≡ inheritedDown false (now (heads .entry)) (now (slots .entry)) (cmds * 5) (now (vars .entry)))
         × (now (locals .exit) ≡ inheritedDown true (now (heads .entry)) (now (slots .entry)) (cmds * 5) (now (locals .entry))) ⌝ }
 {
@@ -462,7 +463,7 @@ fn type_place(byte: u64) -> usize
 
 // The names in the type operand of expression e.
 fn operand_names<'a>(masks: &'a [u64; MOST_TYPES], slots: &'a [u16], e: usize, head: u64) -> u64
-    requires { ⌜ e < 512 ⌝ }
+    requires { ⌜ e < most-expressions ⌝ }
     ensures { λ r. ⌜ r ≡ operandNames (now (masks .entry)) (now (slots .entry)) e head ⌝ }
 {
     let place = type_place(head % 256);
@@ -499,7 +500,7 @@ fn unscoped<'a>(
     vars: &'a [u64; MOST_EXPRESSIONS],
     locals: &'a [u64; MOST_EXPRESSIONS],
 ) -> Answer
-    requires { ⌜ cmds ≤ 512 ⌝ }
+    requires { ⌜ cmds ≤ most-expressions ⌝ }
     ensures { λ r. ⌜ refusalOf r
         ≡ numbered 10
         (firstBad (isScoped (now (heads .entry)) (now (slots .entry)) (now (masks .entry)) (now (vars .entry)) (now (locals .entry))) 0 cmds) ⌝ }
@@ -530,7 +531,7 @@ fn scope_check<'a>(
     ntypes: usize,
     nvalues: usize,
 ) -> Answer
-    requires { ⌜ (0 < cmds) × (cmds ≤ 512) × (nnames ≤ 62) × (ntypes ≤ 256) ⌝ }
+    requires { ⌜ (0 < cmds) × (cmds ≤ most-expressions) × (nnames ≤ 62) × (ntypes ≤ most-types) ⌝ }
     ensures { λ r. ⌜ refusalOf r
         ≡ scopeRefusal (now (heads .entry)) (now (slots .entry)) cmds (now (names .entry)) nnames (now (types .entry)) (now (sets .entry)) ntypes nvalues ⌝ }
 {
@@ -574,7 +575,7 @@ fn table_check<'a>(
     ntypes: usize,
     nvalues: usize,
 ) -> Answer
-    requires { ⌜ (0 < cmds) × (cmds ≤ 512) × (nnames ≤ 62) × (ntypes ≤ 256) ⌝ }
+    requires { ⌜ (0 < cmds) × (cmds ≤ most-expressions) × (nnames ≤ 62) × (ntypes ≤ most-types) ⌝ }
     ensures { λ r. ⌜ refusalOf r
         ≡ tableRefusal (now (heads .entry)) (now (slots .entry)) cmds (now (names .entry)) nnames (now (types .entry)) (now (sets .entry)) ntypes nvalues ⌝ }
 {
