@@ -426,7 +426,10 @@ fn access<'a>(
     if fits(anc, types, sets, z.ty, t, known) {} else {
         return Typing::Wrong(12);
     }
-    let s = join(x.effect, join(names::drop_below(anc, r, y.effect), z.effect));
+    let s = join(
+        x.effect,
+        join(names::drop_below(anc, r, y.effect), z.effect),
+    );
     Typing::Points(t, touched(anc, q, s))
 }
 
