@@ -468,31 +468,32 @@ impl State {
             payload: value.payload,
         })
     }
-    // The first branch where the key that x stands for is enabled, the second where it is not.
+
+    // The first branch where the key that `key` stands for is enabled, the second where it is not.
     pub(crate) fn act_access(
         self,
         back: State,
-        yes: Expr,
-        no: Expr,
-        x: Value,
+        first: Expr,
+        second: Expr,
+        key: Value,
         keys: &[u8; KEY_BYTES],
     ) -> Acted
-        ensures { λ r. ⌜ ((w : Tables) → acted r (putKeys w (now (keys .entry))) ≡ tried self back (putKeys w (now (keys .entry))) (actAccess (yes .0) (no .0) (valueIn x))) ⌝ }
+        ensures { λ r. ⌜ ((w : Tables) → acted r (putKeys w (now (keys .entry))) ≡ tried self back (putKeys w (now (keys .entry))) (actAccess (first .0) (second .0) (valueIn key))) ⌝ }
     {
-        let k = x.kind;
+        let k = key.kind;
         let Kind::Limit = k else {
             return self.stop(Answer::Stuck);
         };
-        if back.touch(x, keys) {} else {
+        if back.touch(key, keys) {} else {
             return self.stop(Answer::Denied);
         }
         let now = back.now;
         let on = now.on;
-        let j = store::key_in(x);
+        let j = store::key_in(key);
         if store::enabled(keys, back.keys, on, j) {
-            back.go(yes, now.env, on)
+            back.go(first, now.env, on)
         } else {
-            back.go(no, now.env, on)
+            back.go(second, now.env, on)
         }
     }
 }

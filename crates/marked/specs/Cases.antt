@@ -57,12 +57,28 @@ unkeyedLines =
     ∷ 0x30 ∷ 0x30 ∷ 0x30 ∷ 0x30 ∷ 0x20 ∷ 0x6E ∷ 0x75 ∷ 0x6D ∷ 0x62 ∷ 0x65 ∷ 0x72 ∷ 0x0A ∷ 0x64 ∷ 0x6F ∷ 0x6E ∷ 0x65 ∷ 0x20 ∷ 0x33 ∷ 0x20 ∷ 0x6E
     ∷ 0x75 ∷ 0x6D ∷ 0x62 ∷ 0x65 ∷ 0x72 ∷ 0x20 ∷ 0x35 ∷ 0x0A ∷ []
 
+--   accepted 0000000000000000 number
+--   done 6 number 7
+abbrev lentLines : List ℕ
+lentLines =
+    0x61 ∷ 0x63 ∷ 0x63 ∷ 0x65 ∷ 0x70 ∷ 0x74 ∷ 0x65 ∷ 0x64 ∷ 0x20 ∷ 0x30 ∷ 0x30 ∷ 0x30 ∷ 0x30 ∷ 0x30 ∷ 0x30 ∷ 0x30 ∷ 0x30 ∷ 0x30 ∷ 0x30 ∷ 0x30 ∷ 0x30
+    ∷ 0x30 ∷ 0x30 ∷ 0x30 ∷ 0x30 ∷ 0x20 ∷ 0x6E ∷ 0x75 ∷ 0x6D ∷ 0x62 ∷ 0x65 ∷ 0x72 ∷ 0x0A ∷ 0x64 ∷ 0x6F ∷ 0x6E ∷ 0x65 ∷ 0x20 ∷ 0x36 ∷ 0x20 ∷ 0x6E
+    ∷ 0x75 ∷ 0x6D ∷ 0x62 ∷ 0x65 ∷ 0x72 ∷ 0x20 ∷ 0x37 ∷ 0x0A ∷ []
+
+--   accepted 0000000000000000 number
+--   done 4 number 0
+abbrev unlentLines : List ℕ
+unlentLines =
+    0x61 ∷ 0x63 ∷ 0x63 ∷ 0x65 ∷ 0x70 ∷ 0x74 ∷ 0x65 ∷ 0x64 ∷ 0x20 ∷ 0x30 ∷ 0x30 ∷ 0x30 ∷ 0x30 ∷ 0x30 ∷ 0x30 ∷ 0x30 ∷ 0x30 ∷ 0x30 ∷ 0x30 ∷ 0x30 ∷ 0x30
+    ∷ 0x30 ∷ 0x30 ∷ 0x30 ∷ 0x30 ∷ 0x20 ∷ 0x6E ∷ 0x75 ∷ 0x6D ∷ 0x62 ∷ 0x65 ∷ 0x72 ∷ 0x0A ∷ 0x64 ∷ 0x6F ∷ 0x6E ∷ 0x65 ∷ 0x20 ∷ 0x34 ∷ 0x20 ∷ 0x6E
+    ∷ 0x75 ∷ 0x6D ∷ 0x62 ∷ 0x65 ∷ 0x72 ∷ 0x20 ∷ 0x30 ∷ 0x0A ∷ []
+
 --   accepted 0000000000000020 number
---   done 132 number 255
+--   done 135 number 255
 abbrev everyLines : List ℕ
 everyLines =
     0x61 ∷ 0x63 ∷ 0x63 ∷ 0x65 ∷ 0x70 ∷ 0x74 ∷ 0x65 ∷ 0x64 ∷ 0x20 ∷ 0x30 ∷ 0x30 ∷ 0x30 ∷ 0x30 ∷ 0x30 ∷ 0x30 ∷ 0x30 ∷ 0x30 ∷ 0x30 ∷ 0x30 ∷ 0x30 ∷ 0x30
-    ∷ 0x30 ∷ 0x30 ∷ 0x32 ∷ 0x30 ∷ 0x20 ∷ 0x6E ∷ 0x75 ∷ 0x6D ∷ 0x62 ∷ 0x65 ∷ 0x72 ∷ 0x0A ∷ 0x64 ∷ 0x6F ∷ 0x6E ∷ 0x65 ∷ 0x20 ∷ 0x31 ∷ 0x33 ∷ 0x32
+    ∷ 0x30 ∷ 0x30 ∷ 0x32 ∷ 0x30 ∷ 0x20 ∷ 0x6E ∷ 0x75 ∷ 0x6D ∷ 0x62 ∷ 0x65 ∷ 0x72 ∷ 0x0A ∷ 0x64 ∷ 0x6F ∷ 0x6E ∷ 0x65 ∷ 0x20 ∷ 0x31 ∷ 0x33 ∷ 0x35
     ∷ 0x20 ∷ 0x6E ∷ 0x75 ∷ 0x6D ∷ 0x62 ∷ 0x65 ∷ 0x72 ∷ 0x20 ∷ 0x32 ∷ 0x35 ∷ 0x35 ∷ 0x0A ∷ []
 
 unfoldable pub isRead : Reading.Read → Bool
@@ -121,7 +137,10 @@ pub record Marked : Type 0 where
   pub example-refused : Lines.deskOf (Jobs.example 0x00) ≡ refusedLine
   -- "the machine, started anyway, is denied after 2 steps"
   pub example-denied : started 100000 (Jobs.example 0x00) ≡ some (record { answer = Calls.denied; count = 2 })
-  -- beyond the paper's: a job that runs every command
+  -- beyond the paper's: a job that asks for a key, where the rights lend it and where they do not: the same verdict, another branch
+  pub asking-lent : Lines.deskOf (Jobs.asking 0x04) ≡ lentLines
+  pub asking-unlent : Lines.deskOf (Jobs.asking 0x00) ≡ unlentLines
+  -- a job that runs every command
   pub every-command : Lines.deskOf Jobs.everyCommand ≡ everyLines
   -- and one with a name out of scope: it is refused with 10, and the rules give it no type
   pub unscoped-refused : Verdict.verdictOf Jobs.unscoped ≡ Verdict.refuse (record { number = 10; place = 1 })
@@ -129,7 +148,7 @@ pub record Marked : Type 0 where
   pub unscoped-untyped : (T : Types.Ty) (s : Effects.Effect) → Demand2.JobHas Examples.unscoped T s → ⊥
 
 pub marked : Marked
-unfolding Bools._and_ Bools._or_ Order.onUpper Order.belowIn Order.below Sets.bit Sets.consIf Sets.membersFrom Sets.members Sets.setOf Sets.keep Sets.some-of Sets.all-of Effects.ofNames Effects.names Effects.touch Effects.join Effects.effBelow Effects.maximal Effects.reduced Effects.reduce Effects.drop Effects.raise Types.keyOf Types.rekey Types.depth Types.namesIn Types.entryTree Types.treeIn Types.tree Commands.mapCmd Commands.commands Commands.findOp Commands.opOf Commands.operands Commands.total Commands.width Commands.sectionOf Commands.little Commands.fields Operands.nth Operands.plain Operands.inner Operands.children Operands.typesOf Operands.usesVar Operands.bindsVar Operands.bindsName Job.uppers Job.valueOf Job.sourceOf Reading.declared Reading.isHost Reading.hostName Reading.openName Reading.localName Reading.setOk Reading.nameOk Reading.partsOk Reading.typeOk Reading.unkeyedNumber Reading.hostTypeOk Reading.hostValueOk Reading.rightsOk Reading.cmdOk Reading.written Reading.given Reading.enter Reading.misplaced Reading.full Reading.settle Reading.command Reading.ended Reading.onward Reading.onOp Reading.readFrom Reading.reading Tree.binds Tree.varsOf Tree.namesOf Tree.memB Tree.usesName Tree.addHost Tree.nameCtx Tree.valueCtx Tree.hostCtx Tree.root Tree.count Tree.uses Tree.usedRight Tree.boundBy Tree.bindsNew Tree.parent Tree.scopeIn Tree.ctx Tree.nameIn Tree.inScope Tree.firstBad Tree.orElse Tree.numbered Tree.lowest Tree.treeRefusal Subtype.sameTy Subtype.subTy Subtype.superTy Least.with Least.wantNum Least.wantPair Least.wantCell Least.wantFn Least.wantLim Least.wantGrant Least.require Least.isUpper Least.typeIn Least.varType Least.ofVar Least.keysAt Least.typeAt Least.get Least.extend Least.typesTo Least.types Least.typeOf Least.firstUntyped Verdict.unless Verdict.within Verdict.judged Verdict.judge Verdict.judgeRead Verdict.verdictOf Keys.enabled Keys.upto Keys.narrow Keys.add Step.room Step.touch Step.touchAll Step.settle Step.asNum Step.asPair Step.asFn Step.asCell Step.asLim Step.asGrant Step.found Step.bare Step.one Step.two Step.actPair Step.partOf Step.actPart Step.actFn Step.actApp Step.actNew Step.actAsg Step.actRead Step.sumN Step.actSum Step.branch Step.actTest Step.limitKeys Step.keysOf Step.actLim Step.actGrant Step.makeKey Step.actNewkey Step.actAssoc Operands.evaluated Step.push Step.act Step.seekIn Step.seekAt Step.seek Step.variable Step.enterAt Step.enterCmd Step.receive Step.handTo Step.planOn Step.plan Step.step Room.doneAt Room.isDone Start.bindTo Start.addName Start.addNames Start.named Start.hostValue Start.hostCell Start.addValues Start.keyNamed Start.valued Start.startOf Calls.turn Calls.run Calls.call Calls.calls Lines.decimalIn Lines.decimal Lines.hexDigit Lines.hex Lines.w-refused Lines.w-at Lines.w-accepted Lines.w-done Lines.w-spent Lines.w-no-room Lines.w-number Lines.w-pair Lines.w-cell Lines.w-function Lines.w-limit Lines.w-grant Lines.space Lines.line Lines.typeKind Lines.valueKind Lines.handed Lines.refusedLine Lines.acceptedLine Lines.ranLine Lines.ranOf Lines.runLine Lines.runRead Lines.reported Lines.deskOf Lines.printed flatMap Jobs.example Jobs.cellsFrom Jobs.nested Jobs.unkeyedRead Jobs.limitedRead Jobs.everyCommand Jobs.unscoped isRead told ranFrom started Loading.unless Loading.inTree Loading.loading Starting.startLoaded Starting.starting Tree.predecessor Types.byType Types.onNum Types.onPair Types.onCell Types.onFn Types.onLim Types.onGrant Effects.setNames Effects.setTouch Effects.setBelow Effects.setReduced Effects.setReduce Effects.setDrop Effects.setRaise
+unfolding Bools._and_ Bools._or_ Order.onUpper Order.belowIn Order.below Sets.bit Sets.consIf Sets.membersFrom Sets.members Sets.setOf Sets.keep Sets.some-of Sets.all-of Effects.ofNames Effects.names Effects.touch Effects.join Effects.effBelow Effects.maximal Effects.reduced Effects.reduce Effects.drop Effects.raise Types.keyOf Types.rekey Types.depth Types.namesIn Types.entryTree Types.treeIn Types.tree Commands.mapCmd Commands.commands Commands.findOp Commands.opOf Commands.operands Commands.total Commands.width Commands.sectionOf Commands.little Commands.fields Operands.nth Operands.plain Operands.inner Operands.children Operands.typesOf Operands.usesVar Operands.bindsVar Operands.bindsName Job.uppers Job.valueOf Job.sourceOf Reading.declared Reading.isHost Reading.hostName Reading.openName Reading.localName Reading.setOk Reading.nameOk Reading.partsOk Reading.typeOk Reading.unkeyedNumber Reading.hostTypeOk Reading.hostValueOk Reading.rightsOk Reading.cmdOk Reading.written Reading.given Reading.enter Reading.misplaced Reading.full Reading.settle Reading.command Reading.ended Reading.onward Reading.onOp Reading.readFrom Reading.reading Tree.binds Tree.varsOf Tree.namesOf Tree.memB Tree.usesName Tree.addHost Tree.nameCtx Tree.valueCtx Tree.hostCtx Tree.root Tree.count Tree.uses Tree.usedRight Tree.boundBy Tree.bindsNew Tree.parent Tree.scopeIn Tree.ctx Tree.nameIn Tree.inScope Tree.firstBad Tree.orElse Tree.numbered Tree.lowest Tree.treeRefusal Subtype.sameTy Subtype.subTy Subtype.superTy Least.with Least.wantNum Least.wantPair Least.wantCell Least.wantFn Least.wantLim Least.wantGrant Least.require Least.isUpper Least.typeIn Least.varType Least.ofVar Least.keysAt Least.typeAt Least.get Least.extend Least.typesTo Least.types Least.typeOf Least.firstUntyped Verdict.unless Verdict.within Verdict.judged Verdict.judge Verdict.judgeRead Verdict.verdictOf Keys.enabled Keys.upto Keys.narrow Keys.add Step.room Step.touch Step.touchAll Step.settle Step.asNum Step.asPair Step.asFn Step.asCell Step.asLim Step.asGrant Step.found Step.bare Step.one Step.two Step.actPair Step.partOf Step.actPart Step.actFn Step.actApp Step.actNew Step.actAsg Step.actRead Step.sumN Step.actSum Step.branch Step.actTest Step.limitKeys Step.keysOf Step.actLim Step.actGrant Step.makeKey Step.actNewkey Step.actAssoc Step.actAccess Operands.evaluated Step.push Step.act Step.seekIn Step.seekAt Step.seek Step.variable Step.enterAt Step.enterCmd Step.receive Step.handTo Step.planOn Step.plan Step.step Room.doneAt Room.isDone Start.bindTo Start.addName Start.addNames Start.named Start.hostValue Start.hostCell Start.addValues Start.keyNamed Start.valued Start.startOf Calls.turn Calls.run Calls.call Calls.calls Lines.decimalIn Lines.decimal Lines.hexDigit Lines.hex Lines.w-refused Lines.w-at Lines.w-accepted Lines.w-done Lines.w-spent Lines.w-no-room Lines.w-number Lines.w-pair Lines.w-cell Lines.w-function Lines.w-limit Lines.w-grant Lines.space Lines.line Lines.typeKind Lines.valueKind Lines.handed Lines.refusedLine Lines.acceptedLine Lines.ranLine Lines.ranOf Lines.runLine Lines.runRead Lines.reported Lines.deskOf Lines.printed flatMap Jobs.example Jobs.asking Jobs.cellsFrom Jobs.nested Jobs.unkeyedRead Jobs.limitedRead Jobs.everyCommand Jobs.unscoped isRead told ranFrom started Loading.unless Loading.inTree Loading.loading Starting.startLoaded Starting.starting Tree.predecessor Types.byType Types.onNum Types.onPair Types.onCell Types.onFn Types.onLim Types.onGrant Effects.setNames Effects.setTouch Effects.setBelow Effects.setReduced Effects.setReduce Effects.setDrop Effects.setRaise
 marked =
     record {
       bits = refl;
@@ -150,6 +169,8 @@ marked =
       example-lines = refl;
       example-refused = refl;
       example-denied = refl;
+      asking-lent = refl;
+      asking-unlent = refl;
       every-command = refl;
       unscoped-refused = refl;
       unscoped-read = refl;

@@ -17,7 +17,7 @@ stop-requires c κs = search needs
 
 returns : tie.Need-returns
 unfolding actAccess
-returns c = λ w. simp (c .stop .ensures, not-limit (c .before .before .args .x .kind) (c .before .match .keys2))
+returns c = λ w. simp (c .stop .ensures, not-limit (c .before .before .args .key .kind) (c .before .match .keys2))
 
 touch-requires : tie.Need-touch-requires
 touch-requires c κs = search needs
@@ -26,7 +26,7 @@ stop-requires-2 : tie.Need-stop-requires-2
 stop-requires-2 c κs = search needs
 
 returns-2 : tie.Need-returns-2
-returns-2 c = λ w. is-denied _ _ _ (c .stop2 .ensures) (access-denied (c .before .before .before .before .before .args .back) (putKeys w (now (c .before .before .before .before .before .args .keys))) (c .before .before .before .before .before .args .yes .0) (c .before .before .before .before .before .args .no .0) (valueIn (c .before .before .before .before .before .args .x)) (of-kind _ (c .before .before .before .enum-told .given .1)) (c .before .before .touch .ensures) (c .before .if1 .left))
+returns-2 c = λ w. is-denied _ _ _ (c .stop2 .ensures) (access-denied (c .before .before .before .before .before .args .back) (putKeys w (now (c .before .before .before .before .before .args .keys))) (c .before .before .before .before .before .args .first .0) (c .before .before .before .before .before .args .second .0) (valueIn (c .before .before .before .before .before .args .key)) (of-kind _ (c .before .before .before .enum-told .given .1)) (c .before .before .touch .ensures) (c .before .if1 .left))
 
 key-in-requires : tie.Need-key-in-requires
 key-in-requires c κs = search needs
@@ -41,10 +41,10 @@ go-requires-2 : tie.Need-go-requires-2
 go-requires-2 c κs = search needs
 
 returns-3 : tie.Need-returns-3
-returns-3 c = λ w. goes _ _ _ _ _ _ _ (c .go .ensures) (access-yes (c .before .before .before .before .before .before .before .before .before .before .args .back) (putKeys w (now (c .before .before .before .before .before .before .before .before .before .before .args .keys))) (c .before .before .before .before .before .before .before .before .before .before .args .yes .0) (c .before .before .before .before .before .before .before .before .before .before .args .no .0) (valueIn (c .before .before .before .before .before .before .before .before .before .before .args .x)) (of-kind _ (c .before .before .before .before .before .before .before .before .enum-told .given .1)) (c .before .before .before .before .before .before .before .touch .ensures) (c .before .before .before .before .before .before .if1 .taken) (c .before .before .before .key-in .ensures) (c .before .before .enabled .ensures) (c .before .if2 .taken))
+returns-3 c = λ w. goes _ _ _ _ _ _ _ (c .go .ensures) (access-yes (c .before .before .before .before .before .before .before .before .before .before .args .back) (putKeys w (now (c .before .before .before .before .before .before .before .before .before .before .args .keys))) (c .before .before .before .before .before .before .before .before .before .before .args .first .0) (c .before .before .before .before .before .before .before .before .before .before .args .second .0) (valueIn (c .before .before .before .before .before .before .before .before .before .before .args .key)) (of-kind _ (c .before .before .before .before .before .before .before .before .enum-told .given .1)) (c .before .before .before .before .before .before .before .touch .ensures) (c .before .before .before .before .before .before .if1 .taken) (c .before .before .before .key-in .ensures) (c .before .before .enabled .ensures) (c .before .if2 .taken))
 
 returns-4 : tie.Need-returns-4
-returns-4 c = λ w. goes _ _ _ _ _ _ _ (c .go2 .ensures) (access-no (c .before .before .before .before .before .before .before .before .before .before .args .back) (putKeys w (now (c .before .before .before .before .before .before .before .before .before .before .args .keys))) (c .before .before .before .before .before .before .before .before .before .before .args .yes .0) (c .before .before .before .before .before .before .before .before .before .before .args .no .0) (valueIn (c .before .before .before .before .before .before .before .before .before .before .args .x)) (of-kind _ (c .before .before .before .before .before .before .before .before .enum-told .given .1)) (c .before .before .before .before .before .before .before .touch .ensures) (c .before .before .before .before .before .before .if1 .taken) (c .before .before .before .key-in .ensures) (c .before .before .enabled .ensures) (c .before .if2 .left))
+returns-4 c = λ w. goes _ _ _ _ _ _ _ (c .go2 .ensures) (access-no (c .before .before .before .before .before .before .before .before .before .before .args .back) (putKeys w (now (c .before .before .before .before .before .before .before .before .before .before .args .keys))) (c .before .before .before .before .before .before .before .before .before .before .args .first .0) (c .before .before .before .before .before .before .before .before .before .before .args .second .0) (valueIn (c .before .before .before .before .before .before .before .before .before .before .args .key)) (of-kind _ (c .before .before .before .before .before .before .before .before .enum-told .given .1)) (c .before .before .before .before .before .before .before .touch .ensures) (c .before .before .before .before .before .before .if1 .taken) (c .before .before .before .key-in .ensures) (c .before .before .enabled .ensures) (c .before .if2 .left))
 
 pub act-access-spec : {M : Type 1} → statement M
 act-access-spec =
