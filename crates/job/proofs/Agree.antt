@@ -2,7 +2,7 @@
 use mathlib.Core.Path.{_≡_, refl, sym, ap, ap₂, _∙_, subst}
 use Prim.Native.Nat.{ℕ, _+_, _≤_, _<_}
 use native.Mathlib.Omega.{arith}
-use mathlib.Core.Bool.{Bool, true, false, cond, not}
+use mathlib.Core.Bool.{Bool, true, false, cond, not, true≢false}
 use mathlib.Core.List.{List, _∷_}
 use mathlib.Core.Option.{Option, some}
 use lib.ListN.{length, length-append, length-replicate, length-take, getD, getElem?, take, drop}
@@ -24,7 +24,8 @@ use Rattle.names.specs.Laws.{set-ok-by, rights-ok-by}
 use Rattle.names.specs.Pass.{ancestors-by}
 use Rattle.job.specs.Bytes.{fieldAt, sectionByte, misplacedBy, fullBy}
 use Rattle.job.specs.Entries.{namedOf, nameEntry, valueEntry, rightsEntry, formEntry, entryOf, inRoom, judgedBy, entryIn, judgedIn}
-use Rattle.job.specs.Answer.{shapeOf}
+use Rattle.job.specs.Answer.{shapeOf, stopsOf}
+use Rattle.job.specs.Told.{sortOf}
 use Rattle.job.specs.declared.Entry.{Entry}
 use Rattle.job.specs.declared.Entry.the-variants.{Refuse, Named, Rights, Last}
 use Rattle.job.proofs.Ops.{byteOf, op-byte, width-narrow, width-is, misplaced-is, full-is, fieldsFrom, fields-from}
@@ -176,22 +177,29 @@ pub data Adds : Written → Type 0 where
 pub data Agrees (J : Job) (sec w n : ℕ) : Step → Entry → Type 0 where
   ag-refuse : (m : ℕ) → Agrees J sec w n (refuse m) (Refuse m)
   ag-last : Agrees J sec w n (finish J) Last
-  ag-on : (x : Written) → Adds x → okW x J ≡ true → w ≤ n → Agrees J sec w n (proceed (record { section = sec; job = extended x J })) (entryW x J)
+  ag-on : (x : Written) → Adds x → sortOf (entryW x J) ≡ sec → okW x J ≡ true → w ≤ n → Agrees J sec w n (proceed (record { section = sec; job = extended x J })) (entryW x J)
 
-agree-on : (J : Job) (sec w n : ℕ) → sec < 5 → (x : Written) → Adds x → w ≤ n → (b : Bool) → okW x J ≡ b → Agrees J sec w n (settle sec (given b (extended x J))) (cond b (entryW x J) (Refuse 6))
+agree-on : (J : Job) (sec w n : ℕ) → sec < 5 → (x : Written) → Adds x → sortOf (entryW x J) ≡ sec → w ≤ n → (b : Bool) → okW x J ≡ b → Agrees J sec w n (settle sec (given b (extended x J))) (cond b (entryW x J) (Refuse 6))
 unfolding settle given
-agree-on J sec w n h x a l false e = ag-refuse 6
-agree-on J sec w n h x a l true e = subst (λ (c : Bool). Agrees J sec w n (cond c (finish (extended x J)) (proceed (record { section = sec; job = extended x J }))) (entryW x J)) (sym (ne-eqb sec 5 (λ z. omega arith))) (ag-on x a e l)
+agree-on J sec w n h x a q l false e = ag-refuse 6
+agree-on J sec w n h x a q l true e = subst (λ (c : Bool). Agrees J sec w n (cond c (finish (extended x J)) (proceed (record { section = sec; job = extended x J }))) (entryW x J)) (sym (ne-eqb sec 5 (λ z. omega arith))) (ag-on x a q e l)
 
 agree-entered : (J : Job) (sec w n : ℕ) (x : Written) → Wrote sec x → places x ≡ 5 → w ≤ n → Agrees J sec w n (settle sec (given (okW x J) (extended x J))) (judgedW x J)
-unfolding judgedW okW extended entryW settle given places
-agree-entered J sec w n x (wrote-name d) f l = agree-on J 0 w n (omega arith) (w-name d) (adds-name d) l (nameOk (J .names) d) refl
-agree-entered J sec w n x (wrote-type e) f l = agree-on J 1 w n (omega arith) (w-type e) (adds-type e) l (typeOk (J .names) (J .types) e) refl
-agree-entered J sec w n x (wrote-value h) f l = agree-on J 2 w n (omega arith) (w-value h) (adds-value h) l (hostValueOk (J .names) (J .types) h) refl
-agree-entered J sec w n x (wrote-rights s) f l = agree-on J 3 w n (omega arith) (w-rights s) (adds-rights s) l (rightsOk (J .names) s) refl
-agree-entered J sec w n x (wrote-cmd k) f l = agree-on J 4 w n (omega arith) (w-cmd k) (adds-cmd k f) l (cmdOk J k) refl
+unfolding judgedW okW extended entryW settle given places sortOf
+agree-entered J sec w n x (wrote-name d) f l = agree-on J 0 w n (omega arith) (w-name d) (adds-name d) refl l (nameOk (J .names) d) refl
+agree-entered J sec w n x (wrote-type e) f l = agree-on J 1 w n (omega arith) (w-type e) (adds-type e) refl l (typeOk (J .names) (J .types) e) refl
+agree-entered J sec w n x (wrote-value h) f l = agree-on J 2 w n (omega arith) (w-value h) (adds-value h) refl l (hostValueOk (J .names) (J .types) h) refl
+agree-entered J sec w n x (wrote-rights s) f l = agree-on J 3 w n (omega arith) (w-rights s) (adds-rights s) refl l (rightsOk (J .names) s) refl
+agree-entered J sec w n x (wrote-cmd k) f l = agree-on J 4 w n (omega arith) (w-cmd k) (adds-cmd k f) refl l (cmdOk J k) refl
 agree-entered J sec w n x wrote-end f l = ag-last
 agree-entered J sec w n x (wrote-none m) f l = ag-refuse 6
+
+-- where reading goes on, the entry's sort is the section
+pub sort-on : {J : Job} {sec w n : ℕ} {x : Step} {e : Entry} → Agrees J sec w n x e → stopsOf e ≡ false → sortOf e ≡ sec
+unfolding stopsOf
+sort-on (ag-refuse m) es = absurd (true≢false es)
+sort-on ag-last es = absurd (true≢false es)
+sort-on (ag-on x a q okay l) es = q
 
 -- one command
 pub agrees : (J : Job) (names types depths : List ℕ) → Kept J names types depths → (cur b : ℕ) (o : Op) (s : List ℕ) → opOf b ≡ some o

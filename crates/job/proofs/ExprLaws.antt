@@ -17,7 +17,7 @@ use Rattle.syntax.specs.Job.{Job}
 use Rattle.syntax.specs.Words.{headWord, slots, filled}
 use Rattle.syntax.specs.Reading.{Written, w-cmd, unwritten, written, localName, cmdOk}
 use Rattle.syntax.specs.WrittenLaws.{partOf, sumOf, limitOf, written-part, written-sum, written-limit}
-use Rattle.job.specs.Bytes.{fieldAt, digitOf, rowOf, offsetOf, kindOf, slotOf, leadOf, formOf, slotOk, slotsOk, keyOk, limitOk}
+use Rattle.job.specs.Bytes.{fieldAt, digitOf, offsetsOf, kindsOf, slotIn, leadOf, formOf, slotOk, slotsOk, keyOk, limitOk}
 use Rattle.job.specs.Entries.{eitherOf, bindsOk, newKeyOk, leadOk, placesOk, formEntry}
 use Rattle.job.specs.declared.Entry.{Entry}
 use Rattle.job.specs.declared.Entry.the-variants.{Refuse, Formed}
@@ -150,59 +150,59 @@ binds-host v x h = sym (ap (λ (b : Bool). cond b (ltb x 64) false) (lt-leb v x 
 
 module _ (s : List ℕ) (J : Job) where
   pub law-x-number : formEntry (byteOf x-number) s (J .names) (shapeOf J) ≡ judgedW (written x-number (fieldsFrom (operands x-number) s 1)) J
-  unfolding digitOf rowOf formEntry placesOk slotsOk slotOk kindOf formOf slotOf offsetOf leadOf leadOk byteOf written operands fieldsFrom judgedW okW entryW cmdOk children plain inner typesOf usesVar bindsVar bindsName all-of wordsOf headWord slots filled shapeOf
+  unfolding digitOf offsetsOf kindsOf formEntry placesOk slotsOk slotOk formOf slotIn leadOf leadOk byteOf written operands fieldsFrom judgedW okW entryW cmdOk children plain inner typesOf usesVar bindsVar bindsName all-of wordsOf headWord slots filled shapeOf
   law-x-number = no-operand _ _
 
   pub law-x-top : formEntry (byteOf x-top) s (J .names) (shapeOf J) ≡ judgedW (written x-top (fieldsFrom (operands x-top) s 1)) J
-  unfolding digitOf rowOf formEntry placesOk slotsOk slotOk kindOf formOf slotOf offsetOf leadOf leadOk byteOf written operands fieldsFrom judgedW okW entryW cmdOk children plain inner typesOf usesVar bindsVar bindsName all-of wordsOf headWord slots filled shapeOf
+  unfolding digitOf offsetsOf kindsOf formEntry placesOk slotsOk slotOk formOf slotIn leadOf leadOk byteOf written operands fieldsFrom judgedW okW entryW cmdOk children plain inner typesOf usesVar bindsVar bindsName all-of wordsOf headWord slots filled shapeOf
   law-x-top = no-operand _ _
 
   pub law-x-variable : formEntry (byteOf x-variable) s (J .names) (shapeOf J) ≡ judgedW (written x-variable (fieldsFrom (operands x-variable) s 1)) J
-  unfolding digitOf rowOf formEntry placesOk slotsOk slotOk kindOf formOf slotOf offsetOf leadOf leadOk byteOf written operands fieldsFrom judgedW okW entryW cmdOk children plain inner typesOf usesVar bindsVar bindsName all-of wordsOf headWord slots filled shapeOf
+  unfolding digitOf offsetsOf kindsOf formEntry placesOk slotsOk slotOk formOf slotIn leadOf leadOk byteOf written operands fieldsFrom judgedW okW entryW cmdOk children plain inner typesOf usesVar bindsVar bindsName all-of wordsOf headWord slots filled shapeOf
   law-x-variable = one-variable (ltb (fieldAt 1 s 1) 64) _ _
 
   pub law-x-pair : formEntry (byteOf x-pair) s (J .names) (shapeOf J) ≡ judgedW (written x-pair (fieldsFrom (operands x-pair) s 1)) J
-  unfolding digitOf rowOf formEntry placesOk slotsOk slotOk kindOf formOf slotOf offsetOf leadOf leadOk byteOf written operands fieldsFrom judgedW okW entryW cmdOk children plain inner typesOf usesVar bindsVar bindsName all-of wordsOf headWord slots filled shapeOf
+  unfolding digitOf offsetsOf kindsOf formEntry placesOk slotsOk slotOk formOf slotIn leadOf leadOk byteOf written operands fieldsFrom judgedW okW entryW cmdOk children plain inner typesOf usesVar bindsVar bindsName all-of wordsOf headWord slots filled shapeOf
   law-x-pair = two-children (ltb (fieldAt 2 s 1) (length (J .cmds))) (ltb (fieldAt 2 s 3) (length (J .cmds))) _ _
 
   pub law-x-apply : formEntry (byteOf x-apply) s (J .names) (shapeOf J) ≡ judgedW (written x-apply (fieldsFrom (operands x-apply) s 1)) J
-  unfolding digitOf rowOf formEntry placesOk slotsOk slotOk kindOf formOf slotOf offsetOf leadOf leadOk byteOf written operands fieldsFrom judgedW okW entryW cmdOk children plain inner typesOf usesVar bindsVar bindsName all-of wordsOf headWord slots filled shapeOf
+  unfolding digitOf offsetsOf kindsOf formEntry placesOk slotsOk slotOk formOf slotIn leadOf leadOk byteOf written operands fieldsFrom judgedW okW entryW cmdOk children plain inner typesOf usesVar bindsVar bindsName all-of wordsOf headWord slots filled shapeOf
   law-x-apply = two-children (ltb (fieldAt 2 s 1) (length (J .cmds))) (ltb (fieldAt 2 s 3) (length (J .cmds))) _ _
 
   pub law-x-assign : formEntry (byteOf x-assign) s (J .names) (shapeOf J) ≡ judgedW (written x-assign (fieldsFrom (operands x-assign) s 1)) J
-  unfolding digitOf rowOf formEntry placesOk slotsOk slotOk kindOf formOf slotOf offsetOf leadOf leadOk byteOf written operands fieldsFrom judgedW okW entryW cmdOk children plain inner typesOf usesVar bindsVar bindsName all-of wordsOf headWord slots filled shapeOf
+  unfolding digitOf offsetsOf kindsOf formEntry placesOk slotsOk slotOk formOf slotIn leadOf leadOk byteOf written operands fieldsFrom judgedW okW entryW cmdOk children plain inner typesOf usesVar bindsVar bindsName all-of wordsOf headWord slots filled shapeOf
   law-x-assign = two-children (ltb (fieldAt 2 s 1) (length (J .cmds))) (ltb (fieldAt 2 s 3) (length (J .cmds))) _ _
 
   pub law-x-grant : formEntry (byteOf x-grant) s (J .names) (shapeOf J) ≡ judgedW (written x-grant (fieldsFrom (operands x-grant) s 1)) J
-  unfolding digitOf rowOf formEntry placesOk slotsOk slotOk kindOf formOf slotOf offsetOf leadOf leadOk byteOf written operands fieldsFrom judgedW okW entryW cmdOk children plain inner typesOf usesVar bindsVar bindsName all-of wordsOf headWord slots filled shapeOf
+  unfolding digitOf offsetsOf kindsOf formEntry placesOk slotsOk slotOk formOf slotIn leadOf leadOk byteOf written operands fieldsFrom judgedW okW entryW cmdOk children plain inner typesOf usesVar bindsVar bindsName all-of wordsOf headWord slots filled shapeOf
   law-x-grant = two-children (ltb (fieldAt 2 s 1) (length (J .cmds))) (ltb (fieldAt 2 s 3) (length (J .cmds))) _ _
 
   pub law-x-associate : formEntry (byteOf x-associate) s (J .names) (shapeOf J) ≡ judgedW (written x-associate (fieldsFrom (operands x-associate) s 1)) J
-  unfolding digitOf rowOf formEntry placesOk slotsOk slotOk kindOf formOf slotOf offsetOf leadOf leadOk byteOf written operands fieldsFrom judgedW okW entryW cmdOk children plain inner typesOf usesVar bindsVar bindsName all-of wordsOf headWord slots filled shapeOf
+  unfolding digitOf offsetsOf kindsOf formEntry placesOk slotsOk slotOk formOf slotIn leadOf leadOk byteOf written operands fieldsFrom judgedW okW entryW cmdOk children plain inner typesOf usesVar bindsVar bindsName all-of wordsOf headWord slots filled shapeOf
   law-x-associate = two-children (ltb (fieldAt 2 s 1) (length (J .cmds))) (ltb (fieldAt 2 s 3) (length (J .cmds))) _ _
 
   pub law-x-read : formEntry (byteOf x-read) s (J .names) (shapeOf J) ≡ judgedW (written x-read (fieldsFrom (operands x-read) s 1)) J
-  unfolding digitOf rowOf formEntry placesOk slotsOk slotOk kindOf formOf slotOf offsetOf leadOf leadOk byteOf written operands fieldsFrom judgedW okW entryW cmdOk children plain inner typesOf usesVar bindsVar bindsName all-of wordsOf headWord slots filled shapeOf
+  unfolding digitOf offsetsOf kindsOf formEntry placesOk slotsOk slotOk formOf slotIn leadOf leadOk byteOf written operands fieldsFrom judgedW okW entryW cmdOk children plain inner typesOf usesVar bindsVar bindsName all-of wordsOf headWord slots filled shapeOf
   law-x-read = one-child (ltb (fieldAt 2 s 1) (length (J .cmds))) _ _
 
   pub law-x-function : formEntry (byteOf x-function) s (J .names) (shapeOf J) ≡ judgedW (written x-function (fieldsFrom (operands x-function) s 1)) J
-  unfolding digitOf rowOf formEntry placesOk slotsOk slotOk kindOf formOf slotOf offsetOf leadOf leadOk byteOf written operands fieldsFrom judgedW okW entryW cmdOk children plain inner typesOf usesVar bindsVar bindsName all-of wordsOf headWord slots filled shapeOf bindsOk
+  unfolding digitOf offsetsOf kindsOf formEntry placesOk slotsOk slotOk formOf slotIn leadOf leadOk byteOf written operands fieldsFrom judgedW okW entryW cmdOk children plain inner typesOf usesVar bindsVar bindsName all-of wordsOf headWord slots filled shapeOf bindsOk
   law-x-function = binder (ltb (fieldAt 2 s 4) (length (J .cmds))) (ltb (fieldAt 2 s 2) (length (J .types))) (leb (length (J .values)) (fieldAt 1 s 1)) (ltb (fieldAt 1 s 1) 64) _ _
 
   pub law-x-cell : formEntry (byteOf x-cell) s (J .names) (shapeOf J) ≡ judgedW (written x-cell (fieldsFrom (operands x-cell) s 1)) J
-  unfolding digitOf rowOf formEntry placesOk slotsOk slotOk kindOf formOf slotOf offsetOf leadOf leadOk byteOf written operands fieldsFrom judgedW okW entryW cmdOk children plain inner typesOf usesVar bindsVar bindsName all-of wordsOf headWord slots filled shapeOf
+  unfolding digitOf offsetsOf kindsOf formEntry placesOk slotsOk slotOk formOf slotIn leadOf leadOk byteOf written operands fieldsFrom judgedW okW entryW cmdOk children plain inner typesOf usesVar bindsVar bindsName all-of wordsOf headWord slots filled shapeOf
   law-x-cell = child-type (ltb (fieldAt 2 s 3) (length (J .cmds))) (ltb (fieldAt 2 s 1) (length (J .types))) _ _
 
   pub law-x-test : formEntry (byteOf x-test) s (J .names) (shapeOf J) ≡ judgedW (written x-test (fieldsFrom (operands x-test) s 1)) J
-  unfolding digitOf rowOf formEntry placesOk slotsOk slotOk kindOf formOf slotOf offsetOf leadOf leadOk byteOf written operands fieldsFrom judgedW okW entryW cmdOk children plain inner typesOf usesVar bindsVar bindsName all-of wordsOf headWord slots filled shapeOf
+  unfolding digitOf offsetsOf kindsOf formEntry placesOk slotsOk slotOk formOf slotIn leadOf leadOk byteOf written operands fieldsFrom judgedW okW entryW cmdOk children plain inner typesOf usesVar bindsVar bindsName all-of wordsOf headWord slots filled shapeOf
   law-x-test = three-type (ltb (fieldAt 2 s 1) (length (J .cmds))) (ltb (fieldAt 2 s 3) (length (J .cmds))) (ltb (fieldAt 2 s 5) (length (J .cmds))) (ltb (fieldAt 2 s 7) (length (J .types))) _ _
 
   pub law-x-access : formEntry (byteOf x-access) s (J .names) (shapeOf J) ≡ judgedW (written x-access (fieldsFrom (operands x-access) s 1)) J
-  unfolding digitOf rowOf formEntry placesOk slotsOk slotOk kindOf formOf slotOf offsetOf leadOf leadOk byteOf written operands fieldsFrom judgedW okW entryW cmdOk children plain inner typesOf usesVar bindsVar bindsName all-of wordsOf headWord slots filled shapeOf
+  unfolding digitOf offsetsOf kindsOf formEntry placesOk slotsOk slotOk formOf slotIn leadOf leadOk byteOf written operands fieldsFrom judgedW okW entryW cmdOk children plain inner typesOf usesVar bindsVar bindsName all-of wordsOf headWord slots filled shapeOf
   law-x-access = three-type (ltb (fieldAt 2 s 1) (length (J .cmds))) (ltb (fieldAt 2 s 3) (length (J .cmds))) (ltb (fieldAt 2 s 5) (length (J .cmds))) (ltb (fieldAt 2 s 7) (length (J .types))) _ _
 
   pub law-x-newkey : formEntry (byteOf x-newkey) s (J .names) (shapeOf J) ≡ judgedW (written x-newkey (fieldsFrom (operands x-newkey) s 1)) J
-  unfolding digitOf rowOf formEntry placesOk slotsOk slotOk kindOf formOf slotOf offsetOf leadOf leadOk byteOf written operands fieldsFrom judgedW okW entryW cmdOk children plain inner typesOf usesVar bindsVar bindsName all-of wordsOf headWord slots filled shapeOf bindsOk newKeyOk
+  unfolding digitOf offsetsOf kindsOf formEntry placesOk slotsOk slotOk formOf slotIn leadOf leadOk byteOf written operands fieldsFrom judgedW okW entryW cmdOk children plain inner typesOf usesVar bindsVar bindsName all-of wordsOf headWord slots filled shapeOf bindsOk newKeyOk
   law-x-newkey = key-binder (ltb (fieldAt 2 s 3) (length (J .cmds))) (ltb (fieldAt 2 s 5) (length (J .cmds))) (ltb (fieldAt 2 s 7) (length (J .types))) (leb (length (J .values)) (fieldAt 1 s 1)) (ltb (fieldAt 1 s 1) 64) (localName (J .names) (fieldAt 1 s 2)) _ _
 
   none-two : (k : Bool) (r : Entry) → cond (cond k true false) r r ≡ r
@@ -215,7 +215,7 @@ module _ (s : List ℕ) (J : Job) where
   none-three false l r = refl
 
   pub law-x-part : formEntry (byteOf x-part) s (J .names) (shapeOf J) ≡ judgedW (written x-part (fieldsFrom (operands x-part) s 1)) J
-  unfolding digitOf rowOf formEntry placesOk slotsOk slotOk kindOf formOf slotOf offsetOf leadOf leadOk byteOf operands fieldsFrom judgedW okW entryW cmdOk children plain inner typesOf usesVar bindsVar bindsName all-of wordsOf headWord slots filled shapeOf partOf eitherOf
+  unfolding digitOf offsetsOf kindsOf formEntry placesOk slotsOk slotOk formOf slotIn leadOf leadOk byteOf operands fieldsFrom judgedW okW entryW cmdOk children plain inner typesOf usesVar bindsVar bindsName all-of wordsOf headWord slots filled shapeOf partOf eitherOf
   law-x-part = at (eqb i 1) refl (eqb i 2) refl ∙ sym (ap (λ w. judgedW w J) (written-part (fieldsFrom (operands x-part) s 1)))
     where
       i : ℕ
@@ -237,7 +237,7 @@ module _ (s : List ℕ) (J : Job) where
       at false p false q = none-two k (Refuse 6)
 
   pub law-x-sum : formEntry (byteOf x-sum) s (J .names) (shapeOf J) ≡ judgedW (written x-sum (fieldsFrom (operands x-sum) s 1)) J
-  unfolding digitOf rowOf formEntry placesOk slotsOk slotOk kindOf formOf slotOf offsetOf leadOf leadOk byteOf operands fieldsFrom judgedW okW entryW cmdOk children plain inner typesOf usesVar bindsVar bindsName all-of wordsOf headWord slots filled shapeOf sumOf eitherOf
+  unfolding digitOf offsetsOf kindsOf formEntry placesOk slotsOk slotOk formOf slotIn leadOf leadOk byteOf operands fieldsFrom judgedW okW entryW cmdOk children plain inner typesOf usesVar bindsVar bindsName all-of wordsOf headWord slots filled shapeOf sumOf eitherOf
   law-x-sum = at (eqb i 0) refl (eqb i 1) refl ∙ sym (ap (λ w. judgedW w J) (written-sum (fieldsFrom (operands x-sum) s 1)))
     where
       i : ℕ
@@ -269,7 +269,7 @@ module _ (s : List ℕ) (J : Job) where
   form-same h e p q r t = rw (p, q, r, t)
 
   pub law-x-limit : formEntry (byteOf x-limit) s (J .names) (shapeOf J) ≡ judgedW (written x-limit (fieldsFrom (operands x-limit) s 1)) J
-  unfolding digitOf rowOf formEntry placesOk slotsOk slotOk kindOf formOf slotOf offsetOf leadOf leadOk byteOf operands fieldsFrom judgedW okW entryW cmdOk children plain inner typesOf usesVar bindsVar bindsName all-of wordsOf headWord slots filled shapeOf limitOf limitOk keyOk _and_
+  unfolding digitOf offsetsOf kindsOf formEntry placesOk slotsOk slotOk formOf slotIn leadOf leadOk byteOf operands fieldsFrom judgedW okW entryW cmdOk children plain inner typesOf usesVar bindsVar bindsName all-of wordsOf headWord slots filled shapeOf limitOf limitOk keyOk _and_
   law-x-limit = at (fieldAt 1 s 1) (leb (fieldAt 1 s 1) 4) refl ∙ sym (ap (λ w. judgedW w J) (written-limit (fieldsFrom (operands x-limit) s 1)))
     where
       k : ℕ → ℕ

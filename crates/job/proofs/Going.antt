@@ -23,18 +23,19 @@ use Rattle.syntax.specs.ReadFormed.{map-snoc, names-proper, types-earlier}
 use Rattle.syntax.specs.WordLaws.{filled-none, filled-length, word-at}
 use Rattle.names.specs.Ancestors.{namesIn}
 use Rattle.names.specs.Tables as tables
-use Rattle.job.specs.Bytes.{widthByte, sectionByte, restOf}
+use Rattle.job.specs.Bytes.{widthByte, restOf}
 use Rattle.job.specs.Entries.{namesAfter, typesAfter, setsAfter, depthsAfter, valuesAfter, headsAfter, slotsAfter, shapeAfter, judgedBy, judgedIn}
 use Rattle.job.specs.Answer.{shapeOf, refusedBy, answerOf, longEnough, longTables, Cleared, Holds, Filled, Put, Small, stopsOf, stoppedOf}
+use Rattle.job.specs.Told.{sortOf}
 use Rattle.job.specs.declared.Shape.{Shape}
 use Rattle.job.specs.declared.Answer.{Answer}
 use Rattle.job.specs.declared.Answer.the-variants as answers
 use Rattle.job.specs.declared.Entry.{Entry}
 use Rattle.job.specs.declared.Entry.the-variants.{Refuse, Named, Typed, Valued, Rights, Formed}
-use Rattle.job.proofs.Ops.{op-byte, section-is, width-is, width-none}
+use Rattle.job.proofs.Ops.{width-is, width-none}
 use Rattle.job.proofs.Entered.{extended, wordsOf, newDepth, entryW}
 use Rattle.job.proofs.Filling.{stored, filled-two, filled-five, flat-snoc, five-entries}
-use Rattle.job.proofs.Agree.{Kept, Adds, adds-name, adds-type, adds-value, adds-rights, adds-cmd, Agrees, ag-refuse, ag-last, ag-on, agrees}
+use Rattle.job.proofs.Agree.{Kept, Adds, adds-name, adds-type, adds-value, adds-rights, adds-cmd, Agrees, ag-refuse, ag-last, ag-on, agrees, sort-on}
 
 -- every table is as long as its limit
 pub record Long (kn kt ks kv kh kp : ℕ) : Type 0 where
@@ -330,7 +331,7 @@ step-on : (bytes : List ℕ) (b : ℕ) (s : List ℕ) (cur : ℕ) (g g' : Shape)
 unfolding stopsOf onward
 step-on bytes b s cur g g' d n t u v h p d' n' t' u' v' h' p' kn kt ks kv kh kp long k o eo (ag-refuse m) ex ok es w' q = absurd (true≢false es)
 step-on bytes b s cur g g' d n t u v h p d' n' t' u' v' h' p' kn kt ks kv kh kp long k o eo ag-last ex ok es w' q = absurd (true≢false es)
-step-on bytes b s cur g g' d n t u v h p d' n' t' u' v' h' p' kn kt ks kv kh kp long k o eo (ag-on x a okay l) ex ok es w' q = at (k .fuel) (k .enough) (k .same)
+step-on bytes b s cur g g' d n t u v h p d' n' t' u' v' h' p' kn kt ks kv kh kp long k o eo (ag-on x a q₀ okay l) ex ok es w' q = at (k .fuel) (k .enough) (k .same)
   where
     st : State
     st = record { section = cur; job = k .J }
@@ -363,9 +364,9 @@ step-on bytes b s cur g g' d n t u v h p d' n' t' u' v' h' p' kn kt ks kv kh kp 
 pub turn : (bytes left : List ℕ) (cur : ℕ) (g g' : Shape) (d n t u v h p d' n' t' u' v' h' p' : List ℕ) (kn kt ks kv kh kp : ℕ) → Long kn kt ks kv kh kp
     → Going bytes left cur g d n t u v h p kn kt ks kv kh kp → 0 < length left
     → (e : Entry) → e ≡ judgedIn (getD left 0 0) left cur g n t d → stopsOf e ≡ false → g' ≡ shapeAfter e g → Put e g d n t u v h p d' n' t' u' v' h' p'
-    → (b cur' : ℕ) → b ≡ getD left 0 0 → cur' ≡ sectionByte b → (left' : List ℕ) → left' ≡ restOf left → Going bytes left' cur' g' d' n' t' u' v' h' p' kn kt ks kv kh kp
-turn bytes [] cur g g' d n t u v h p d' n' t' u' v' h' p' kn kt ks kv kh kp long k z e ee es w' q b cur' eb ec left' el = absurd (omega arith)
-turn bytes (a ∷ s) cur g g' d n t u v h p d' n' t' u' v' h' p' kn kt ks kv kh kp long k z e ee es w' q b cur' eb ec left' el = at (opOf a) refl
+    → (cur' : ℕ) → cur' ≡ sortOf e → (left' : List ℕ) → left' ≡ restOf left → Going bytes left' cur' g' d' n' t' u' v' h' p' kn kt ks kv kh kp
+turn bytes [] cur g g' d n t u v h p d' n' t' u' v' h' p' kn kt ks kv kh kp long k z e ee es w' q cur' ec left' el = absurd (omega arith)
+turn bytes (a ∷ s) cur g g' d n t u v h p d' n' t' u' v' h' p' kn kt ks kv kh kp long k z e ee es w' q cur' ec left' el = at (opOf a) refl
   where
     st : State
     st = record { section = cur; job = k .J }
@@ -380,7 +381,7 @@ turn bytes (a ∷ s) cur g g' d n t u v h p d' n' t' u' v' h' p' kn kt ks kv kh 
         let y = step-on bytes a s cur g g' d n t u v h p d' n' t' u' v' h' p' kn kt ks kv kh kp long k o eo x refl (step-ok o s st (k .sofar)) (ap stopsOf (sym ej) ∙ es)
         (w' ∙ ap (λ (w : Entry). shapeAfter w g) ej) (subst (λ (w : Entry). Put w g d n t u v h p d' n' t' u' v' h' p') ej q) in
         let l : drop (width o) s ≡ left' = sym (el ∙ rest-is a s o eo) in
-        let c : sectionOf o ≡ cur' = sym (ec ∙ ap sectionByte (eb ∙ op-byte a o eo) ∙ section-is o) in
+        let c : sectionOf o ≡ cur' = sym (ec ∙ ap sortOf ej ∙ sort-on x (ap stopsOf (sym ej) ∙ es)) in
         subst (λ (i : ℕ). Going bytes left' i g' d' n' t' u' v' h' p' kn kt ks kv kh kp) c
         (subst (λ (m : List ℕ). Going bytes m (sectionOf o) g' d' n' t' u' v' h' p' kn kt ks kv kh kp) l y)
 
@@ -428,7 +429,7 @@ stop-at bytes b s cur g d n t u v h p kn kt ks kv kh kp k o eo ag-last ex es r e
         let i : length s ≡ suc (length l) = ap length el in
         filled-refused bytes r 7 (suc pos) n t u v h p kn kt ks kv kh kp w
         (er ∙ ap (λ (c : Bool). cond c (answers.Job g) (refusedBy 7 (pos + 1))) (ne-eqb (suc (length s)) 1 (λ j. omega arith)) ∙ ap (λ (m : ℕ). refusedBy 7 m) (add-one pos))
-stop-at bytes b s cur g d n t u v h p kn kt ks kv kh kp k o eo (ag-on x a okay l) ex es r er = absurd (true≢false (sym es ∙ stops-entry x (k .J) a))
+stop-at bytes b s cur g d n t u v h p kn kt ks kv kh kp k o eo (ag-on x a q₀ okay l) ex es r er = absurd (true≢false (sym es ∙ stops-entry x (k .J) a))
 
 pub stop : (bytes left : List ℕ) (cur : ℕ) (g : Shape) (d n t u v h p : List ℕ) (kn kt ks kv kh kp : ℕ) → Going bytes left cur g d n t u v h p kn kt ks kv kh kp → 0 < length left
     → (e : Entry) → e ≡ judgedIn (getD left 0 0) left cur g n t d → stopsOf e ≡ true → (r : Answer) → r ≡ stoppedOf e g (length bytes - length left) (length left)
@@ -527,10 +528,10 @@ loop-first bytes n t u v h p e z =
 module _ (bytes left : List ℕ) (cur : ℕ) (g : Shape) (d n t u v h p n₀ t₀ u₀ v₀ h₀ p₀ : List ℕ) (k : Loop bytes left cur g d n t u v h p n₀ t₀ u₀ v₀ h₀ p₀) where
   pub loop-turn : 0 < length left → (e : Entry) → e ≡ judgedIn (getD left 0 0) left cur g n t d → (o : Bool) → o ≡ stopsOf e → o ≡ false
       → (g' : Shape) (d' n' t' u' v' h' p' : List ℕ) → g' ≡ shapeAfter e g → Put e g d n t u v h p d' n' t' u' v' h' p'
-      → (b cur' : ℕ) → b ≡ getD left 0 0 → cur' ≡ sectionByte b → (left' : List ℕ) → left' ≡ restOf left → Loop bytes left' cur' g' d' n' t' u' v' h' p' n₀ t₀ u₀ v₀ h₀ p₀
-  loop-turn z e ee o eo fo g' d' n' t' u' v' h' p' w' q b cur' eb ec left' el =
+      → (cur' : ℕ) → cur' ≡ sortOf e → (left' : List ℕ) → left' ≡ restOf left → Loop bytes left' cur' g' d' n' t' u' v' h' p' n₀ t₀ u₀ v₀ h₀ p₀
+  loop-turn z e ee o eo fo g' d' n' t' u' v' h' p' w' q cur' ec left' el =
       loop-of bytes left' cur' g' d' n' t' u' v' h' p' n₀ t₀ u₀ v₀ h₀ p₀ (k .long)
-      (turn bytes left cur g g' d n t u v h p d' n' t' u' v' h' p' (length n₀) (length t₀) (length u₀) (length v₀) (length h₀) (length p₀) (k .long) (k .going) z e ee (sym eo ∙ fo) w' q b cur' eb ec left' el)
+      (turn bytes left cur g g' d n t u v h p d' n' t' u' v' h' p' (length n₀) (length t₀) (length u₀) (length v₀) (length h₀) (length p₀) (k .long) (k .going) z e ee (sym eo ∙ fo) w' q cur' ec left' el)
 
   pub loop-stop : 0 < length left → (e : Entry) → e ≡ judgedIn (getD left 0 0) left cur g n t d → (o : Bool) → o ≡ stopsOf e → o ≡ true
       → (r : Answer) → r ≡ stoppedOf e g (length bytes - length left) (length left) → Filled bytes r n t u v h p (length n₀) (length t₀) (length u₀) (length v₀) (length h₀) (length p₀)

@@ -10,7 +10,7 @@ use lib.Dec.{ltb}
 use denote.Ref.{now}
 use borrow.Author.Tests.{lt-ltb, le-ltb}
 use Rattle.names.specs.Ancestors.{namesIn, ancestorsBy}
-use Rattle.job.specs.Bytes.{sectionByte, restOf}
+use Rattle.job.specs.Bytes.{restOf}
 use Rattle.job.specs.Entries.{namesAfter, typesAfter, setsAfter, valuesAfter, headsAfter, slotsAfter, ancestorsAfter, shapeAfter, judgedBy, judgedIn}
 use Rattle.job.specs.Answer.{Filled, Put, stopsOf}
 use Rattle.job.specs.Told.{sortOf, numberOf, lentOf, countedBy, stoppedBy, counted-is, stopped-is, stops-is}
@@ -115,11 +115,11 @@ module _ {bytes left : List ℕ} {cur : ℕ} {g : Shape} {d n t u v h p n₀ t�
       (loop-stop bytes left cur g d n t u v h p n₀ t₀ u₀ v₀ h₀ p₀ (k .loop) some e kept (stopsOf e) refl (stops z) r
       (er ∙ ap₂ (λ (a b : ℕ). stoppedBy a b g (length bytes - length left) (length left)) first-told second-told ∙ stopped-is e g (length bytes - length left) (length left) (stops z)))
 
-  pub go-on : getD told' 0 0 ≤ 4 → {g' : Shape} → g' ≡ countedBy (getD told' 0 0) (getD rights' 0 0) g → {b cur' : ℕ} → b ≡ getD left 0 0 → cur' ≡ sectionByte b → {left' : List ℕ} → left' ≡ restOf left
+  pub go-on : getD told' 0 0 ≤ 4 → {g' : Shape} → g' ≡ countedBy (getD told' 0 0) (getD rights' 0 0) g → {cur' : ℕ} → cur' ≡ getD told' 0 0 → {left' : List ℕ} → left' ≡ restOf left
       → Reads bytes left' cur' g' d' n' t' u' v' h' p' n₀ t₀ u₀ v₀ h₀ p₀ anc' told' rights'
-  go-on z {g'} eg {b} {cur'} eb ec {left'} el =
+  go-on z {g'} eg {cur'} ec {left'} el =
       let w : g' ≡ shapeAfter e g = eg ∙ ap₂ (λ (a b : ℕ). countedBy a b g) first-told rights-told ∙ counted-is e g (goes z) in
-      let m = loop-turn bytes left cur g d n t u v h p n₀ t₀ u₀ v₀ h₀ p₀ (k .loop) some e kept (stopsOf e) refl (goes z) g' d' n' t' u' v' h' p' w put b cur' eb ec left' el in
+      let m = loop-turn bytes left cur g d n t u v h p n₀ t₀ u₀ v₀ h₀ p₀ (k .loop) some e kept (stopsOf e) refl (goes z) g' d' n' t' u' v' h' p' w put cur' (ec ∙ first-told) left' el in
       record {
         loop = m;
         ancestors = ancestors-turn m g n anc e w (put .names) qa (k .loop .names) (k .ancestors);

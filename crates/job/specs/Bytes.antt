@@ -1,7 +1,7 @@
 -- What the reader takes from the bytes of a job: operands, widths, sections, the rest.
 use Prim.Native.Nat.{ℕ, _+_, _-_, _*_, _/_, _%_, _^_}
 use mathlib.Core.Bool.{Bool, true, false, cond}
-use mathlib.Core.List.{List, [], _∷_}
+use mathlib.Core.List.{List}
 use mathlib.Core.Option.{Option, none, some}
 use lib.ListN.{length, getD, take, drop}
 use lib.Dec.{eqb, ltb, leb}
@@ -37,31 +37,51 @@ misplacedBy cur sec n = cond (ltb sec cur) true (cond (eqb sec 3) (eqb cur 3) (c
 unfoldable pub fullBy : ℕ → ℕ → ℕ → ℕ → ℕ → Bool
 fullBy sec n t v e = cond (eqb sec 0) (leb (most-names - 2) n) (cond (eqb sec 1) (leb most-types t) (cond (eqb sec 2) (leb most-variables v) (cond (eqb sec 4) (leb most-expressions e) false)))
 
--- where the five places of an expression stand: one word for each command byte from 0x30 on, with place 0 in its last digit; 0 for a place that is not used
-abbrev pub offsets : List ℕ
-offsets = 0x00000 ∷ 0x00000 ∷ 0x00000 ∷ 0x00031 ∷ 0x00001 ∷ 0x00024 ∷ 0x00031 ∷ 0x00013 ∷ 0x00031 ∷ 0x00001 ∷ 0x00042 ∷ 0x07531 ∷ 0xA8642 ∷ 0x00031 ∷ 0x00753 ∷ 0x00031 ∷ 0x07531 ∷ []
+-- where the five places of an expression stand: a digit for each, place 0 in the last one; 0 for a place that is not used
+unfoldable pub offsetsOf : ℕ → ℕ
+offsetsOf op =
+    cond (eqb op 0x33) 0x00031
+    (cond (eqb op 0x34) 0x00001
+    (cond (eqb op 0x35) 0x00024
+    (cond (eqb op 0x36) 0x00031
+    (cond (eqb op 0x37) 0x00013
+    (cond (eqb op 0x38) 0x00031
+    (cond (eqb op 0x39) 0x00001
+    (cond (eqb op 0x3A) 0x00042
+    (cond (eqb op 0x3B) 0x07531
+    (cond (eqb op 0x3C) 0xA8642
+    (cond (eqb op 0x3D) 0x00031
+    (cond (eqb op 0x3E) 0x00753
+    (cond (eqb op 0x3F) 0x00031
+    (cond (eqb op 0x40) 0x07531
+    0)))))))))))))
 
 -- what stands there: 1 an expression, 2 a type, 0 nothing
-abbrev pub kinds : List ℕ
-kinds = 0x00000 ∷ 0x00000 ∷ 0x00000 ∷ 0x00011 ∷ 0x00001 ∷ 0x00021 ∷ 0x00011 ∷ 0x00021 ∷ 0x00011 ∷ 0x00001 ∷ 0x00011 ∷ 0x02111 ∷ 0x11111 ∷ 0x00011 ∷ 0x00211 ∷ 0x00011 ∷ 0x02111 ∷ []
-
--- the word of a command byte in these tables; 0 for a byte that is no expression's
-unfoldable pub rowOf : List ℕ → ℕ → ℕ
-rowOf l op = cond (ltb op 0x30) 0 (getD l (op - 0x30) 0)
+unfoldable pub kindsOf : ℕ → ℕ
+kindsOf op =
+    cond (eqb op 0x33) 0x00011
+    (cond (eqb op 0x34) 0x00001
+    (cond (eqb op 0x35) 0x00021
+    (cond (eqb op 0x36) 0x00011
+    (cond (eqb op 0x37) 0x00021
+    (cond (eqb op 0x38) 0x00011
+    (cond (eqb op 0x39) 0x00001
+    (cond (eqb op 0x3A) 0x00011
+    (cond (eqb op 0x3B) 0x02111
+    (cond (eqb op 0x3C) 0x11111
+    (cond (eqb op 0x3D) 0x00011
+    (cond (eqb op 0x3E) 0x00211
+    (cond (eqb op 0x3F) 0x00011
+    (cond (eqb op 0x40) 0x02111
+    0)))))))))))))
 
 -- digit i of a word, from the right
 unfoldable pub digitOf : ℕ → ℕ → ℕ
 digitOf w i = w / 2 ^ (4 * i) % 16
 
-unfoldable pub offsetOf : ℕ → ℕ → ℕ
-offsetOf op i = digitOf (rowOf offsets op) i
-
-unfoldable pub kindOf : ℕ → ℕ → ℕ
-kindOf op i = digitOf (rowOf kinds op) i
-
--- place i of an expression
-unfoldable pub slotOf : List ℕ → ℕ → ℕ → ℕ
-slotOf s op i = cond (eqb (offsetOf op i) 0) 0 (fieldAt 2 s (offsetOf op i))
+-- place i of an expression whose places stand where w says
+unfoldable pub slotIn : List ℕ → ℕ → ℕ → ℕ
+slotIn s w i = cond (eqb (digitOf w i) 0) 0 (fieldAt 2 s (digitOf w i))
 
 -- the operands of one byte or four of an expression, as its head has them
 unfoldable pub leadOf : ℕ → List ℕ → ℕ
@@ -79,11 +99,11 @@ unfoldable pub formOf : ℕ → List ℕ → Form
 formOf op s =
     record {
       head = op + 256 * leadOf op s;
-      a = slotOf s op 0;
-      b = slotOf s op 1;
-      c = slotOf s op 2;
-      d = slotOf s op 3;
-      e = slotOf s op 4;
+      a = slotIn s (offsetsOf op) 0;
+      b = slotIn s (offsetsOf op) 1;
+      c = slotIn s (offsetsOf op) 2;
+      d = slotIn s (offsetsOf op) 3;
+      e = slotIn s (offsetsOf op) 4;
     }
 
 -- an operand of two bytes among n expressions and t types
@@ -92,9 +112,9 @@ slotOk k x n t = cond (eqb k 1) (ltb x n) (cond (eqb k 2) (ltb x t) true)
 
 unfoldable pub slotsOk : ℕ → Form → ℕ → ℕ → Bool
 slotsOk op f n t =
-    cond (slotOk (kindOf op 0) (f .a) n t)
-    (cond (slotOk (kindOf op 1) (f .b) n t)
-    (cond (slotOk (kindOf op 2) (f .c) n t) (cond (slotOk (kindOf op 3) (f .d) n t) (slotOk (kindOf op 4) (f .e) n t) false) false)
+    cond (slotOk (digitOf (kindsOf op) 0) (f .a) n t)
+    (cond (slotOk (digitOf (kindsOf op) 1) (f .b) n t)
+    (cond (slotOk (digitOf (kindsOf op) 2) (f .c) n t) (cond (slotOk (digitOf (kindsOf op) 3) (f .d) n t) (slotOk (digitOf (kindsOf op) 4) (f .e) n t) false) false)
     false)
     false
 

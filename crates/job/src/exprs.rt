@@ -10,54 +10,58 @@ use table::MOST_VARIABLES;
 ghost use mathlib.Core.Path.{_≡_};
 ghost use Prim.Native.Nat.{_<_};
 ghost use lib.Dec.{ltb};
-ghost use Rattle.job.specs.Bytes.{digitOf, rowOf, offsets, kinds, offsetOf, kindOf, slotOf, leadOf, formOf, slotOk, slotsOk, keyOk, limitOk};
+ghost use Rattle.job.specs.Bytes.{digitOf, offsetsOf, kindsOf, slotIn, leadOf, formOf, slotOk, slotsOk, keyOk, limitOk};
 ghost use Rattle.names.specs.Ancestors.{namesIn};
 ghost use Rattle.job.specs.Entries.{bindsOk, eitherOf, newKeyOk, leadOk, placesOk, formEntry};
 
 // Variables are numbers of one byte.
 const VARIABLES: u8 = MOST_VARIABLES as u8;
 
-// Where the five places of an expression stand: one word for each command byte from 0x30 on, with place 0 in its last digit; 0 for a place that is not used.
-const OFFSETS: [u32; 17] = [
-    0x00000,
-    0x00000,
-    0x00000,
-    0x00031,
-    0x00001,
-    0x00024,
-    0x00031,
-    0x00013,
-    0x00031,
-    0x00001,
-    0x00042,
-    0x07531,
-    0xA8642,
-    0x00031,
-    0x00753,
-    0x00031,
-    0x07531,
-];
+// Where the five places of an expression stand: a digit for each, place 0 in the last one; 0 for a place that is not used.
+fn offsets(op: u8) -> u32
+    ensures { λ r. ⌜ r ≡ offsetsOf op ⌝ }
+{
+    match op {
+        0x33 => 0x00031,
+        0x34 => 0x00001,
+        0x35 => 0x00024,
+        0x36 => 0x00031,
+        0x37 => 0x00013,
+        0x38 => 0x00031,
+        0x39 => 0x00001,
+        0x3A => 0x00042,
+        0x3B => 0x07531,
+        0x3C => 0xA8642,
+        0x3D => 0x00031,
+        0x3E => 0x00753,
+        0x3F => 0x00031,
+        0x40 => 0x07531,
+        _ => 0,
+    }
+}
 
 // What stands there: 1 an expression, 2 a type, 0 nothing.
-const KINDS: [u32; 17] = [
-    0x00000,
-    0x00000,
-    0x00000,
-    0x00011,
-    0x00001,
-    0x00021,
-    0x00011,
-    0x00021,
-    0x00011,
-    0x00001,
-    0x00011,
-    0x02111,
-    0x11111,
-    0x00011,
-    0x00211,
-    0x00011,
-    0x02111,
-];
+fn kinds(op: u8) -> u32
+    ensures { λ r. ⌜ r ≡ kindsOf op ⌝ }
+{
+    match op {
+        0x33 => 0x00011,
+        0x34 => 0x00001,
+        0x35 => 0x00021,
+        0x36 => 0x00011,
+        0x37 => 0x00021,
+        0x38 => 0x00011,
+        0x39 => 0x00001,
+        0x3A => 0x00011,
+        0x3B => 0x02111,
+        0x3C => 0x11111,
+        0x3D => 0x00011,
+        0x3E => 0x00211,
+        0x3F => 0x00011,
+        0x40 => 0x02111,
+        _ => 0,
+    }
+}
 
 // Digit i of a word, from the right.
 fn digit(w: u32, i: u8) -> u8
@@ -68,53 +72,12 @@ fn digit(w: u32, i: u8) -> u8
     d as u8
 }
 
-// The word of a command byte in these tables; 0 for a byte that is no expression's.
-fn offset_row(op: u8) -> u32
-    ensures { λ r. ⌜ r ≡ rowOf offsets op ⌝ }
-{
-    if op < 0x30 {
-        return 0;
-    }
-    let k = (op - 0x30) as usize;
-    if k < 17 {
-        return OFFSETS[k];
-    }
-    0
-}
-
-fn kind_row(op: u8) -> u32
-    ensures { λ r. ⌜ r ≡ rowOf kinds op ⌝ }
-{
-    if op < 0x30 {
-        return 0;
-    }
-    let k = (op - 0x30) as usize;
-    if k < 17 {
-        return KINDS[k];
-    }
-    0
-}
-
-fn offset(op: u8, i: u8) -> u8
+// Place i of an expression whose places stand where this word says.
+fn slot(job: &[u8], row: u32, i: u8) -> u16
     requires { ⌜ i < 5 ⌝ }
-    ensures { λ r. ⌜ r ≡ offsetOf op i ⌝ }
+    ensures { λ r. ⌜ r ≡ slotIn (now (job .entry)) row i ⌝ }
 {
-    digit(offset_row(op), i)
-}
-
-fn kind(op: u8, i: u8) -> u8
-    requires { ⌜ i < 5 ⌝ }
-    ensures { λ r. ⌜ r ≡ kindOf op i ⌝ }
-{
-    digit(kind_row(op), i)
-}
-
-// Place i of an expression.
-fn slot(job: &[u8], op: u8, i: u8) -> u16
-    requires { ⌜ i < 5 ⌝ }
-    ensures { λ r. ⌜ r ≡ slotOf (now (job .entry)) op i ⌝ }
-{
-    let at = offset(op, i);
+    let at = digit(row, i);
     if at == 0 {
         return 0;
     }
@@ -141,11 +104,12 @@ fn form_at(op: u8, job: &[u8]) -> Form
     ensures { λ r. ⌜ r ≡ formOf op (now (job .entry)) ⌝ }
 {
     let head = (op as u64) + 256 * (lead(op, job) as u64);
-    let a = slot(job, op, 0);
-    let b = slot(job, op, 1);
-    let c = slot(job, op, 2);
-    let d = slot(job, op, 3);
-    let e = slot(job, op, 4);
+    let row = offsets(op);
+    let a = slot(job, row, 0);
+    let b = slot(job, row, 1);
+    let c = slot(job, row, 2);
+    let d = slot(job, row, 3);
+    let e = slot(job, row, 4);
     Form {
         head: head,
         a: a,
@@ -181,11 +145,12 @@ fn slot_ok(k: u8, x: u16, n: usize, t: usize) -> bool
 fn slots_ok(op: u8, f: Form, n: usize, t: usize) -> bool
     ensures { λ r. ⌜ r ≡ slotsOk op f n t ⌝ }
 {
-    if slot_ok(kind(op, 0), f.a, n, t) {
-        if slot_ok(kind(op, 1), f.b, n, t) {
-            if slot_ok(kind(op, 2), f.c, n, t) {
-                if slot_ok(kind(op, 3), f.d, n, t) {
-                    return slot_ok(kind(op, 4), f.e, n, t);
+    let row = kinds(op);
+    if slot_ok(digit(row, 0), f.a, n, t) {
+        if slot_ok(digit(row, 1), f.b, n, t) {
+            if slot_ok(digit(row, 2), f.c, n, t) {
+                if slot_ok(digit(row, 3), f.d, n, t) {
+                    return slot_ok(digit(row, 4), f.e, n, t);
                 }
             }
         }

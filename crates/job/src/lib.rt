@@ -220,13 +220,14 @@ fn command<'a>(
     requires { ⌜ Small g ⌝ }
     ensures { λ r. ⌜ Command job cur g anc depths names types sets values heads slots told rights (now r) ⌝ }
 {
+    let next = rest(job);
     let e = judged(job, cur, g, anc, names, types, depths);
     put(e, g, depths, names, types, sets, values, heads, slots);
     enter(e, g.names, anc);
     told[0] = sort(e);
     told[1] = number(e);
     rights[0] = lent(e);
-    rest(job)
+    next
 }
 
 // Command by command from the first on: the tables, all zero, take the entries.
@@ -277,7 +278,7 @@ fn fill(
         }
         let more = counted(told[0], rights[0], g);
         g = more;
-        cur = section(first(left));
+        cur = told[0];
         left = next;
     }
     refused(4, job.len())

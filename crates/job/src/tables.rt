@@ -24,6 +24,14 @@ fn put_five(s: &mut [u16], i: usize, f: Form)
     requires { ⌜ i < 65536 ⌝ }
     ensures { λ _. ⌜ now (s .exit) ≡ fiveAt (now (s .entry)) i f ⌝ }
 {
+    if i + 4 < s.len() {
+        s[i] = f.a;
+        s[i + 1] = f.b;
+        s[i + 2] = f.c;
+        s[i + 3] = f.d;
+        s[i + 4] = f.e;
+        return;
+    }
     put16(s, i, f.a);
     put16(s, i + 1, f.b);
     put16(s, i + 2, f.c);

@@ -4,6 +4,9 @@ use borrow.Author.Needs.{needs}
 use Rattle.job.proofs.command.Statement.{statement}
 use Rattle.job.proofs.command.Tie as tie
 
+rest-requires : tie.Need-rest-requires
+rest-requires c κs = search needs
+
 judged-requires : tie.Need-judged-requires
 judged-requires c κs = search needs
 
@@ -11,7 +14,7 @@ put-requires : tie.Need-put-requires
 put-requires c κs = search needs
 
 enter-requires : tie.Need-enter-requires
-enter-requires c κs = c .before .before .before .before .before .before .before .before .before .before .before .before .before .before .before .before .before .before .before .before .before .before .before .before .before .before .before .before .before .before .before .before .before .before .before .before .pre .names
+enter-requires c κs = c .before .before .before .before .before .before .before .before .before .before .before .before .before .before .before .before .before .before .before .before .before .before .before .before .before .before .before .before .before .before .before .before .before .before .before .before .before .pre .names
 
 sort-requires : tie.Need-sort-requires
 sort-requires c κs = search needs
@@ -30,9 +33,6 @@ lent-requires c κs = search needs
 
 element-write-rights : tie.Need-element-write-rights
 element-write-rights c = search needs
-
-rest-requires : tie.Need-rest-requires
-rest-requires c κs = search needs
 
 same-length : tie.Need-same-length
 same-length c = search needs
@@ -57,12 +57,13 @@ same-length-7 c = search needs
 
 returns : tie.Need-returns
 returns c =
-    read-one (c .before .before .before .before .before .before .before .before .before .before .before .before .before .before .before .before .before .before .before .before .before .before .before .before .before .before .before .before .judged .ensures) (c .before .before .before .before .before .before .before .before .before .before .before .before .before .before .before .before .before .before .before .before .put .ensures) (c .before .before .before .before .enter .ensures) (c .before .before .before .sort .ensures) (c .before .before .number .ensures) (c .before .lent .ensures) refl refl (c .rest .ensures)
+    read-one (c .before .before .before .before .before .before .before .before .before .before .before .before .before .before .before .before .before .before .before .before .before .before .before .before .before .before .before .judged .ensures) (c .before .before .before .before .before .before .before .before .before .before .before .before .before .before .before .before .before .before .before .put .ensures) (c .before .before .before .enter .ensures) (c .before .before .sort .ensures) (c .before .number .ensures) (c .lent .ensures) refl refl (c .before .before .before .before .before .before .before .before .before .before .before .before .before .before .before .before .before .before .before .before .before .before .before .before .before .before .before .before .before .before .before .before .rest .ensures)
 
 pub command-spec : {M : Type 1} → statement M
 command-spec =
     tie.close
     (tie.spec
+    rest-requires
     judged-requires
     put-requires
     enter-requires
@@ -72,7 +73,6 @@ command-spec =
     element-write-told-2
     lent-requires
     element-write-rights
-    rest-requires
     same-length
     same-length-2
     same-length-3

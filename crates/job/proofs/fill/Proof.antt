@@ -72,17 +72,14 @@ array-read-counted-2 c = search needs
 counted-requires : tie.Need-counted-requires Inv-loop μ-loop
 counted-requires c κs = small-counts (c .before .before .before .before .before .before .before .before .before .before .before .before .before .before .before .before .before .before .before .before .before .before .before .before .before .before .loop .inv .loop .going)
 
-first-requires : tie.Need-first-requires Inv-loop μ-loop
-first-requires c κs = search needs
-
-section-requires : tie.Need-section-requires Inv-loop μ-loop
-section-requires c κs = search needs
+array-read-cur : tie.Need-array-read-cur Inv-loop μ-loop
+array-read-cur c = search needs
 
 loop-less : tie.Need-loop-less Inv-loop μ-loop
-loop-less c = rest-less _ _ (c .before .before .before .before .before .before .before .before .before .before .before .before .before .before .before .before .before .command .ensures .rest-is) (c .before .before .before .before .before .before .before .before .before .before .before .before .before .before .before .before .before .before .before .before .before .before .before .before .before .before .before .before .loop-test .taken)
+loop-less c = rest-less _ _ (c .before .before .before .before .before .before .before .before .before .before .before .before .before .before .before .command .ensures .rest-is) (c .before .before .before .before .before .before .before .before .before .before .before .before .before .before .before .before .before .before .before .before .before .before .before .before .before .before .loop-test .taken)
 
 loop-again : tie.Need-loop-again Inv-loop μ-loop
-loop-again c = go-on (c .before .before .before .before .before .before .before .before .before .before .before .before .before .before .before .before .before .before .before .before .before .before .before .before .before .before .before .before .before .loop .inv) (c .before .before .before .before .before .before .before .before .before .before .before .before .before .before .before .before .before .before .before .before .before .before .before .before .before .before .before .before .loop-test .taken) refl (c .before .before .before .before .before .before .before .before .before .before .before .before .before .before .before .before .before .command .ensures .tables) (c .before .before .before .before .before .before .before .before .before .before .before .before .before .before .before .before .before .command .ensures .ancestors) (c .before .before .before .before .before .before .before .before .before .before .before .before .before .before .before .before .before .command .ensures .told-is) (c .before .before .before .before .before .before .before .before .before .before .before .before .before .before .before .before .before .command .ensures .rights-are) (c .before .before .before .if1 .left) (c .before .before .counted .ensures) (c .before .first .ensures) (c .section .ensures) (c .before .before .before .before .before .before .before .before .before .before .before .before .before .before .before .before .before .command .ensures .rest-is)
+loop-again c = go-on (c .before .before .before .before .before .before .before .before .before .before .before .before .before .before .before .before .before .before .before .before .before .before .before .before .before .before .before .loop .inv) (c .before .before .before .before .before .before .before .before .before .before .before .before .before .before .before .before .before .before .before .before .before .before .before .before .before .before .loop-test .taken) refl (c .before .before .before .before .before .before .before .before .before .before .before .before .before .before .before .command .ensures .tables) (c .before .before .before .before .before .before .before .before .before .before .before .before .before .before .before .command .ensures .ancestors) (c .before .before .before .before .before .before .before .before .before .before .before .before .before .before .before .command .ensures .told-is) (c .before .before .before .before .before .before .before .before .before .before .before .before .before .before .before .command .ensures .rights-are) (c .before .if1 .left) (c .counted .ensures) refl (c .before .before .before .before .before .before .before .before .before .before .before .before .before .before .before .command .ensures .rest-is)
 
 refused-requires : tie.Need-refused-requires Inv-loop μ-loop
 refused-requires c κs = search needs
@@ -133,8 +130,7 @@ fill-spec =
     array-read-counted
     array-read-counted-2
     counted-requires
-    first-requires
-    section-requires
+    array-read-cur
     loop-less
     loop-again
     refused-requires

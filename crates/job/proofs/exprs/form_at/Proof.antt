@@ -15,6 +15,9 @@ mul-head c = search needs
 add-head : tie.Need-add-head
 add-head c = search needs
 
+offsets-requires : tie.Need-offsets-requires
+offsets-requires c κs = search needs
+
 slot-requires : tie.Need-slot-requires
 slot-requires c κs = search needs
 
@@ -32,7 +35,7 @@ slot-requires-5 c κs = search needs
 
 returns : tie.Need-returns
 unfolding formOf
-returns c = simp (← c .slot5 .ensures, ← c .before .slot4 .ensures, ← c .before .before .slot3 .ensures, ← c .before .before .before .slot2 .ensures, ← c .before .before .before .before .slot .ensures, ← c .before .before .before .before .before .lead .ensures)
+returns c = simp (← c .slot5 .ensures, ← c .before .slot4 .ensures, ← c .before .before .slot3 .ensures, ← c .before .before .before .slot2 .ensures, ← c .before .before .before .before .slot .ensures, ← c .before .before .before .before .before .offsets .ensures, ← c .before .before .before .before .before .before .lead .ensures)
 
 pub form-at-spec : {M : Type 1} → statement M
 form-at-spec =
@@ -42,6 +45,7 @@ form-at-spec =
     cast-head
     mul-head
     add-head
+    offsets-requires
     slot-requires
     slot-requires-2
     slot-requires-3
