@@ -47,7 +47,7 @@ no-binder byte x a b c d e h g =
     (rw (ne-eqb byte 0x35 h, ne-eqb byte 0x3E g)
     (either (eqb byte 0x31) _ _ refl (either (eqb byte 0x32) _ _ refl (either (eqb byte 0x33) _ _ refl (either (eqb byte 0x34) _ _ refl (either (eqb byte 0x36) _ _ refl
     (either (eqb byte 0x37) _ _ refl (either (eqb byte 0x38) _ _ refl (either (eqb byte 0x39) _ _ refl (either (eqb byte 0x3A) _ _ refl (either (eqb byte 0x3B) _ _ refl
-    (either (eqb byte 0x3C) _ _ refl (either (eqb byte 0x3D) _ _ refl (either (eqb byte 0x3F) _ _ refl refl))))))))))))))
+    (either (eqb byte 0x3C) _ _ refl (either (eqb byte 0x3D) _ _ refl (either (eqb byte 0x3F) _ _ refl (either (eqb byte 0x40) _ _ refl refl)))))))))))))))
 
 pub no-set : (e : Entry) → OneOf (0 ∷ 1 ∷ 2 ∷ 4 ∷ 5 ∷ 6 ∷ []) (tagOf the-type e) → 0 ≡ setWord (made (entryOf e))
 unfolding setWord made entryOf
