@@ -402,6 +402,37 @@ fn associate<'a>(
     Typing::Makes(rekeyed(r, e), touched(anc, k, s))
 }
 
+// 0x40: the first branch's effect without the names below the key's own name, the second's whole.
+fn access<'a>(
+    anc: &'a [u64; MOST_NAMES],
+    types: &'a [u64],
+    sets: &'a [u64],
+    x: Operand,
+    y: Operand,
+    z: Operand,
+    t: u16,
+    known: &mut [u64],
+) -> Typing
+    requires { ⌜ Known (now anc) (now types) (now sets) (now known) ⌝ }
+    ensures { λ r. ⌜ (resultIn r ≡ by.accessBy (now (anc .entry)) (now (types .entry)) (now (sets .entry)) x y z t)
+        × Known (now (anc .entry)) (now (types .entry)) (now (sets .entry)) (now (known .exit)) ⌝ }
+{
+    let Entry::Limit(q, r) = entry_at(types, sets, x.ty) else {
+        return Typing::Wrong(11);
+    };
+    if fits(anc, types, sets, y.ty, t, known) {} else {
+        return Typing::Wrong(12);
+    }
+    if fits(anc, types, sets, z.ty, t, known) {} else {
+        return Typing::Wrong(12);
+    }
+    let s = join(
+        x.effect,
+        join(names::drop_below(anc, r, y.effect), z.effect),
+    );
+    Typing::Points(t, touched(anc, q, s))
+}
+
 // The operand of one byte or four in a head.
 fn lead(w: u64) -> u32
     ensures { λ r. ⌜ r ≡ w / 256 % 4294967296 ⌝ }
@@ -445,6 +476,10 @@ fn two<'a>(
             return new_key(anc, types, sets, names, Name(name_of(w)), x, y, t, known);
         }
         0x3F => return associate(anc, types, sets, x, y),
+        0x40 => {
+            let z = operand_at(slots, entries, effects, at + 2);
+            return access(anc, types, sets, x, y, z, at16(slots, at + 3), known);
+        }
         _ => return number(),
     }
 }

@@ -11,7 +11,7 @@ use Rattle.order.specs.Bools.{_and_}
 use Rattle.order.specs.Sets.{all-of}
 use Rattle.syntax.specs.Commands.{Cmd, c-part, c-sum, c-lim}
 use Rattle.syntax.specs.Commands.{operands}
-use Rattle.syntax.specs.Commands.{x-number, x-top, x-variable, x-pair, x-part, x-function, x-apply, x-cell, x-assign, x-read, x-sum, x-test, x-limit, x-grant, x-newkey, x-associate}
+use Rattle.syntax.specs.Commands.{x-number, x-top, x-variable, x-pair, x-part, x-function, x-apply, x-cell, x-assign, x-read, x-sum, x-test, x-limit, x-grant, x-newkey, x-associate, x-access}
 use Rattle.syntax.specs.Operands.{plain, inner, children, typesOf, usesVar, bindsVar, bindsName}
 use Rattle.syntax.specs.Job.{Job}
 use Rattle.syntax.specs.Words.{headWord, slots, filled}
@@ -196,6 +196,10 @@ module _ (s : List ℕ) (J : Job) where
   pub law-x-test : formEntry (byteOf x-test) s (J .names) (shapeOf J) ≡ judgedW (written x-test (fieldsFrom (operands x-test) s 1)) J
   unfolding digitOf rowOf formEntry placesOk slotsOk slotOk kindOf formOf slotOf offsetOf leadOf leadOk byteOf written operands fieldsFrom judgedW okW entryW cmdOk children plain inner typesOf usesVar bindsVar bindsName all-of wordsOf headWord slots filled shapeOf
   law-x-test = three-type (ltb (fieldAt 2 s 1) (length (J .cmds))) (ltb (fieldAt 2 s 3) (length (J .cmds))) (ltb (fieldAt 2 s 5) (length (J .cmds))) (ltb (fieldAt 2 s 7) (length (J .types))) _ _
+
+  pub law-x-access : formEntry (byteOf x-access) s (J .names) (shapeOf J) ≡ judgedW (written x-access (fieldsFrom (operands x-access) s 1)) J
+  unfolding digitOf rowOf formEntry placesOk slotsOk slotOk kindOf formOf slotOf offsetOf leadOf leadOk byteOf written operands fieldsFrom judgedW okW entryW cmdOk children plain inner typesOf usesVar bindsVar bindsName all-of wordsOf headWord slots filled shapeOf
+  law-x-access = three-type (ltb (fieldAt 2 s 1) (length (J .cmds))) (ltb (fieldAt 2 s 3) (length (J .cmds))) (ltb (fieldAt 2 s 5) (length (J .cmds))) (ltb (fieldAt 2 s 7) (length (J .types))) _ _
 
   pub law-x-newkey : formEntry (byteOf x-newkey) s (J .names) (shapeOf J) ≡ judgedW (written x-newkey (fieldsFrom (operands x-newkey) s 1)) J
   unfolding digitOf rowOf formEntry placesOk slotsOk slotOk kindOf formOf slotOf offsetOf leadOf leadOk byteOf written operands fieldsFrom judgedW okW entryW cmdOk children plain inner typesOf usesVar bindsVar bindsName all-of wordsOf headWord slots filled shapeOf bindsOk newKeyOk

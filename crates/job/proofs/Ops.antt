@@ -11,7 +11,7 @@ use lib.Dec.{eqb, ltb, leb}
 use borrow.Author.Tests.{eqb-true, le-leb, leb-true, leb-false, lt-leb}
 use Rattle.order.specs.Bools.{_and_, _or_}
 use Rattle.syntax.specs.Commands.{Op, o-host, o-local, o-number, o-pair, o-cell, o-function, o-limit, o-grant, o-value, o-rights, o-end, form, commands, findOp, opOf, total, width, sectionOf, little, fields}
-use Rattle.syntax.specs.Commands.{x-number, x-top, x-variable, x-pair, x-part, x-function, x-apply, x-cell, x-assign, x-read, x-sum, x-test, x-limit, x-grant, x-newkey, x-associate}
+use Rattle.syntax.specs.Commands.{x-number, x-top, x-variable, x-pair, x-part, x-function, x-apply, x-cell, x-assign, x-read, x-sum, x-test, x-limit, x-grant, x-newkey, x-associate, x-access}
 use Rattle.syntax.specs.Job.{Job}
 use Rattle.syntax.specs.Reading.{State, misplaced, full}
 use Rattle.syntax.specs.ReadPlaces.{width-most, widest-few}
@@ -64,6 +64,7 @@ sections x-limit = (refl, omega arith)
 sections x-grant = (refl, omega arith)
 sections x-newkey = (refl, omega arith)
 sections x-associate = (refl, omega arith)
+sections x-access = (refl, omega arith)
 sections o-end = (refl, omega arith)
 
 pub section-is : (o : Op) → sectionByte (byteOf o) ≡ sectionOf o

@@ -18,7 +18,7 @@ ghost use Rattle.job.specs.Entries.{bindsOk, eitherOf, newKeyOk, leadOk,
 const VARIABLES: u8 = MOST_VARIABLES as u8;
 
 // Where the five places of an expression stand: one word for each command byte from 0x30 on, with place 0 in its last digit; 0 for a place that is not used.
-const OFFSETS: [u32; 16] = [
+const OFFSETS: [u32; 17] = [
     0x00000,
     0x00000,
     0x00000,
@@ -35,10 +35,11 @@ const OFFSETS: [u32; 16] = [
     0x00031,
     0x00753,
     0x00031,
+    0x07531,
 ];
 
 // What stands there: 1 an expression, 2 a type, 0 nothing.
-const KINDS: [u32; 16] = [
+const KINDS: [u32; 17] = [
     0x00000,
     0x00000,
     0x00000,
@@ -55,6 +56,7 @@ const KINDS: [u32; 16] = [
     0x00011,
     0x00211,
     0x00011,
+    0x02111,
 ];
 
 // Digit i of a word, from the right.
@@ -74,7 +76,7 @@ fn offset_row(op: u8) -> u32
         return 0;
     }
     let k = (op - 0x30) as usize;
-    if k < 16 {
+    if k < 17 {
         return OFFSETS[k];
     }
     0
@@ -87,7 +89,7 @@ fn kind_row(op: u8) -> u32
         return 0;
     }
     let k = (op - 0x30) as usize;
-    if k < 16 {
+    if k < 17 {
         return KINDS[k];
     }
     0
@@ -275,7 +277,7 @@ fn places_ok(op: u8, c: u8, f: Form, n: usize, t: usize) -> bool
     slots_ok(op, f, n, t)
 }
 
-// 0x30 to 0x3F.
+// 0x30 to 0x40.
 pub fn form_entry<'a>(op: u8, job: &'a [u8], names: &'a [u16], h: Shape) -> Entry
     ensures { λ r. ⌜ r ≡ formEntry op (now (job .entry)) (namesIn (now (names .entry)) (h .names)) h ⌝ }
 {

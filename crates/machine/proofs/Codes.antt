@@ -8,12 +8,12 @@ use native.Mathlib.Omega.{arith}
 use borrow.Author.Tests.{eqb-true, ne-eqb}
 use lib.Dec.{eqb, ltb}
 use lib.ListN.{take, getD, getElem?}
-use Rattle.syntax.specs.Commands.{Cmd, c-num, c-top, c-var, c-pair, c-part, c-fn, c-app, c-new, c-asg, c-read, c-sum, c-test, c-lim, c-grant, c-newkey, c-assoc}
+use Rattle.syntax.specs.Commands.{Cmd, c-num, c-top, c-var, c-pair, c-part, c-fn, c-app, c-new, c-asg, c-read, c-sum, c-test, c-lim, c-grant, c-newkey, c-assoc, c-access}
 use Rattle.syntax.specs.Operands.{evaluated}
 use Rattle.syntax.specs.Words.{decode, codeIn}
 use Rattle.syntax.specs.DecodeLaws.{decodeBy, decode-is}
 use Rattle.semantics.specs.Machine.{Value, Machine}
-use Rattle.semantics.specs.Step.{o-stuck, room, touchAll, p-wrong, settle, push, act, enterAt, enterCmd, bare, one, two, limitKeys, keysOf, actLim, actTest}
+use Rattle.semantics.specs.Step.{o-stuck, room, touchAll, p-wrong, settle, push, act, enterAt, enterCmd, bare, one, two, limitKeys, keysOf, actLim, actTest, actAccess}
 use Rattle.semantics.specs.KeyLaws.{narrow-none}
 use Rattle.store.specs.Frames.{handOf}
 use Rattle.machine.specs.Inner.{go, Works}
@@ -30,9 +30,9 @@ module _ (P : Cmd ℕ → Type 0) (op x a b c d e : ℕ) where
       (op ≡ 0x35 → P (c-fn (x % 256) b a)) → (op ≡ 0x36 → P (c-app a b)) → (op ≡ 0x37 → P (c-new b a)) → (op ≡ 0x38 → P (c-asg a b)) →
       (op ≡ 0x39 → P (c-read a)) → (op ≡ 0x3A → P (c-sum (eqb x 0) a b)) → (op ≡ 0x3B → P (c-test a b c d)) →
       (op ≡ 0x3C → P (c-lim (take x (a ∷ b ∷ c ∷ d ∷ [])) e)) → (op ≡ 0x3D → P (c-grant a b)) →
-      (op ≡ 0x3E → P (c-newkey (x % 256) (x / 256 % 256) a b c)) → (op ≡ 0x3F → P (c-assoc a b)) → P (c-num x) → P (decode op x a b c d e)
+      (op ≡ 0x3E → P (c-newkey (x % 256) (x / 256 % 256) a b c)) → (op ≡ 0x3F → P (c-assoc a b)) → (op ≡ 0x40 → P (c-access a b c d)) → P (c-num x) → P (decode op x a b c d e)
   unfolding decodeBy
-  decode-cases f1 f2 f3 f4 f5 f6 f7 f8 f9 fa fb fc fd fe ff g =
+  decode-cases f1 f2 f3 f4 f5 f6 f7 f8 f9 fa fb fc fd fe ff f40 g =
       subst⁻¹ P (decode-is op x a b c d e)
       (by P (eqb op 0x31) _ _ (λ h. f1 (eqb-true op 0x31 h))
       (by P (eqb op 0x32) _ _ (λ h. f2 (eqb-true op 0x32 h))
@@ -48,7 +48,8 @@ module _ (P : Cmd ℕ → Type 0) (op x a b c d e : ℕ) where
       (by P (eqb op 0x3C) _ _ (λ h. fc (eqb-true op 0x3C h))
       (by P (eqb op 0x3D) _ _ (λ h. fd (eqb-true op 0x3D h))
       (by P (eqb op 0x3E) _ _ (λ h. fe (eqb-true op 0x3E h))
-      (by P (eqb op 0x3F) _ _ (λ h. ff (eqb-true op 0x3F h)) g)))))))))))))))
+      (by P (eqb op 0x3F) _ _ (λ h. ff (eqb-true op 0x3F h))
+      (by P (eqb op 0x40) _ _ (λ h. f40 (eqb-true op 0x40 h)) g))))))))))))))))
 
 cons-nil : {x : ℕ} {t : List ℕ} → x ∷ t ≡ [] → ⊥
 cons-nil p = let z : _≡_ {A = ℕ} 0 1 = cc in omega arith
@@ -68,16 +69,16 @@ enter-number op x a b c d e w h1 h2 h5 hc = at (w .all a b c d e)
     at = decode-cases (λ k. evaluated k ≡ [] → k ≡ c-num x) op x a b c d e
         (λ h. absurd (h1 h)) (λ h. absurd (h2 h)) (λ h p. absurd (cons-nil p)) (λ h p. absurd (cons-nil p)) (λ h. absurd (h5 h)) (λ h p. absurd (cons-nil p)) (λ h p. absurd (cons-nil p))
         (λ h p. absurd (cons-nil p)) (λ h p. absurd (cons-nil p)) (λ h p. absurd (cons-nil p)) (λ h p. absurd (cons-nil p)) (λ h. absurd (hc h)) (λ h p. absurd (cons-nil p)) (λ h p. absurd (cons-nil p))
-        (λ h p. absurd (cons-nil p)) (λ p. refl)
+        (λ h p. absurd (cons-nil p)) (λ h p. absurd (cons-nil p)) (λ p. refl)
 
 -- the arms of an act on one value, and on two
 pub one-stuck :
-    (op x a b c d e : ℕ) (v : Value) (m : Machine) → (op ≡ 0x34 → ⊥) → (op ≡ 0x37 → ⊥) → (op ≡ 0x39 → ⊥) → (op ≡ 0x3B → ⊥) → (op ≡ 0x3C → ⊥) → (op ≡ 0x3D → ⊥) → (op ≡ 0x3E → ⊥) →
+    (op x a b c d e : ℕ) (v : Value) (m : Machine) → (op ≡ 0x34 → ⊥) → (op ≡ 0x37 → ⊥) → (op ≡ 0x39 → ⊥) → (op ≡ 0x3B → ⊥) → (op ≡ 0x3C → ⊥) → (op ≡ 0x3D → ⊥) → (op ≡ 0x3E → ⊥) → (op ≡ 0x40 → ⊥) →
     act (decode op x a b c d e) (v ∷ []) m ≡ p-wrong
 unfolding act bare two
-one-stuck op x a b c d e v m h4 h7 h9 hb hc hd he = decode-cases (λ k. act k (v ∷ []) m ≡ p-wrong) op x a b c d e
+one-stuck op x a b c d e v m h4 h7 h9 hb hc hd he h40 = decode-cases (λ k. act k (v ∷ []) m ≡ p-wrong) op x a b c d e
     (λ h. refl) (λ h. refl) (λ h. refl) (λ h. absurd (h4 h)) (λ h. refl) (λ h. refl) (λ h. absurd (h7 h)) (λ h. refl) (λ h. absurd (h9 h)) (λ h. refl)
-    (λ h. absurd (hb h)) (λ h. absurd (hc h)) (λ h. absurd (hd h)) (λ h. absurd (he h)) (λ h. refl) refl
+    (λ h. absurd (hb h)) (λ h. absurd (hc h)) (λ h. absurd (hd h)) (λ h. absurd (he h)) (λ h. refl) (λ h. absurd (h40 h)) refl
 
 pub two-stuck :
     (op x a b c d e : ℕ) (u v : Value) (m : Machine) → (op ≡ 0x33 → ⊥) → (op ≡ 0x36 → ⊥) → (op ≡ 0x38 → ⊥) → (op ≡ 0x3A → ⊥) → (op ≡ 0x3C → ⊥) → (op ≡ 0x3F → ⊥) →
@@ -85,25 +86,25 @@ pub two-stuck :
 unfolding act bare one
 two-stuck op x a b c d e u v m h3 h6 h8 ha hc hf = decode-cases (λ k. act k (u ∷ v ∷ []) m ≡ p-wrong) op x a b c d e
     (λ h. refl) (λ h. refl) (λ h. absurd (h3 h)) (λ h. refl) (λ h. refl) (λ h. absurd (h6 h)) (λ h. refl) (λ h. absurd (h8 h)) (λ h. refl) (λ h. absurd (ha h))
-    (λ h. refl) (λ h. absurd (hc h)) (λ h. refl) (λ h. refl) (λ h. absurd (hf h)) refl
+    (λ h. refl) (λ h. absurd (hc h)) (λ h. refl) (λ h. refl) (λ h. absurd (hf h)) (λ h. refl) refl
 
 -- no command but a limit acts on three values or more
 pub more-stuck : (op x a b c d e : ℕ) (u v w : Value) (l : List Value) (m : Machine) → (op ≡ 0x3C → ⊥) → act (decode op x a b c d e) (u ∷ v ∷ w ∷ l) m ≡ p-wrong
 unfolding act bare one two
 more-stuck op x a b c d e u v w l m hc = decode-cases (λ k. act k (u ∷ v ∷ w ∷ l) m ≡ p-wrong) op x a b c d e
     (λ h. refl) (λ h. refl) (λ h. refl) (λ h. refl) (λ h. refl) (λ h. refl) (λ h. refl) (λ h. refl) (λ h. refl) (λ h. refl)
-    (λ h. refl) (λ h. absurd (hc h)) (λ h. refl) (λ h. refl) (λ h. refl) refl
+    (λ h. refl) (λ h. absurd (hc h)) (λ h. refl) (λ h. refl) (λ h. refl) (λ h. refl) refl
 
 -- the bytes of no command that works out an operand
 pub works-none :
     (op x : ℕ) → (op ≡ 0x33 → ⊥) → (op ≡ 0x34 → ⊥) → (op ≡ 0x36 → ⊥) → (op ≡ 0x37 → ⊥) → (op ≡ 0x38 → ⊥) → (op ≡ 0x39 → ⊥) →
-    (op ≡ 0x3A → ⊥) → (op ≡ 0x3B → ⊥) → (op ≡ 0x3C → ⊥) → (op ≡ 0x3D → ⊥) → (op ≡ 0x3E → ⊥) → (op ≡ 0x3F → ⊥) → Works op x 0
+    (op ≡ 0x3A → ⊥) → (op ≡ 0x3B → ⊥) → (op ≡ 0x3C → ⊥) → (op ≡ 0x3D → ⊥) → (op ≡ 0x3E → ⊥) → (op ≡ 0x3F → ⊥) → (op ≡ 0x40 → ⊥) → Works op x 0
 unfolding evaluated
-works-none op x h3 h4 h6 h7 h8 h9 ha hb hc hd he hf =
+works-none op x h3 h4 h6 h7 h8 h9 ha hb hc hd he hf h40 =
     record {
       all = λ a b c d e. decode-cases (λ k. evaluated k ≡ []) op x a b c d e
           (λ h. refl) (λ h. refl) (λ h. absurd (h3 h)) (λ h. absurd (h4 h)) (λ h. refl) (λ h. absurd (h6 h)) (λ h. absurd (h7 h)) (λ h. absurd (h8 h)) (λ h. absurd (h9 h)) (λ h. absurd (ha h))
-          (λ h. absurd (hb h)) (λ h. absurd (hc h)) (λ h. absurd (hd h)) (λ h. absurd (he h)) (λ h. absurd (hf h)) refl;
+          (λ h. absurd (hb h)) (λ h. absurd (hc h)) (λ h. absurd (hd h)) (λ h. absurd (he h)) (λ h. absurd (hf h)) (λ h. absurd (h40 h)) refl;
       few = omega arith;
     }
 
@@ -152,9 +153,9 @@ taken-out (suc (suc (suc (suc (suc n))))) (suc (suc (suc (suc j)))) a b c d h = 
 module _ (heads slots : List ℕ) (i head : ℕ) (e : head ≡ getD heads i 0) where
   pub code-one :
       (v : Value) (m : Machine) → (getD heads i 0 % 256 ≡ 0x3C → ⊥) → (head % 256 ≡ 0x34 → ⊥) → (head % 256 ≡ 0x37 → ⊥) → (head % 256 ≡ 0x39 → ⊥) → (head % 256 ≡ 0x3B → ⊥) →
-      (head % 256 ≡ 0x3D → ⊥) → (head % 256 ≡ 0x3E → ⊥) → settle (act (codeIn heads slots i) (v ∷ []) m) ≡ o-stuck
+      (head % 256 ≡ 0x3D → ⊥) → (head % 256 ≡ 0x3E → ⊥) → (head % 256 ≡ 0x40 → ⊥) → settle (act (codeIn heads slots i) (v ∷ []) m) ≡ o-stuck
   unfolding codeIn settle
-  code-one v m hc h4 h7 h9 hb hd he = simp (← e) (ap settle (one-stuck (head % 256) (head / 256 % 4294967296) _ _ _ _ _ v m h4 h7 h9 hb (λ z. hc (ap (λ (x : ℕ). x % 256) (sym e) ∙ z)) hd he))
+  code-one v m hc h4 h7 h9 hb hd he h40 = simp (← e) (ap settle (one-stuck (head % 256) (head / 256 % 4294967296) _ _ _ _ _ v m h4 h7 h9 hb (λ z. hc (ap (λ (x : ℕ). x % 256) (sym e) ∙ z)) hd he h40))
 
   pub code-two :
       (u v : Value) (m : Machine) → (getD heads i 0 % 256 ≡ 0x3C → ⊥) → (head % 256 ≡ 0x33 → ⊥) → (head % 256 ≡ 0x36 → ⊥) → (head % 256 ≡ 0x38 → ⊥) → (head % 256 ≡ 0x3A → ⊥) →
@@ -184,6 +185,11 @@ module _ (heads slots : List ℕ) (i head : ℕ) (e : head ≡ getD heads i 0) w
       (v : Value) (m : Machine) {b c : ℕ} → head % 256 ≡ 0x3B → b ≡ getD slots (i * 5 + 1) 0 → c ≡ getD slots (i * 5 + 2) 0 → act (codeIn heads slots i) (v ∷ []) m ≡ actTest b c v m
   unfolding codeIn decode act one
   code-test v m h hb hc = simp (← e, h, ← hb, ← hc)
+
+  pub code-access :
+      (v : Value) (m : Machine) {b c : ℕ} → head % 256 ≡ 0x40 → b ≡ getD slots (i * 5 + 1) 0 → c ≡ getD slots (i * 5 + 2) 0 → act (codeIn heads slots i) (v ∷ []) m ≡ actAccess b c v m
+  unfolding codeIn decode act one
+  code-access v m h hb hc = simp (← e, h, ← hb, ← hc)
 
   code-works : (need : ℕ) → Works (head % 256) (head / 256 % 4294967296) need →
       evaluated (codeIn heads slots i) ≡ take need (getD slots (i * 5) 0 ∷ getD slots (i * 5 + 1) 0 ∷ getD slots (i * 5 + 2) 0 ∷ getD slots (i * 5 + 3) 0 ∷ [])

@@ -26,7 +26,7 @@ ghost use Prim.Native.Nat.{ℕ, suc, _<_};
 ghost use Rattle.order.specs.Sets.{all-of};
 ghost use Rattle.semantics.specs.Machine.{most-keys, most-pairs, most-bindings};
 ghost use Rattle.semantics.specs.Keys.{enabled};
-ghost use Rattle.semantics.specs.Step.{Plan, settle, actPair, actPart, actApp, actNew, actAsg, actRead, actSum, actTest, limitKeys, actLim, actGrant, makeKey, actNewkey, actAssoc, sumN};
+ghost use Rattle.semantics.specs.Step.{Plan, settle, actPair, actPart, actApp, actNew, actAsg, actRead, actSum, actTest, limitKeys, actLim, actGrant, makeKey, actNewkey, actAssoc, actAccess, sumN};
 ghost use Rattle.store.specs.Meaning.{keysIn, valueIn};
 ghost use Rattle.store.specs.Words.{upIn};
 ghost use Rattle.store.specs.Tables.{capped, listOf};
@@ -467,5 +467,32 @@ impl State {
             kind: k,
             payload: value.payload,
         })
+    }
+    // The first branch where the key that x stands for is enabled, the second where it is not.
+    pub(crate) fn act_access(
+        self,
+        back: State,
+        yes: Expr,
+        no: Expr,
+        x: Value,
+        keys: &[u8; KEY_BYTES],
+    ) -> Acted
+        ensures { λ r. ⌜ ((w : Tables) → acted r (putKeys w (now (keys .entry))) ≡ tried self back (putKeys w (now (keys .entry))) (actAccess (yes .0) (no .0) (valueIn x))) ⌝ }
+    {
+        let k = x.kind;
+        let Kind::Limit = k else {
+            return self.stop(Answer::Stuck);
+        };
+        if back.touch(x, keys) {} else {
+            return self.stop(Answer::Denied);
+        }
+        let now = back.now;
+        let on = now.on;
+        let j = store::key_in(x);
+        if store::enabled(keys, back.keys, on, j) {
+            back.go(yes, now.env, on)
+        } else {
+            back.go(no, now.env, on)
+        }
     }
 }

@@ -47,6 +47,7 @@ pub(crate) fn need(op: u64, x: u64) -> u8
         0x3D => 1,
         0x3E => 1,
         0x3F => 2,
+        0x40 => 1,
         _ => 0,
     }
 }

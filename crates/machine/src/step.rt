@@ -79,6 +79,7 @@ impl State {
                 pairs,
                 bindings,
             ),
+            0x40 => self.act_access(back, b, Expr(table::at16(slots, i * 5 + 2)), v, keys),
             _ => self.stop(Answer::Stuck),
         }
     }

@@ -11,7 +11,7 @@ use Rattle.order.specs.OrderLaws.{Proper}
 use Rattle.order.specs.Sets.{members}
 use Rattle.order.specs.Effects.{Effect, names}
 use Rattle.syntax.specs.Types.{Ty, num, lim}
-use Rattle.syntax.specs.Commands.{Cmd, c-pair, c-part, c-app, c-new, c-asg, c-read, c-sum, c-test, c-lim, c-grant, c-newkey, c-assoc}
+use Rattle.syntax.specs.Commands.{Cmd, c-pair, c-part, c-app, c-new, c-asg, c-read, c-sum, c-test, c-lim, c-grant, c-newkey, c-assoc, c-access}
 use Rattle.syntax.specs.Job.{Src, upOf}
 use Rattle.syntax.specs.Tree.{Entry, e-var, e-name, keyPair}
 use Rattle.typing.specs.Subtype.{Sub}
@@ -147,6 +147,11 @@ pub data FrameOk (S : Src) (W : World) : Cmd Ty → List Value → ℕ → ℕ �
       → FrameOk S W (c-assoc a b) [] e on A (rrekey (look E r) A)
   fo-assoc2 : {e on a b q j : ℕ} {v : Value} {A : RTy} → Fits W v A → On (W .keys) (members on) (rkey A) → On (W .keys) (members on) q
       → FrameOk S W (c-assoc a b) (v ∷ []) e on (rlim q j) (rrekey j A)
+  -- each name of the first branch's effect is covered, or its key lies below the one that is asked for
+  fo-access : {e on a b c q j : ℕ} {E : List Bind} {Γ : List Entry} {B C T : Ty} {t u : Effect}
+      → Env S W e E Γ → Has S Γ b B t → ((n : ℕ) → List·Memᴰ n (names t) → On (W .keys) (members on) (look E n) ⊎ Below (W .keys) (look E n) j) → Sub (upOf S) B T
+      → Has S Γ c C u → Covers (W .keys) (members on) (look E) u → Sub (upOf S) C T → On (W .keys) (members on) q
+      → FrameOk S W (c-access a b c T) [] e on (rlim q j) (inst (look E) T)
 
 -- the frames take a value of the type
 pub data StackOk (S : Src) (W : World) : List Frame → RTy → Type 0 where

@@ -10,25 +10,26 @@ use lib.ListN.{length, getElem?, set}
 use lib.Dec.{eqb, ltb}
 use lib.Bits.{bitOr}
 use borrow.Author.Tests.{eq-eqb, eqb-true, eqb-false, lt-ltb}
-use Rattle.order.specs.Bools.{_and_, _or_, and-l, and-r, and3, or-cases}
+use Rattle.order.specs.Bools.{_and_, _or_, and-l, and-r, and3}
 use Rattle.order.specs.Order.{Below, here, below}
 use Rattle.order.specs.OrderLaws.{Proper, below-trans, below-zero, below→, →below}
 use Rattle.order.specs.Sets.{bit, consIf, members, setOf, keep, some-of}
 use Rattle.order.specs.SetLaws.{or→, →or-l, →or-r, bit-or, bit-pow, bit-zero, mem-bit, bit-mem, keep-mem, mem-keep, some-of→, →some-of, mem-setOf, setOf-mem}
 use Rattle.order.specs.Effects.{pure, names}
 use Rattle.order.specs.EffectLaws.{eff-pure}
-use Rattle.syntax.specs.Commands.{Cmd, c-num, c-app, c-asg, c-test, c-lim, c-grant}
+use Rattle.syntax.specs.Commands.{Cmd, c-num, c-app, c-asg, c-test, c-lim, c-grant, c-access}
 use Rattle.syntax.specs.Operands.{nth, evaluated}
 use Rattle.syntax.specs.Job.{Src}
 use Rattle.syntax.specs.Tree.{root, predecessor}
 use Rattle.syntax.specs.WellRead.{WellRead}
 use Rattle.typing.specs.Rules.{h-num}
-use Rattle.semantics.specs.Machine.{k-num, k-fn, k-cell, k-lim, k-grant, Value, b-var, Closure, Frame, enter, hand, Machine, most-bindings}
+use Rattle.semantics.specs.Machine.{k-num, k-fn, k-cell, k-lim, k-grant, Value, b-var, Closure, Frame, Control, enter, hand, Machine, most-bindings}
 use Rattle.semantics.specs.Keys.{enabled, upto, narrow, add}
 use Rattle.semantics.specs.Step
-use Rattle.semantics.specs.Step.{Out, o-step, Plan, room, settle, handing, entering, withCells, withBindings, withFrames, asNum, asFn, asCell, asLim, asGrant, found, one, two, branch, actApp, actAsg, actTest, limitKeys, keysOf, touchAll, actLim, actGrant, act, enterAt, enterCmd, resume, receive, handTo, planOn, plan, step}
+use Rattle.semantics.specs.Step.{Out, o-step, o-done, o-room, o-stuck, o-denied, Plan, room, settle, handing, entering, withCells, withBindings, withFrames, asNum, asFn, asCell, asLim, asGrant, found, one, two, branch, actApp, actAsg, actTest, limitKeys, keysOf, touchAll, actLim, actGrant, actAccess, act, enterAt, enterCmd, resume, receive, handTo, planOn, plan, step}
 use Rattle.semantics.specs.Start.{named, keyNamed, startOf}
-use Rattle.semantics.specs.Enabled.{mem-upto}
+use Rattle.semantics.specs.Invariant.{On, on-zero, on-key}
+use Rattle.semantics.specs.Enabled.{mem-upto, enabled-on}
 use Rattle.semantics.specs.Begin.{start-ok}
 
 -- Sets of keys
@@ -50,12 +51,11 @@ some-enabled {up} ok on k z = at (eqb k 0) (→some-of (λ a. below up k a) (z .
     at false h = h
 
 enabled-from : (up : List ℕ) (on k : ℕ) → enabled up on k ≡ true → (k ≡ 0) ⊎ BelowOne up k (members on)
-unfolding enabled
-enabled-from up on k e = at (or-cases (eqb k 0) (some-of (λ a. below up k a) (members on)) e)
+enabled-from up on k e = at (enabled-on up on e)
   where
-    at : (eqb k 0 ≡ true) ⊎ (some-of (λ a. below up k a) (members on) ≡ true) → (k ≡ 0) ⊎ BelowOne up k (members on)
-    at (inl h) = inl (eqb-true k 0 h)
-    at (inr h) = let z = some-of→ (λ a. below up k a) (members on) h in inr (z .0, z .1, below→ up k (z .0) (z .2))
+    at : On up (members on) k → (k ≡ 0) ⊎ BelowOne up k (members on)
+    at (on-zero h) = inl h
+    at (on-key {a = a} m b) = inr (a, m, b)
 
 -- "A key is enabled when it is below an enabled one in the tree of keys"; "key 0, always enabled"
 pub enabled-exactly : {up : List ℕ} → Proper up → (on k : ℕ) → (enabled up on k ≡ true) ↔ ((k ≡ 0) ⊎ BelowOne up k (members on))
@@ -201,6 +201,18 @@ unfolding touchAll keysOf Step.touch
 touch-all m [] o h = refl
 touch-all m (v ∷ vs) o h = rw (h v (List·Memᴰ·head refl)) (touch-all m vs o (λ w n. h w (List·Memᴰ·tail n)))
 
+-- the expression that a step enters
+towards : Out → ℕ
+towards (o-step n) = at (n .thread .control)
+  where
+    at : Control → ℕ
+    at (enter e) = e
+    at (hand v) = 0
+towards o-done = 0
+towards o-room = 0
+towards o-stuck = 0
+towards o-denied = 0
+
 module _ {T : Type 0} (code : ℕ → Cmd T) where
   -- the next step of m is the act of the command k of the newest frame f, with the values vs, all in hand; fs are the frames below it
   pub record Acting (m : Machine) (k : Cmd T) (vs : List Value) (f : Frame) (fs : List Frame) : Type 0 where
@@ -259,3 +271,40 @@ module _ {T : Type 0} (code : ℕ → Cmd T) where
       → enabled (m .store .keys) (f .on) (v .key) ≡ true → step code m ≡ o-step (entering c (f .env) (f .on) (withFrames m fs))
   unfolding act one actTest asNum found branch settle touchAll Step.touch room
   test-zero a e h = acting a ∙ rw (e, h)
+
+  -- 0x40: the first branch where the key that the limit key stands for is enabled, the second where it is not, each with the frame's own enabled keys
+  pub access-first : {m : Machine} {a b c j : ℕ} {t : T} {v : Value} {f : Frame} {fs : List Frame} → Acting m (c-access a b c t) (v ∷ []) f fs → v .kind ≡ k-lim j
+      → enabled (m .store .keys) (f .on) (v .key) ≡ true → enabled (m .store .keys) (f .on) j ≡ true → step code m ≡ o-step (entering b (f .env) (f .on) (withFrames m fs))
+  unfolding act one actAccess asLim found settle touchAll Step.touch room
+  access-first a e h g = acting a ∙ rw (e, h, g)
+
+  pub access-second : {m : Machine} {a b c j : ℕ} {t : T} {v : Value} {f : Frame} {fs : List Frame} → Acting m (c-access a b c t) (v ∷ []) f fs → v .kind ≡ k-lim j
+      → enabled (m .store .keys) (f .on) (v .key) ≡ true → enabled (m .store .keys) (f .on) j ≡ false → step code m ≡ o-step (entering c (f .env) (f .on) (withFrames m fs))
+  unfolding act one actAccess asLim found settle touchAll Step.touch room
+  access-second a e h g = acting a ∙ rw (e, h, g)
+
+  -- so, of two branches (in a job each expression is used once), the first exactly when the key is 0 or lies below an enabled one, and else the second
+  pub access-exactly : {m : Machine} {a b c j : ℕ} {t : T} {v : Value} {f : Frame} {fs : List Frame} → Acting m (c-access a b c t) (v ∷ []) f fs → v .kind ≡ k-lim j
+      → enabled (m .store .keys) (f .on) (v .key) ≡ true → Proper (m .store .keys) → b ≢ c
+      → ((step code m ≡ o-step (entering b (f .env) (f .on) (withFrames m fs))) ↔ ((j ≡ 0) ⊎ BelowOne (m .store .keys) j (members (f .on))))
+      × ((step code m ≡ o-step (entering c (f .env) (f .on) (withFrames m fs))) ↔ (((j ≡ 0) ⊎ BelowOne (m .store .keys) j (members (f .on))) → ⊥))
+  unfolding towards
+  access-exactly {m} {b = b} {c = c} {j = j} {f = f} {fs = fs} a e h ok n =
+      let x = enabled-exactly ok (f .on) j in (
+        (λ z. x .0 (first (enabled (m .store .keys) (f .on) j) refl z), λ z. access-first a e h (x .1 z)),
+        (λ z w. n (sym (entered (sym z ∙ access-first a e h (x .1 w)))), λ w. access-second a e h (other (enabled (m .store .keys) (f .on) j) refl (λ z. w (x .0 z)))),
+      )
+    where
+      Next : ℕ → Out
+      Next i = o-step (entering i (f .env) (f .on) (withFrames m fs))
+
+      entered : {i k : ℕ} → Next i ≡ Next k → i ≡ k
+      entered z = ap towards z
+
+      first : (t : Bool) → enabled (m .store .keys) (f .on) j ≡ t → step code m ≡ Next b → enabled (m .store .keys) (f .on) j ≡ true
+      first true q z = q
+      first false q z = absurd (n (entered (sym z ∙ access-second a e h q)))
+
+      other : (t : Bool) → enabled (m .store .keys) (f .on) j ≡ t → (enabled (m .store .keys) (f .on) j ≡ true → ⊥) → enabled (m .store .keys) (f .on) j ≡ false
+      other true q w = absurd (w q)
+      other false q w = q

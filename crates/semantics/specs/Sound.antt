@@ -2,7 +2,7 @@
 use mathlib.Core.Path.{_≡_, refl, sym, _∙_, subst, subst⁻¹}
 use Prim.Native.Nat.{ℕ, zero, suc, _≤_, _<_}
 use native.Mathlib.Omega.{arith}
-use mathlib.Core.Bool.{Bool, true, false}
+use mathlib.Core.Bool.{Bool, true, false, cond}
 use mathlib.Core.List.{List, [], _∷_, _++_, map, List·Memᴰ, Memᴰ·cast, append-assoc, append-nil}
 use mathlib.Core.Option.{none, some}
 use mathlib.Core.Logic.{_≢_, _⊎_, inl, inr}
@@ -23,20 +23,20 @@ use Rattle.syntax.specs.Tree.{Entry, e-var, e-name, keyPair}
 use Rattle.typing.specs.Subtype.{Sub}
 use Rattle.typing.specs.FreeNames.{Free}
 use Rattle.typing.specs.Scoped.{scoped-free}
-use Rattle.typing.specs.Rules.{Has, h-num, h-top, h-var, h-pair, h-part1, h-part2, h-fn, h-app, h-new, h-asg, h-read, h-sum, h-test, h-lim, h-grant, h-newkey, h-assoc, h-sub, HasKeys, k-nil, k-cons, Fresh, codeOf}
+use Rattle.typing.specs.Rules.{Has, h-num, h-top, h-var, h-pair, h-part1, h-part2, h-fn, h-app, h-new, h-asg, h-read, h-sum, h-test, h-lim, h-grant, h-newkey, h-assoc, h-access, h-sub, HasKeys, k-nil, k-cons, Fresh, codeOf}
 use Rattle.semantics.specs.Machine.{Kind, k-pair, k-fn, k-lim, k-grant, Value, unkeyed, Bind, b-var, b-name, Link, Frame, Control, hand, Thread, Store, Machine, most-bindings}
 use Rattle.semantics.specs.Keys.{enabled, add}
 use Rattle.semantics.specs.Step
 use Rattle.semantics.specs.Step.{Out, o-step, o-done, o-room, Plan, p-done, p-try, room, touchAll, settle, asNum, asPair, asFn, asCell, asLim, asGrant, found, bare, one, two}
-use Rattle.semantics.specs.Step.{actPair, partOf, actPart, actFn, actApp, actNew, actAsg, actRead, actSum, branch, actTest, limitKeys, keysOf, actLim, actGrant, makeKey, actNewkey, actAssoc}
+use Rattle.semantics.specs.Step.{actPair, partOf, actPart, actFn, actApp, actNew, actAsg, actRead, actSum, branch, actTest, limitKeys, keysOf, actLim, actGrant, makeKey, actNewkey, actAssoc, actAccess}
 use Rattle.semantics.specs.Step.{variable, push, act, enterAt, enterCmd, receive, handTo, planOn, plan, step}
 use Rattle.semantics.specs.RuntimeTypes.{RTy, rnum, rpair, rcell, rfn, rlim, rgrant, Under, RSub, r-num, r-pair, r-cell, r-fn, r-lim, r-grant, rkey, rrekey, inst, rsub-refl, rsub-trans, rsub-key, rsub-rekey, inst-rekey, inst-key, under-refl}
 use Rattle.semantics.specs.Chains.{look, lookVar, Chain, ch-cons, chain-le, chain-seek, chain-wider, seam, seam-next, length-two}
 use Rattle.semantics.specs.Invariant.{TwoTy, FnTy, fty, World, worldOf, Ext, Typ, t-num, t-pair, t-cell, t-fn, t-lim, t-grant, Fits, On, on-zero, on-key, OnAll, Covers, EnvOk, eo-var, eo-name, Env, Held, hd-nil, hd-cons, Rest, rest-here, rest-next}
-use Rattle.semantics.specs.Invariant.{FrameOk, fo-pair1, fo-pair2, fo-part1, fo-part2, fo-app1, fo-app2, fo-new, fo-read, fo-asg1, fo-asg2, fo-sum1, fo-sum2, fo-test, fo-lim, fo-grant, fo-newkey, fo-assoc1, fo-assoc2}
+use Rattle.semantics.specs.Invariant.{FrameOk, fo-pair1, fo-pair2, fo-part1, fo-part2, fo-app1, fo-app2, fo-new, fo-read, fo-asg1, fo-asg2, fo-sum1, fo-sum2, fo-test, fo-lim, fo-grant, fo-newkey, fo-assoc1, fo-assoc2, fo-access}
 use Rattle.semantics.specs.Invariant.{StackOk, so-nil, so-cons, ThreadOk, to-enter, to-hand, FnOk, f-fn, StoreOk, KeysOk, Ok}
 use Rattle.semantics.specs.Growth.{ext-refl, fits-ext, on-ext, covers-ext, envOk-ext, env-ext, stack-ext}
-use Rattle.semantics.specs.Enabled.{on-more, on-enabled, on-below, on-narrow, keys-snoc, on-under, add-new, add-old, on-name, covers-join-l, covers-join-r, covers-old, covers-touch, covers-map, map-covers}
+use Rattle.semantics.specs.Enabled.{on-more, enabled-on, on-enabled, on-below, on-narrow, keys-snoc, on-under, add-new, add-old, on-name, covers-join-l, covers-join-r, covers-old, covers-touch, covers-map, map-covers}
 use Rattle.semantics.specs.Bindings.{fits-sub, inst-off, env-zero, env-one, env-mono, env-sub, env-lt, env-lookup, covers-below, covers-keys, mono-new, up-new}
 use Rattle.semantics.specs.Stores.{world, store-wider, fn-extends, add-fn, pair-extends, add-pair, cell-extends, add-cell, set-cell}
 
@@ -182,6 +182,15 @@ module _ (S : Src) (σ : Store) (pt : List TwoTy) (ft : List FnTy) (ct : List RT
         push-ok at q o x (covers-join-l s t d) kb-refl
         (fo-lim o (rest-next rest-here) ks (covers-join-r s t d) hd-nil (covers-touch (env-zero (o .ok)) p (join s t) cl) h c u) k
 
+    -- where an effect is covered but for the names below r, each of its names is covered, or its key lies below the one of r
+    dropped-or : {E : List Bind} {Γ : List Entry} (r : ℕ) (t : Effect) → Envs E Γ → CoversHere E (drop (upOf S) r t)
+        → (n : ℕ) → List·Memᴰ n (names t) → OnHere (look E n) ⊎ Below (σ .keys) (look E n) (look E r)
+    dropped-or {E} r t o w n m = either (drop-or (upOf S) r t m)
+      where
+        either : List·Memᴰ n (names (drop (upOf S) r t)) ⊎ Below (upOf S) n r → OnHere (look E n) ⊎ Below (σ .keys) (look E n) (look E r)
+        either (inl i) = inl (w .each n i)
+        either (inr b) = inr (env-mono (o .ok) n r b)
+
     enter-ok : {a : ℕ} {E : List Bind} {Γ : List Entry} {T : Ty} {n : Effect}
         → Envs E Γ → Has S Γ a T n → CoversHere E n → Stack (inst (look E) T) → Sure S W (enterCmd a (codeOf S a) m)
     unfolding enterCmd enterAt evaluated act bare inst
@@ -215,14 +224,10 @@ module _ (S : Src) (σ : Store) (pt : List TwoTy) (ft : List FnTy) (ct : List RT
         (fo-test o y (covers-join-l t u r) a z (covers-join-r t u r) b (covers-touch (env-zero (o .ok)) q (join s (join t u)) v)) k)
     enter-ok o (h-lim {rs = rs} {s = s} {t = t} c x y z) v k =
         rw c (enterLim-ok _ c o x (covers-join-l s t v) y (covers-join-r s t v) (covers-keys ko rs (o .ok) z) k)
-    enter-ok {E = E} o (h-grant {q = q} {r = r} {s = s} {t = t} c x y) v k =
+    enter-ok o (h-grant {q = q} {r = r} {s = s} {t = t} c x y) v k =
         let w = covers-old q (join s (drop (upOf S) r t)) v in
         rw c (push-ok _ c o x (covers-join-l s (drop (upOf S) r t) w) kb-refl
-        (fo-grant o y (covers-touch (env-zero (o .ok)) q (join s (drop (upOf S) r t)) v) (λ n m. either (covers-join-r s (drop (upOf S) r t) w) n (drop-or (upOf S) r t m))) k)
-      where
-        either : CoversHere E (drop (upOf S) r t) → (n : ℕ) → List·Memᴰ n (names (drop (upOf S) r t)) ⊎ Below (upOf S) n r → OnHere (look E n) ⊎ Below (σ .keys) (look E n) (look E r)
-        either w n (inl m) = inl (w .each n m)
-        either w n (inr b) = inr (env-mono (o .ok) n r b)
+        (fo-grant o y (covers-touch (env-zero (o .ok)) q (join s (drop (upOf S) r t)) v) (dropped-or r t o (covers-join-r s (drop (upOf S) r t) w))) k)
     enter-ok {E = E} o (h-newkey {r = r} {q = q} {u = u} {s = s} {t = t} c p x a i b y z) v k =
         let w = covers-old q (join s (raise r u t)) v in
         let g = covers-join-r s (raise r u t) w in
@@ -235,6 +240,11 @@ module _ (S : Src) (σ : Store) (pt : List TwoTy) (ft : List FnTy) (ct : List RT
         rw c (push-ok _ c o x (covers-join-l s t w) kb-refl
         (fo-assoc1 o y (covers-join-r s t w) (subst⁻¹ (λ i. OnHere i) (inst-key (look E) A) (covers-touch (env-zero (o .ok)) (keyOf A) _ v)) (covers-touch (env-zero (o .ok)) q (join s t) u))
         (subst (λ i. Stack i) (inst-rekey (look E) r A) k))
+    enter-ok o (h-access {q = q} {r = r} {s = s} {t = t} {u = u} c p x y z a b) v k =
+        let w = covers-old q (join s (join (drop (upOf S) r t) u)) v in
+        let g = covers-join-r s (join (drop (upOf S) r t) u) w in
+        rw c (push-ok _ c o x (covers-join-l s (join (drop (upOf S) r t) u) w) kb-refl
+        (fo-access o y (dropped-or r t o (covers-join-l (drop (upOf S) r t) u g)) a z (covers-join-r (drop (upOf S) r t) u g) b (covers-touch (env-zero (o .ok)) q (join s (join (drop (upOf S) r t) u)) v)) k)
     enter-ok o (h-sub d x p u i) v k = enter-ok o d (covers-below ko (o .ok) v u) (stack-sub (env-sub (o .ok) x) k)
 
     part1-ok : {k q : ℕ} {x : Kind} {X A B : RTy} → RSub (σ .keys) X (rpair q A B) → Typ W k x X → OnHere q → Stack A → Sure S W (actPart true (val k x) m)
@@ -387,6 +397,21 @@ module _ (S : Src) (σ : Store) (pt : List TwoTy) (ft : List FnTy) (ct : List RT
         sure-try (and-key (touch-ok (on-value f a)) (one-key (on-below ko on b)))
         (λ q. (step-ok (to-hand (record { exact = rrekey j (f .exact); typ = typ-rekey j (f .typ); sub = rsub-rekey j (f .sub) }) k)))
 
+    -- 0x40: in the first branch the key asked for is enabled, and so is what lies below it
+    access-ok : {k q j b c : ℕ} {x : Kind} {X : RTy} {B C T : Ty} {E : List Bind} {Γ : List Entry} {t u : Effect}
+        → RSub (σ .keys) X (rlim q j) → Typ W k x X → OnHere q → Envs E Γ → Has S Γ b B t → ((n : ℕ) → List·Memᴰ n (names t) → OnHere (look E n) ⊎ Below (σ .keys) (look E n) j) → Sub (upOf S) B T
+        → Has S Γ c C u → CoversHere E u → Sub (upOf S) C T → Stack (inst (look E) T) → Sure S W (actAccess b c (val k x) m)
+    unfolding actAccess asLim found
+    access-ok {j = j} {b = b} {c = c} {E = E} (r-lim a) (t-lim p) on o h v y g w z k = sure-try (one-key (on-below ko on a)) (λ r. at (enabled (σ .keys) (θ .on) j) refl)
+      where
+        more : OnHere j → (n : ℕ) → OnHere (look E n) ⊎ Below (σ .keys) (look E n) j → OnHere (look E n)
+        more i n (inl e) = e
+        more i n (inr e) = on-below ko i e
+
+        at : (t : Bool) → enabled (σ .keys) (θ .on) j ≡ t → Good S W (o-step (Step.entering (cond t b c) (θ .env) (θ .on) m))
+        at true e = step-ok (to-enter o h (record { each = λ n i. more (enabled-on (σ .keys) (θ .on) e) n (v n i) }) (stack-sub (env-sub (o .ok) y) k))
+        at false e = step-ok (to-enter o g w (stack-sub (env-sub (o .ok) z) k))
+
     newkey-ok : {k q j x r b u : ℕ} {z : Kind} {X : RTy} {B T : Ty} {E : List Bind} {Γ : List Entry} {t : Effect}
         → RSub (σ .keys) X (rlim q j) → Typ W k z X → j ≡ look E u → OnHere q → Envs E Γ → getElem? (upOf S) r ≡ some u → Fresh (upOf S) Γ r
         → Has S (e-var x (keyPair r) ∷ e-name r ∷ Γ) b B t → Sub (upOf S) B T → Free r T
@@ -527,6 +552,7 @@ module _ (S : Src) (σ : Store) (pt : List TwoTy) (ft : List FnTy) (ct : List RT
   receive-ok θ at {fs = fs} v q (fo-newkey {e = e} {on = on} o a f h y i p c u) g k = rw q (newkey-ok (popped (θ .control) e on fs) (g .sub) (g .typ) refl p o a f h y i c u k)
   receive-ok θ at v q (fo-assoc1 o h c a p) g k = sure-try no-key (λ z. step-ok (to-enter o h c (so-cons q kb-refl (fo-assoc2 g a p) k)))
   receive-ok θ at {fs = fs} v q (fo-assoc2 {e = e} {on = on} f a p) g k = rw q (assoc-ok (popped (θ .control) e on fs) (g .sub) (g .typ) p f a k)
+  receive-ok θ at {fs = fs} v q (fo-access {e = e} {on = on} o h c y i d z p) g k = rw q (access-ok (popped (θ .control) e on fs) (g .sub) (g .typ) p o h c y i d z k)
 
   hand-ok : (θ : Thread) {fs : List Frame} (v : Value) {T : RTy} → Fits W v T → StackOk S W fs T → Sure S W (handTo (codeOf S) v fs (machine θ))
   unfolding handTo

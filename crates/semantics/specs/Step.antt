@@ -8,7 +8,7 @@ use lib.ListN.{length, getElem?, set}
 use lib.Dec.{eqb, ltb}
 use Rattle.order.specs.Bools.{_and_}
 use Rattle.syntax.specs.Operands.{evaluated}
-use Rattle.syntax.specs.Commands.{Cmd, c-num, c-top, c-var, c-pair, c-part, c-fn, c-app, c-new, c-asg, c-read, c-sum, c-test, c-lim, c-grant, c-newkey, c-assoc}
+use Rattle.syntax.specs.Commands.{Cmd, c-num, c-top, c-var, c-pair, c-part, c-fn, c-app, c-new, c-asg, c-read, c-sum, c-test, c-lim, c-grant, c-newkey, c-assoc, c-access}
 use Rattle.semantics.specs.Machine.{Kind, k-num, k-pair, k-fn, k-cell, k-lim, k-grant, Value, unkeyed, Two, Bind, b-var, b-name, Link, Closure, KeySet, Frame, Control, enter, hand, Machine}
 use Rattle.semantics.specs.Machine.{most-cells, most-keys, most-pairs, most-functions, most-frames, most-bindings}
 use Rattle.semantics.specs.Keys.{enabled, narrow, add}
@@ -238,6 +238,10 @@ actNewkey x r b v m = found (asLim (v .kind)) (λ j. makeKey (v .key ∷ []) x r
 unfoldable pub actAssoc : Value → Value → Machine → Plan
 actAssoc v w m = found (asLim (w .kind)) (λ j. gives (v .key ∷ w .key ∷ []) (record { key = j; kind = v .kind }) m)
 
+-- 0x40: "branch if that key is enabled, branch if not", with the enabled keys as they are
+unfoldable pub actAccess : ℕ → ℕ → Value → Machine → Plan
+actAccess b c v m = found (asLim (v .kind)) (λ j. enters (v .key ∷ []) (cond (enabled (m .store .keys) (m .thread .on) j) b c) (m .thread .on) m)
+
 -- "pushes one frame and enters the first operand"
 unfoldable pub push : ℕ → ℕ → Machine → Plan
 push e a m =
@@ -263,6 +267,7 @@ module _ {T : Type 0} where
   act (c-grant a b) h m = one h (λ v. actGrant b v m)
   act (c-newkey x r a b t) h m = one h (λ v. actNewkey x r b v m)
   act (c-assoc a b) h m = two h (λ v w. actAssoc v w m)
+  act (c-access a b c t) h m = one h (λ v. actAccess b c v m)
 
   -- entering an expression with no operand to evaluate is its act: 0x30, 0x31, 0x32, 0x35, and "3C with no keys pushes none and enters its body with no key enabled"
   unfoldable pub enterAt : ℕ → List ℕ → Cmd T → Machine → Plan

@@ -12,12 +12,12 @@ use lib.Dec.{ltb}
 use borrow.Author.Tests.{ltb-true}
 use Rattle.order.specs.Bools.{_or_, and-l, and-r}
 use Rattle.order.specs.OrderLaws.{getElem?-append}
-use Rattle.syntax.specs.Commands.{Cmd, c-num, c-top, c-var, c-pair, c-part, c-fn, c-app, c-new, c-asg, c-read, c-sum, c-test, c-lim, c-grant, c-newkey, c-assoc}
+use Rattle.syntax.specs.Commands.{Cmd, c-num, c-top, c-var, c-pair, c-part, c-fn, c-app, c-new, c-asg, c-read, c-sum, c-test, c-lim, c-grant, c-newkey, c-assoc, c-access}
 use Rattle.syntax.specs.Operands.{evaluated}
 use Rattle.semantics.specs.Machine.{k-num, k-cell, Value, unkeyed, Frame, Control, enter, hand, Store, Machine, most-cells, most-keys, most-pairs, most-functions, most-frames, most-bindings}
 use Rattle.semantics.specs.Keys.{enabled}
 use Rattle.semantics.specs.Step.{Out, o-step, o-denied, Plan, p-done, p-wrong, p-try, handing, withCells, room, touch, touchAll, settle, asNum, asPair, asFn, asCell, asLim, asGrant, found, bare, one, two}
-use Rattle.semantics.specs.Step.{seek, variable, actPair, actPart, actFn, actApp, actNew, actAsg, actRead, actSum, actTest, limitKeys, actLim, actGrant, makeKey, actNewkey, actAssoc}
+use Rattle.semantics.specs.Step.{seek, variable, actPair, actPart, actFn, actApp, actNew, actAsg, actRead, actSum, actTest, limitKeys, actLim, actGrant, makeKey, actNewkey, actAssoc, actAccess}
 use Rattle.semantics.specs.Step.{resume, push, act, enterAt, enterCmd, receive, handTo, planOn, plan, step}
 use Rattle.semantics.specs.Wants.{Usage, read, write, read-and-write, Use, touches, a-limit, alike, wantsOf}
 
@@ -98,7 +98,7 @@ two-more l x y most e = omega (arith, length-append l (x ∷ y ∷ []), ltb-true
 
 module _ {T : Type 0} where
   act-fits : (k : Cmd T) (h : List Value) (m : Machine) → Fits m → Ends Fits (act k h m)
-  unfolding act actPair actPart actFn actApp actNew actAsg actRead actSum actTest actLim actGrant makeKey actNewkey actAssoc variable
+  unfolding act actPair actPart actFn actApp actNew actAsg actRead actSum actTest actLim actGrant makeKey actNewkey actAssoc actAccess variable
   act-fits (c-num n) h m r = bare-ends h (en-try (λ e. r))
   act-fits c-top h m r = bare-ends h (en-try (λ e. r))
   act-fits (c-var x) h m r = bare-ends h (found-ends (seek most-bindings (m .store .bindings) (m .thread .env) x) _ (λ v. en-try (λ e. r)))
@@ -130,6 +130,7 @@ module _ {T : Type 0} where
         frames = r .frames;
       })))
   act-fits (c-assoc a b) h m r = two-ends h _ (λ v w. found-ends (asLim (w .kind)) _ (λ j. en-try (λ e. r)))
+  act-fits (c-access a b c t) h m r = one-ends h _ (λ v. found-ends (asLim (v .kind)) _ (λ j. en-try (λ e. r)))
 
   enter-fits : (e : ℕ) (l : List ℕ) (k : Cmd T) (m : Machine) → Fits m → Ends Fits (enterAt e l k m)
   unfolding enterAt push
@@ -202,7 +203,7 @@ pub record Kept (s : Store) (n : Machine) : Type 0 where
 module _ {T : Type 0} where
   -- a command whose row has no operand that is written
   act-keeps : (k : Cmd T) (h : List Value) (m : Machine) → anyWritten (wantsOf k (length h) .uses) ≡ false → Ends (Kept (m .store)) (act k h m)
-  unfolding act actPair actPart actFn actApp actNew actAsg actRead actSum actTest actLim actGrant makeKey actNewkey actAssoc variable wantsOf anyWritten isWrite _or_
+  unfolding act actPair actPart actFn actApp actNew actAsg actRead actSum actTest actLim actGrant makeKey actNewkey actAssoc actAccess variable wantsOf anyWritten isWrite _or_
   act-keeps (c-num n) h m r = bare-ends h (en-try (λ e. record { at = λ i v z. z }))
   act-keeps c-top h m r = bare-ends h (en-try (λ e. record { at = λ i v z. z }))
   act-keeps (c-var x) h m r = bare-ends h (found-ends (seek most-bindings (m .store .bindings) (m .thread .env) x) _ (λ v. en-try (λ e. record { at = λ i v z. z })))
@@ -219,6 +220,7 @@ module _ {T : Type 0} where
   act-keeps (c-grant a b) h m r = one-ends h _ (λ v. found-ends (asGrant (v .kind)) _ (λ j. en-try (λ e. record { at = λ i v z. z })))
   act-keeps (c-newkey x n a b t) h m r = one-ends h _ (λ v. found-ends (asLim (v .kind)) _ (λ j. en-try (λ e. record { at = λ i v z. z })))
   act-keeps (c-assoc a b) h m r = two-ends h _ (λ v w. found-ends (asLim (w .kind)) _ (λ j. en-try (λ e. record { at = λ i v z. z })))
+  act-keeps (c-access a b c t) h m r = one-ends h _ (λ v. found-ends (asLim (v .kind)) _ (λ j. en-try (λ e. record { at = λ i v z. z })))
 
   enter-keeps : (e : ℕ) (l : List ℕ) (k : Cmd T) (m : Machine) → anyWritten (usesEntering l k) ≡ false → Ends (Kept (m .store)) (enterAt e l k m)
   unfolding enterAt push usesEntering
@@ -305,3 +307,4 @@ module _ {T : Type 0} where
   written-changes (c-grant a b) i e = absurd (false≢true e)
   written-changes (c-newkey x r a b t) i e = absurd (false≢true e)
   written-changes (c-assoc a b) i e = absurd (false≢true e)
+  written-changes (c-access a b c t) i e = absurd (false≢true e)

@@ -7,7 +7,7 @@ use mathlib.Core.Option.{some}
 use lib.ListN.{drop, take}
 use lib.Dec.{eqb}
 use borrow.Author.Tests.{eqb-true}
-use Rattle.syntax.specs.Commands.{Cmd, c-num, c-top, c-var, c-pair, c-part, c-fn, c-app, c-new, c-asg, c-read, c-sum, c-test, c-lim, c-grant, c-newkey, c-assoc, Op, o-host, o-local, o-number, o-pair, o-cell, o-function, o-limit, o-grant, o-value, o-rights, x-number, form, commands, findOp}
+use Rattle.syntax.specs.Commands.{Cmd, c-num, c-top, c-var, c-pair, c-part, c-fn, c-app, c-new, c-asg, c-read, c-sum, c-test, c-lim, c-grant, c-newkey, c-assoc, c-access, Op, o-host, o-local, o-number, o-pair, o-cell, o-function, o-limit, o-grant, o-value, o-rights, x-number, form, commands, findOp}
 use Rattle.syntax.specs.Words.{decodeAs, decode}
 
 -- z where the byte is none of these
@@ -28,7 +28,8 @@ decodeOr z byte x a b c d e =
     (cond (eqb byte 0x3D) (c-grant a b)
     (cond (eqb byte 0x3E) (c-newkey (x % 256) (x / 256 % 256) a b c)
     (cond (eqb byte 0x3F) (c-assoc a b)
-    z))))))))))))))
+    (cond (eqb byte 0x40) (c-access a b c d)
+    z)))))))))))))))
 
 unfoldable pub decodeBy : ℕ → ℕ → ℕ → ℕ → ℕ → ℕ → ℕ → Cmd ℕ
 decodeBy byte x a b c d e = decodeOr (c-num x) byte x a b c d e

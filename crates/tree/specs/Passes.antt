@@ -26,7 +26,8 @@ arityOf b =
     (cond (eqb b 0x3D) 2
     (cond (eqb b 0x3E) 2
     (cond (eqb b 0x3F) 2
-    0)))))))))))
+    (cond (eqb b 0x40) 3
+    0))))))))))))
 
 -- place i of the command with this head is an expression; of 0x3C the keys that are used, and the body
 unfoldable pub isOperand : ℕ → ℕ → Bool
@@ -124,7 +125,7 @@ scopesBy isName heads slots n host = inheritedDown isName heads slots (n * 5) (p
 
 -- the place of a command's type operand; 5 for none
 unfoldable pub typePlace : ℕ → ℕ
-typePlace b = cond (eqb b 0x35) 1 (cond (eqb b 0x37) 1 (cond (eqb b 0x3B) 3 (cond (eqb b 0x3E) 2 5)))
+typePlace b = cond (eqb b 0x35) 1 (cond (eqb b 0x37) 1 (cond (eqb b 0x3B) 3 (cond (eqb b 0x3E) 2 (cond (eqb b 0x40) 3 5))))
 
 -- the names in the type operand of the expression with this head
 unfoldable pub operandNames : List ℕ → List ℕ → ℕ → ℕ → ℕ

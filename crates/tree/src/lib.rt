@@ -49,6 +49,7 @@ fn arity(byte: u64) -> usize
         0x3D => 2,
         0x3E => 2,
         0x3F => 2,
+        0x40 => 3,
         _ => 0,
     }
 }
@@ -457,6 +458,7 @@ fn type_place(byte: u64) -> usize
         0x37 => 1,
         0x3B => 3,
         0x3E => 2,
+        0x40 => 3,
         _ => 5,
     }
 }

@@ -8,7 +8,7 @@ use lib.ListN.{length, getD, getElem?}
 use lib.Dec.{eqb}
 use Rattle.order.specs.Effects.{Effect}
 use Rattle.syntax.specs.Types.{TypeEntry, e-num, e-pair, e-cell, e-fn, e-lim, e-grant, byEntry}
-use Rattle.syntax.specs.Commands.{Cmd, c-num, c-top, c-var, c-pair, c-part, c-fn, c-app, c-new, c-asg, c-read, c-sum, c-test, c-lim, c-grant, c-newkey, c-assoc, r-parameter, r-keypair}
+use Rattle.syntax.specs.Commands.{Cmd, c-num, c-top, c-var, c-pair, c-part, c-fn, c-app, c-new, c-asg, c-read, c-sum, c-test, c-lim, c-grant, c-newkey, c-assoc, c-access, r-parameter, r-keypair}
 use Rattle.syntax.specs.Operands.{ofRoles, typesOf, bindsName}
 use Rattle.syntax.specs.Job.{HostValue, Job}
 
@@ -101,6 +101,7 @@ pointsTo var eff T of (c-lim ks b) = old (of b)
 pointsTo var eff T of (c-grant a b) = old (of b)
 pointsTo var eff T of (c-newkey v r a b t) = old t
 pointsTo var eff T of (c-assoc a b) = new [] (rekeyed (firstPart (getElem? T (of b))) (getElem? T (of a)))
+pointsTo var eff T of (c-access a b c t) = old t
 
 -- the entries, and the entry of each expression
 pub record Layout : Type 0 where

@@ -7,7 +7,7 @@ use lib.ListN.{length, getD, getElem?}
 use lib.Dec.{eqb}
 use Rattle.order.specs.Effects.{Effect, pure, ofNames, touch, join, drop, raise, reduce, effBelow}
 use Rattle.syntax.specs.Types.{Ty, num, pair, cell, fn, lim, onNum, onPair, onCell, onFn, onLim, onGrant, keyOf, rekey}
-use Rattle.syntax.specs.Commands.{Cmd, c-num, c-top, c-var, c-pair, c-part, c-fn, c-app, c-new, c-asg, c-read, c-sum, c-test, c-lim, c-grant, c-newkey, c-assoc}
+use Rattle.syntax.specs.Commands.{Cmd, c-num, c-top, c-var, c-pair, c-part, c-fn, c-app, c-new, c-asg, c-read, c-sum, c-test, c-lim, c-grant, c-newkey, c-assoc, c-access}
 use Rattle.syntax.specs.Operands.{nth}
 use Rattle.syntax.specs.Job.{Src, upOf}
 use Rattle.syntax.specs.Reading.{Refusal}
@@ -96,6 +96,9 @@ typeAt S tab (c-newkey x r a b T) =
     require 11 (isUpper (getElem? (upOf S) r) u) (require 12 (subTy (upOf S) B T) (typed T (reduce (upOf S) (touch q (join s (raise r u t)))))))))
 typeAt S tab (c-assoc a b) =
     with (tab a) (λ A s. with (tab b) (λ B t. wantLim B (λ q r. typed (rekey r A) (reduce (upOf S) (touch (keyOf A) (touch q (join s t)))))))
+typeAt S tab (c-access a b c T) =
+    with (tab a) (λ A s. with (tab b) (λ B t. with (tab c) (λ C u.
+    wantLim A (λ q r. require 12 (subTy (upOf S) B T) (require 12 (subTy (upOf S) C T) (typed T (reduce (upOf S) (touch q (join s (join (drop (upOf S) r t) u))))))))))
 
 -- what is written in a list of results; past its end there is none, and 0 is no refusal's number
 unfoldable pub get : List Typed → ℕ → Typed

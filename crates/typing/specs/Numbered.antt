@@ -8,7 +8,7 @@ use lib.ListN.{length, getD, getElem?}
 use Rattle.order.specs.Order.{below}
 use Rattle.order.specs.Effects.{Effect, pure, touch, join, drop, raise, reduce, effBelow}
 use Rattle.syntax.specs.Types.{TypeEntry, e-num, e-pair, e-cell, e-fn, e-lim, byEntry}
-use Rattle.syntax.specs.Commands.{Cmd, c-num, c-top, c-var, c-pair, c-part, c-fn, c-app, c-new, c-asg, c-read, c-sum, c-test, c-lim, c-grant, c-newkey, c-assoc}
+use Rattle.syntax.specs.Commands.{Cmd, c-num, c-top, c-var, c-pair, c-part, c-fn, c-app, c-new, c-asg, c-read, c-sum, c-test, c-lim, c-grant, c-newkey, c-assoc, c-access}
 use Rattle.syntax.specs.Job.{Job}
 use Rattle.syntax.specs.Reading.{Refusal, most-depth}
 use Rattle.typing.specs.Least.{isUpper}
@@ -113,6 +113,8 @@ module _ (O : Ops) (var : ℕ → ℕ) (at : ℕ → Option TypeEntry) (of : ℕ
       needLim (at (of a)) (λ q u. need 11 (O .over r u) (need 12 (fits (of b) t) (points t (O .reduce (O .touch q (join (eff a) (O .raise r u (eff b))))))))
   resultAt (c-assoc a b) =
       needLim (at (of b)) (λ q r. makes [] (rekeyed r (at (of a))) (O .reduce (O .touch (keyIn (at (of a))) (O .touch q (join (eff a) (eff b))))))
+  resultAt (c-access a b c t) =
+      needLim (at (of a)) (λ q r. need 12 (fits (of b) t) (need 12 (fits (of c) t) (points t (O .reduce (O .touch q (join (eff a) (join (O .drop r (eff b)) (eff c))))))))
 
 -- the entries so far, and the entry and the effect of each expression so far
 pub record Sofar : Type 0 where

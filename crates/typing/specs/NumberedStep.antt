@@ -11,7 +11,7 @@ use Rattle.order.specs.Effects.{Effect, pure, touch, ofNames, join, drop as dro
 use Rattle.order.specs.EffectLaws.{Within, within-pure, reduce-within, drop-within, join-within, touch-within, join-pure, pure-join, join-swap, touch-join, join-touch, raise-within}
 use Rattle.syntax.specs.Types.{Ty, cell, fn, keyOf, rekey, TypeEntry, e-num, e-pair, e-cell, e-fn, e-lim, e-grant, entryTree, tree, byType, onCell, onFn, onGrant, onLim, onNum, onPair}
 use Rattle.syntax.specs.TypeLaws.{tree-entry}
-use Rattle.syntax.specs.Commands.{Cmd, c-num, c-top, c-var, c-pair, c-part, c-fn, c-app, c-new, c-asg, c-read, c-sum, c-test, c-lim, c-grant, c-newkey, c-assoc, mapCmd}
+use Rattle.syntax.specs.Commands.{Cmd, c-num, c-top, c-var, c-pair, c-part, c-fn, c-app, c-new, c-asg, c-read, c-sum, c-test, c-lim, c-grant, c-newkey, c-assoc, c-access, mapCmd}
 use Rattle.syntax.specs.Operands.{plain, inner, children, typesOf, usesVar, bindsName}
 use Rattle.syntax.specs.Job.{Src, upOf}
 use Rattle.typing.specs.Subtype.{subTy}
@@ -340,3 +340,10 @@ module _ (S : Src) {O : Ops} (ag : Agree (upOf S) O) (ts : List TypeEntry) {E : 
       by-entry (p .low) (λ A o. M (typed (rekey r A) (reduce (upOf S) (touch (keyOf A) (touch k (join (eff a) (eff b))))))
       (makes [] (rekeyed r o) (O .reduce (O .touch (keyIn o) (O .touch k (join (eff a) (eff b)))))))
       (λ x w. m-new (rekey-ok x w (omega (arith, p .low)) hr) (rekey-tree r x (tree E)) (same-key x w (same-touch ag hk (same-join (eff-of p) (eff-of q))))))))
+  matches (c-access a b c t) h =
+      let p = h .operand a (List·Memᴰ·head refl) in
+      let q = h .operand b (List·Memᴰ·tail (List·Memᴰ·head refl)) in
+      let o = h .operand c (List·Memᴰ·tail (List·Memᴰ·tail (List·Memᴰ·head refl))) in
+      let l = h .type t (List·Memᴰ·head refl) in
+      by-operand p _ (by-operand q _ (by-operand o _ (by-lim (p .low) _ _ (λ k r hk hr. by-sub q l (by-sub o l (
+      m-old (kept t l) (same-reduce ag (same-touch ag hk (same-join (eff-of p) (same-join (same-drop ag hr (eff-of q)) (eff-of o)))))))))))

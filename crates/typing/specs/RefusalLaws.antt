@@ -9,7 +9,7 @@ use mathlib.Core.Logic.{_↔_}
 use lib.ListN.{length, getD, getElem?, length-map}
 use Rattle.order.specs.Effects.{Effect, pure}
 use Rattle.syntax.specs.Types.{Ty, tree, TypeEntry, e-num, e-pair, e-cell, e-fn, e-lim, e-grant}
-use Rattle.syntax.specs.Commands.{Cmd, c-num, c-top, c-var, c-pair, c-part, c-fn, c-app, c-new, c-asg, c-read, c-sum, c-test, c-lim, c-grant, c-newkey, c-assoc, mapCmd}
+use Rattle.syntax.specs.Commands.{Cmd, c-num, c-top, c-var, c-pair, c-part, c-fn, c-app, c-new, c-asg, c-read, c-sum, c-test, c-lim, c-grant, c-newkey, c-assoc, c-access, mapCmd}
 use Rattle.syntax.specs.Job.{Job, sourceOf}
 use Rattle.syntax.specs.Reading.{Refusal, Read, refused, read, reading}
 use Rattle.syntax.specs.ReadLaws.{JobOk, read-ok}
@@ -131,6 +131,7 @@ module _ (O : Ops) (var : ℕ → ℕ) (at : ℕ → Option TypeEntry) (of : ℕ
   result-fine (c-grant a b) = grant-fine (at (of a)) (λ q r. f-points _ _)
   result-fine (c-newkey v r a b t) = lim-fine (at (of a)) (λ q u. need-11 _ (need-12 _ (f-points _ _)))
   result-fine (c-assoc a b) = lim-fine (at (of b)) (λ q r. f-makes _ _ _)
+  result-fine (c-access a b c t) = lim-fine (at (of a)) (λ q r. need-12 _ (need-12 _ (f-points _ _)))
 
 -- All expressions of a job, of which there are k
 

@@ -100,12 +100,34 @@ returns-8 : tie.Need-returns-8
 unfolding resultAt fits
 returns-8 c = (λ var. simp ((c .before .match .keys8), (c .associate .ensures), (c .before .before .operand-at .ensures), (c .before .before .before .before .before .before .before .before .before .before .pre .1)), c .before .before .before .before .before .before .before .before .before .before .pre .2)
 
+add-operand-at-3 : tie.Need-add-operand-at-3
+add-operand-at-3 c = search needs
+
+operand-at-requires-3 : tie.Need-operand-at-requires-3
+operand-at-requires-3 c κs = search needs
+
+add-at16-3 : tie.Need-add-at16-3
+add-at16-3 c = search needs
+
+at16-requires-3 : tie.Need-at16-requires-3
+at16-requires-3 c κs = search needs
+
+access-requires : tie.Need-access-requires
+access-requires c κs = search needs
+
+same-length-5 : tie.Need-same-length-5
+same-length-5 c = search needs
+
+returns-9 : tie.Need-returns-9
+unfolding resultAt fits
+returns-9 c = (λ var. simp ((c .before .before .before .before .before .before .match .keys9), (c .before .before .access .ensures .0), (c .before .before .before .before .before .before .before .operand-at .ensures), (c .before .before .before .before .before .operand-at3 .ensures), (c .before .before .before .before .at163 .ensures), (c .before .before .before .before .before .before .before .before .before .before .before .before .before .before .before .pre .1)), c .before .before .access .ensures .1)
+
 number-requires : tie.Need-number-requires
 number-requires c κs = search needs
 
-returns-9 : tie.Need-returns-9
+returns-10 : tie.Need-returns-10
 unfolding resultAt
-returns-9 c = (λ var. simp ((c .number .ensures), ne-eqb _ _ (c .before .match .rest .1), ne-eqb _ _ (c .before .match .rest .0 .1), ne-eqb _ _ (c .before .match .rest .0 .0 .1), ne-eqb _ _ (c .before .match .rest .0 .0 .0 .1), ne-eqb _ _ (c .before .match .rest .0 .0 .0 .0 .1), ne-eqb _ _ (c .before .match .rest .0 .0 .0 .0 .0 .1), ne-eqb _ _ (c .before .match .rest .0 .0 .0 .0 .0 .0 .1), ne-eqb _ _ (c .before .match .rest .0 .0 .0 .0 .0 .0 .0 .1)), c .before .before .before .before .before .before .before .before .before .before .pre .2)
+returns-10 c = (λ var. simp ((c .number .ensures), ne-eqb _ _ (c .before .match .rest .1), ne-eqb _ _ (c .before .match .rest .0 .1), ne-eqb _ _ (c .before .match .rest .0 .0 .1), ne-eqb _ _ (c .before .match .rest .0 .0 .0 .1), ne-eqb _ _ (c .before .match .rest .0 .0 .0 .0 .1), ne-eqb _ _ (c .before .match .rest .0 .0 .0 .0 .0 .1), ne-eqb _ _ (c .before .match .rest .0 .0 .0 .0 .0 .0 .1), ne-eqb _ _ (c .before .match .rest .0 .0 .0 .0 .0 .0 .0 .1), ne-eqb _ _ (c .before .match .rest .0 .0 .0 .0 .0 .0 .0 .0 .1)), c .before .before .before .before .before .before .before .before .before .before .pre .2)
 
 pub two-spec : {M : Type 1} → statement M
 two-spec =
@@ -140,5 +162,12 @@ two-spec =
     returns-7
     associate-requires
     returns-8
+    add-operand-at-3
+    operand-at-requires-3
+    add-at16-3
+    at16-requires-3
+    access-requires
+    same-length-5
+    returns-9
     number-requires
-    returns-9)
+    returns-10)

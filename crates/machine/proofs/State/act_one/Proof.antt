@@ -3,7 +3,7 @@ use Rattle.machine.specs.View.{view}
 use Rattle.store.specs.Meaning.{valueIn}
 use mathlib.Core.Path.{ap, sym, _∙_}
 use Rattle.semantics.specs.Step.{act, one, settle}
-use Rattle.machine.proofs.Codes.{code-one, code-test}
+use Rattle.machine.proofs.Codes.{code-one, code-test, code-access}
 use Rattle.machine.proofs.Acts.{is-stuck}
 use Rattle.machine.specs.Inner.{putCells, putKeys, putPairs, putBindings, settled}
 use denote.Ref.{now}
@@ -59,6 +59,18 @@ cast-act-new-key-2 c = search needs
 act-new-key-requires : tie.Need-act-new-key-requires
 act-new-key-requires c κs = search needs
 
+mul-at16-3 : tie.Need-mul-at16-3
+mul-at16-3 c = search needs
+
+add-at16-3 : tie.Need-add-at16-3
+add-at16-3 c = search needs
+
+at16-requires-3 : tie.Need-at16-requires-3
+at16-requires-3 c κs = search needs
+
+act-access-requires : tie.Need-act-access-requires
+act-access-requires c κs = search needs
+
 stop-requires : tie.Need-stop-requires
 stop-requires c κs = search needs
 
@@ -86,7 +98,10 @@ unfolding codeIn decode act one
 returns-6 c = λ w. simp (← c .before .before .before .before .before .before .at64 .ensures, c .before .before .before .before .match .keys6, ← c .before .before .before .before .before .at16 .ensures) (c .act-new-key .ensures (putCells w (now (c .before .before .before .before .before .before .before .before .before .before .args .cells))))
 
 returns-7 : tie.Need-returns-7
-returns-7 c = λ w. is-stuck _ _ _ (c .stop .ensures) (code-one (now (c .before .before .before .before .before .before .before .args .heads)) (now (c .before .before .before .before .before .before .before .args .slots)) (c .before .before .before .before .before .before .before .args .at .0) _ (c .before .before .before .at64 .ensures) (valueIn (c .before .before .before .before .before .before .before .args .v)) (view (c .before .before .before .before .before .before .before .args .back) (putBindings (putPairs (putKeys (putCells w (now (c .before .before .before .before .before .before .before .args .cells))) (now (c .before .before .before .before .before .before .before .args .keys))) (now (c .before .before .before .before .before .before .before .args .pairs))) (now (c .before .before .before .before .before .before .before .args .bindings)))) (c .before .before .before .before .before .before .before .pre) (c .before .match .rest .0 .0 .0 .0 .0 .1) (c .before .match .rest .0 .0 .0 .0 .1) (c .before .match .rest .0 .0 .0 .1) (c .before .match .rest .0 .0 .1) (c .before .match .rest .0 .1) (c .before .match .rest .1))
+returns-7 c = λ w. c .act-access .ensures (putBindings (putPairs (putCells w (now (c .before .before .before .before .before .before .before .before .before .args .cells))) (now (c .before .before .before .before .before .before .before .before .before .args .pairs))) (now (c .before .before .before .before .before .before .before .before .before .args .bindings))) ∙ ap (settled (view (c .before .before .before .before .before .before .before .before .before .args .self) (putBindings (putPairs (putKeys (putCells w (now (c .before .before .before .before .before .before .before .before .before .args .cells))) (now (c .before .before .before .before .before .before .before .before .before .args .keys))) (now (c .before .before .before .before .before .before .before .before .before .args .pairs))) (now (c .before .before .before .before .before .before .before .before .before .args .bindings))))) (ap settle (sym (code-access (now (c .before .before .before .before .before .before .before .before .before .args .heads)) (now (c .before .before .before .before .before .before .before .before .before .args .slots)) (c .before .before .before .before .before .before .before .before .before .args .at .0) _ (c .before .before .before .before .before .at64 .ensures) (valueIn (c .before .before .before .before .before .before .before .before .before .args .v)) (view (c .before .before .before .before .before .before .before .before .before .args .back) (putBindings (putPairs (putKeys (putCells w (now (c .before .before .before .before .before .before .before .before .before .args .cells))) (now (c .before .before .before .before .before .before .before .before .before .args .keys))) (now (c .before .before .before .before .before .before .before .before .before .args .pairs))) (now (c .before .before .before .before .before .before .before .before .before .args .bindings)))) (c .before .before .before .match .keys7) (c .before .before .before .before .at16 .ensures) (c .before .before .at163 .ensures))))
+
+returns-8 : tie.Need-returns-8
+returns-8 c = λ w. is-stuck _ _ _ (c .stop .ensures) (code-one (now (c .before .before .before .before .before .before .before .args .heads)) (now (c .before .before .before .before .before .before .before .args .slots)) (c .before .before .before .before .before .before .before .args .at .0) _ (c .before .before .before .at64 .ensures) (valueIn (c .before .before .before .before .before .before .before .args .v)) (view (c .before .before .before .before .before .before .before .args .back) (putBindings (putPairs (putKeys (putCells w (now (c .before .before .before .before .before .before .before .args .cells))) (now (c .before .before .before .before .before .before .before .args .keys))) (now (c .before .before .before .before .before .before .before .args .pairs))) (now (c .before .before .before .before .before .before .before .args .bindings)))) (c .before .before .before .before .before .before .before .pre) (c .before .match .rest .0 .0 .0 .0 .0 .0 .1) (c .before .match .rest .0 .0 .0 .0 .0 .1) (c .before .match .rest .0 .0 .0 .0 .1) (c .before .match .rest .0 .0 .0 .1) (c .before .match .rest .0 .0 .1) (c .before .match .rest .0 .1) (c .before .match .rest .1))
 
 pub act-one-spec : {M : Type 1} → statement M
 act-one-spec =
@@ -108,6 +123,10 @@ act-one-spec =
     cast-act-new-key
     cast-act-new-key-2
     act-new-key-requires
+    mul-at16-3
+    add-at16-3
+    at16-requires-3
+    act-access-requires
     stop-requires
     returns
     returns-2
@@ -115,4 +134,5 @@ act-one-spec =
     returns-4
     returns-5
     returns-6
-    returns-7)
+    returns-7
+    returns-8)
