@@ -82,6 +82,8 @@ fn the_pages_show_what_is_recorded() {
         ("JOBS.md", "payroll_week.out"),
         ("VERDICTS.md", "two_agencies.explain"),
         ("VERDICTS.md", "two_agencies.out"),
+        ("VERDICTS.md", "agency_bill_lent.explain"),
+        ("VERDICTS.md", "agency_bill_closed.explain"),
         ("VERDICTS.md", "refused/13_limit.explain"),
     ];
     for (page, file) in shown {
