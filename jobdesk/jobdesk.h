@@ -87,7 +87,9 @@ extern "C" {
  *
  * Returns 0 if the job is accepted. Then
  *   out[0]   is the entry of the job's type in the type table,
- *   out[1]   is its effect: the names whose keys it may use, bit i for name i;
+ *   out[1]   is its effect: the names whose keys it must be lent, bit i for name i. Beside these it can
+ *            use what a grant key lent to it opens and, where its rights lend a key that a command 40
+ *            (hexadecimal) asks for, what lies below that one;
  *   names    holds for each name from 2 on its upper name, and above it (from bit 8 on) 1 for a
  *            host name, 2 for a local one,
  *   types    holds the type table: the declared types, for each new key the types of its limit key,

@@ -95,6 +95,7 @@ fn head(expr: &Expr) -> u64 {
         Expr::Grant(..) => (0x3D, 0),
         Expr::NewKey(v, name, ..) => (0x3E, v as u64 | (name as u64) << 8),
         Expr::Associate(..) => (0x3F, 0),
+        Expr::Look(..) => (0x40, 0),
     };
     byte | operand << 8
 }

@@ -177,6 +177,36 @@ static void sessions(void)
     same("no value", value[0] | value[1], JOBDESK_NO_VALUE);
 }
 
+/* A job that asks for key 2: the number in its cell where the key is enabled, else 5. Both are accepted
+ * with no effect. Byte 26 has the rights. */
+#define ASKING_RIGHTS 26
+static void asks(void)
+{
+    static const uint8_t asking[] = {
+        0x01, 1, 0x10, 0, 0x12, 2, 0, 0,       /* name 2; type 0: number; type 1: cell with key 2 */
+        0x14, 0, 2,                            /* type 2: limit key of name 2 */
+        0x20, 1, 0, 7, 0, 0, 0,                /* variable 0: the cell */
+        0x20, 2, 0, 0, 0, 0, 0,                /* variable 1: the limit key */
+        0x21, 4, 0, 0, 0, 0, 0, 0, 0,          /* rights: name 2 */
+        0x32, 1, 0x32, 0, 0x39, 1, 0,          /* expressions 0 to 2: the key, the cell, what it holds */
+        0x30, 5, 0, 0, 0,                      /* expression 3: 5 */
+        0x40, 0, 0, 2, 0, 3, 0, 0, 0, 0xFF,    /* expression 4: 2 if key 0 is enabled, else 3; type 0 */
+    };
+    const uint64_t calls[] = { JOBDESK_RUN(100000) };
+    uint64_t answers[2], value[JOBDESK_VALUE], cells[JOBDESK_CELLS], out[JOBDESK_OUT];
+    uint8_t job[sizeof asking];
+    memcpy(job, asking, sizeof asking);
+    for (uint64_t lent = 0; lent < 2; lent++) {
+        job[ASKING_RIGHTS] = lent ? 4 : 0;
+        same("asking", jobdesk_session_in(&tables, job, sizeof job, calls, 1, answers, value, cells, out),
+             JOBDESK_OK);
+        same("asking, effect", out[1], 0);
+        same("asking, answer", answers[0], JOBDESK_DONE);
+        same("asking, steps", answers[1], lent ? 6 : 4);
+        same("asking, value", value[1], lent ? 7 : 5);
+    }
+}
+
 /* A refused job is not run. */
 static void sessions_refused(void)
 {
@@ -263,6 +293,7 @@ int main(void)
     runs_refused();
     short_tables();
     sessions();
+    asks();
     sessions_refused();
     short_sessions();
     short_answers();

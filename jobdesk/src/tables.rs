@@ -205,7 +205,9 @@ impl<'a> Accepted<'a> {
         self.entry
     }
 
-    /// The names whose keys the job may use, as a set: bit i is name i.
+    /// The names whose keys the job must be lent, as a set: bit i is name i. Beside these it can use
+    /// what a grant key lent to it opens and, where its rights lend a key that a command 0x40 asks
+    /// for, what lies below that one.
     pub fn effect(&self) -> u64 {
         self.effect
     }

@@ -65,6 +65,27 @@ fn sessions() {
     assert_eq!(tables.session(&example(0), &[]), Err(Refusal { number: 14, place: 1 }));
 }
 
+/// The job that asks for key 2: the number in its cell where it is enabled, else 5.
+fn asking(rights: u8) -> Vec<u8> {
+    let mut job = vec![0x01, 1, 0x10, 0, 0x12, 2, 0, 0, 0x14, 0, 2];
+    job.extend([0x20, 1, 0, 7, 0, 0, 0, 0x20, 2, 0, 0, 0, 0, 0, 0x21, rights, 0, 0, 0, 0, 0, 0, 0]);
+    job.extend([
+        0x32, 1, 0x32, 0, 0x39, 1, 0, 0x30, 5, 0, 0, 0, 0x40, 0, 0, 2, 0, 3, 0, 0, 0, 0xFF,
+    ]);
+    job
+}
+
+#[test]
+fn a_job_that_asks() {
+    let mut tables = Tables::new();
+    for (rights, steps, number) in [(4, 6, 7), (0, 4, 5)] {
+        let session = tables.session(&asking(rights), &[Call::Run(100)]).expect("a session");
+        assert_eq!(session.accepted.effect(), 0);
+        assert_eq!(session.answers, [Answered { answer: Answer::Done, steps }]);
+        assert_eq!(session.value, Some(Value { kind: Kind::Number, data: number }));
+    }
+}
+
 #[test]
 fn short_answers() {
     let mut tables = Tables::new();

@@ -88,7 +88,7 @@ pub enum Effect {
     Calls(usize),
     /// The effect of the body must be below the names of the keys (refusal 13): keys, body.
     Within(usize, usize),
-    /// The body's effect loses the names below the granted one: key, body.
+    /// The body's effect loses the names below the one that the key stands for: key, body.
     Drop(usize, usize),
     /// In the body's effect the local name becomes its upper name: name, body.
     Raise(usize, usize),
@@ -367,6 +367,24 @@ pub static ROWS: &[Row] = &[
         word: "associate",
         operands: &[Expr("value"), Expr("limit key")],
         rule: Rule { touch: &[(0, Want::Any), (1, LIMIT)], gives: Gives::Rekeyed(0, 1), ..JOINED },
+        ..EXPRESSION
+    },
+    Row {
+        byte: 0x40,
+        word: "if-enabled",
+        operands: &[
+            Expr("limit key"),
+            Expr("branch if enabled"),
+            Expr("branch if not enabled"),
+            Type,
+        ],
+        order: &[3, 0, 1, 2],
+        rule: Rule {
+            touch: &[(0, LIMIT)],
+            need: &[(1, Target::Declared(3)), (2, Target::Declared(3))],
+            effect: Effect::Drop(0, 1),
+            gives: Gives::Declared(3),
+        },
         ..EXPRESSION
     },
     declared(0xFF, "end", Section::End, &[]),

@@ -7,7 +7,7 @@ use second::{Refusal, Typed};
 
 use crate::decode::{Command, Listing, decode};
 use crate::dump::Tree;
-use crate::opens::opens;
+use crate::opens::Reach;
 use crate::symbols::Symbols;
 use crate::typing::{Typing, work_out};
 use crate::words::type_words;
@@ -136,8 +136,9 @@ impl View<'_> {
         if !names.set_below(rights, effect) {
             self.line(format!("    {} would be enough", self.symbols.set(effect)));
         }
-        let text = opens(&self.listing.job, self.symbols, effect);
-        self.out.push_str(&text);
+        let reach = Reach::new(&self.listing.job, &self.exprs, typing);
+        self.out.push_str(&reach.asked(self.symbols));
+        self.out.push_str(&reach.cells(self.symbols));
     }
 
     /// Each expression's type and effect, as far as they were worked out.

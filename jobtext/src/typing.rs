@@ -42,16 +42,35 @@ pub struct Typing {
     pub fault: Option<(usize, Fault)>,
 }
 
+impl Typing {
+    /// The type of an expression.
+    pub fn of(&self, expr: u16) -> Type {
+        self.table[self.typed[expr as usize].entry as usize]
+    }
+
+    pub fn effect_of(&self, expr: u16) -> u64 {
+        self.typed[expr as usize].effect
+    }
+
+    /// The name that a limit or grant key stands for, as a set.
+    pub fn stands_for(&self, key: u16) -> u64 {
+        match self.of(key).shape {
+            Shape::Limit(name) | Shape::Grant(name) => 1 << name,
+            _ => 0,
+        }
+    }
+}
+
 /// Works out the types and effects of a job that is free of refusals 2 to 10.
 pub fn work_out(job: &Job, exprs: &[Command]) -> Typing {
     let mut worker = Worker::new(job, exprs);
     for (number, expr) in exprs.iter().enumerate() {
         match worker.expr(expr) {
-            Ok(typed) => worker.typed.push(typed),
+            Ok(typed) => worker.typing.typed.push(typed),
             Err(fault) => return worker.done(Some((number, fault))),
         }
     }
-    let effect = worker.typed.last().map_or(0, |typed| typed.effect);
+    let effect = worker.typing.typed.last().map_or(0, |typed| typed.effect);
     match job.names.set_below(effect, job.rights) {
         true => worker.done(None),
         false => worker.done(Some((exprs.len() - 1, Fault::Rights))),
@@ -60,8 +79,7 @@ pub fn work_out(job: &Job, exprs: &[Command]) -> Typing {
 
 struct Worker<'a> {
     names: &'a Names,
-    table: Vec<Type>,
-    typed: Vec<Typed>,
+    typing: Typing,
     variables: [u16; VARIABLES],
     compare: Compare<'a>,
 }
@@ -90,20 +108,12 @@ impl<'a> Worker<'a> {
             };
         }
         let names = &job.names;
-        Worker { names, table, typed: vec![], variables, compare: Compare::new(names) }
+        let typing = Typing { table, typed: vec![], fault: None };
+        Worker { names, typing, variables, compare: Compare::new(names) }
     }
 
     fn done(self, fault: Option<(usize, Fault)>) -> Typing {
-        Typing { table: self.table, typed: self.typed, fault }
-    }
-
-    /// The type of an earlier expression.
-    fn of(&self, expr: u16) -> Type {
-        self.table[self.typed[expr as usize].entry as usize]
-    }
-
-    fn effect_of(&self, expr: u16) -> u64 {
-        self.typed[expr as usize].effect
+        Typing { fault, ..self.typing }
     }
 
     fn expr(&mut self, expr: &Command) -> Result<Typed, Fault> {
@@ -120,7 +130,7 @@ impl<'a> Worker<'a> {
         let mut touched = 0;
         for &(place, want) in expr.row.rule.touch {
             for operand in expr.args[place].exprs(expr.row.operands[place]) {
-                let ty = self.of(operand);
+                let ty = self.typing.of(operand);
                 let role = role(expr, place);
                 match want {
                     Want::Kind(kind) if ty.kind() != kind => {
@@ -146,15 +156,15 @@ impl<'a> Worker<'a> {
         let wanted = match target {
             Target::Declared(ty) => expr.args[ty].one() as u16,
             Target::Content(cell) | Target::Argument(cell) => {
-                match self.of(expr.args[cell].one() as u16).shape {
+                match self.typing.of(expr.args[cell].one() as u16).shape {
                     Shape::Cell(content) => content,
                     Shape::Function(argument, ..) => argument,
                     _ => 0,
                 }
             }
         };
-        let entry = self.typed[operand as usize].entry;
-        match self.compare.below(&self.table, entry, wanted) {
+        let entry = self.typing.typed[operand as usize].entry;
+        match self.compare.below(&self.typing.table, entry, wanted) {
             None => Ok(()),
             Some(gap) => Err(Fault::Subtype(role(expr, place), operand, wanted, gap)),
         }
@@ -166,47 +176,39 @@ impl<'a> Worker<'a> {
         let all = expr.exprs();
         let but = |body: u16| all.iter().filter(move |&&expr| expr != body);
         let join = |exprs: &mut dyn Iterator<Item = &u16>| {
-            exprs.fold(0, |effect, &expr| effect | self.effect_of(expr))
+            exprs.fold(0, |effect, &expr| effect | self.typing.effect_of(expr))
         };
         Ok(match expr.row.rule.effect {
             Effect::Join => join(&mut all.iter()),
             Effect::Later => 0,
-            Effect::Calls(function) => match self.of(at(function)).shape {
+            Effect::Calls(function) => match self.typing.of(at(function)).shape {
                 Shape::Function(_, _, latent) => latent | join(&mut all.iter()),
                 _ => join(&mut all.iter()),
             },
             Effect::Within(keys, body) => {
                 let keys = expr.args[keys].exprs(expr.row.operands[keys]);
-                let allowed = keys.iter().fold(0, |set, &key| set | self.stands_for(key));
-                if !self.names.set_below(self.effect_of(at(body)), allowed) {
+                let allowed = keys.iter().fold(0, |set, &key| set | self.typing.stands_for(key));
+                if !self.names.set_below(self.typing.effect_of(at(body)), allowed) {
                     return Err(Fault::Within(at(body), allowed));
                 }
                 join(&mut all.iter())
             }
             Effect::Drop(key, body) => {
-                let granted = self.stands_for(at(key)).trailing_zeros() as u8;
-                let kept = self.names.without(self.effect_of(at(body)), granted);
+                let name = self.typing.stands_for(at(key)).trailing_zeros() as u8;
+                let kept = self.names.without(self.typing.effect_of(at(body)), name);
                 kept | join(&mut but(at(body)))
             }
             Effect::Raise(name, body) => {
-                let raised = self.names.raise(self.effect_of(at(body)), at(name) as u8);
+                let raised = self.names.raise(self.typing.effect_of(at(body)), at(name) as u8);
                 raised | join(&mut but(at(body)))
             }
         })
     }
 
-    /// The name that a limit or grant key stands for, as a set.
-    fn stands_for(&self, key: u16) -> u64 {
-        match self.of(key).shape {
-            Shape::Limit(name) | Shape::Grant(name) => 1 << name,
-            _ => 0,
-        }
-    }
-
     /// The entry of the expression's type; a new one where it makes a type.
     fn entry(&mut self, expr: &Command) -> u16 {
         let at = |place: usize| expr.args[place].one() as u16;
-        let typed = |place: usize| self.typed[at(place) as usize];
+        let typed = |place: usize| self.typing.typed[at(place) as usize];
         let made = match expr.row.rule.gives {
             Gives::Number => Type::unkeyed(Shape::Number),
             Gives::TopKey => Type::unkeyed(Shape::Limit(1)),
@@ -217,14 +219,14 @@ impl<'a> Worker<'a> {
                 Type::unkeyed(Shape::Function(at(from), entry, effect))
             }
             Gives::Rekeyed(value, key) => {
-                let key = self.stands_for(at(key)).trailing_zeros() as u8;
-                Type { key, shape: self.of(at(value)).shape }
+                let key = self.typing.stands_for(at(key)).trailing_zeros() as u8;
+                Type { key, shape: self.typing.of(at(value)).shape }
             }
             Gives::Variable(v) => return self.variables[at(v) as usize],
             Gives::Declared(ty) => return at(ty),
             Gives::Same(body) => return typed(body).entry,
             Gives::Part(of, _) | Gives::Result(of) | Gives::Content(of) => {
-                return match (self.of(at(of)).shape, expr.row.rule.gives) {
+                return match (self.typing.of(at(of)).shape, expr.row.rule.gives) {
                     (Shape::Pair(first, _), Gives::Part(_, 1)) => first,
                     (Shape::Pair(_, part) | Shape::Function(_, part, _) | Shape::Cell(part), _) => {
                         part
@@ -233,8 +235,8 @@ impl<'a> Worker<'a> {
                 };
             }
         };
-        self.table.push(made);
-        self.table.len() as u16 - 1
+        self.typing.table.push(made);
+        self.typing.table.len() as u16 - 1
     }
 }
 

@@ -51,6 +51,17 @@ fn every_command_and_refusal() {
     assert_eq!(refusals, (2..=14).collect());
 }
 
+/// The agency's bill for two depots is one job, but for the rights.
+#[test]
+fn one_bill_for_two_depots() {
+    let hex = |name| text(Path::new("../examples").join(name).as_path(), "hex");
+    let (lent, closed) = (hex("agency_bill_lent"), hex("agency_bill_closed"));
+    let pairs = || lent.lines().zip(closed.lines());
+    let differ: Vec<_> = pairs().filter(|(a, b)| a != b).collect();
+    assert_eq!(lent.lines().count(), closed.lines().count());
+    assert!(matches!(differ[..], [(a, b)] if a.starts_with("21 ") && b.starts_with("21 ")));
+}
+
 /// The table of commands in the guide has every row.
 #[test]
 fn the_guide_has_every_command() {
@@ -71,6 +82,8 @@ fn the_pages_show_what_is_recorded() {
         ("JOBS.md", "payroll_week.out"),
         ("VERDICTS.md", "two_agencies.explain"),
         ("VERDICTS.md", "two_agencies.out"),
+        ("VERDICTS.md", "agency_bill_lent.explain"),
+        ("VERDICTS.md", "agency_bill_closed.explain"),
         ("VERDICTS.md", "refused/13_limit.explain"),
     ];
     for (page, file) in shown {

@@ -45,6 +45,12 @@ fn places() {
         ("job (limit monday 1)", "6:12: wanted the limit keys, as `[key ..]` or `[]`"),
         ("job (limit [1 2 3 4 5] 1)", "6:12: a limit has at most 4 keys"),
         ("job (test :minuts 1 2 3)", "6:12: no type is called `minuts`; is it `minutes`?"),
+        (
+            "job (if-enabled :minutes top-key 1)",
+            "6:5: `if-enabled` lacks its branch if not enabled: \
+             (if-enabled :TYPE LIMIT-KEY BRANCH-IF-ENABLED BRANCH-IF-NOT-ENABLED)",
+        ),
+        ("job (if-enable 1)", "6:6: no command is called `if-enable`; is it `if-enabled`?"),
         ("job $", "6:5: `$` has no meaning here"),
         ("raw 1 GG", "6:5: `1` is not two hexadecimal digits"),
         ("end\njob 1", "7:1: only `raw` may follow `end` or `raw`"),

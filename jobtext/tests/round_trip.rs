@@ -81,7 +81,10 @@ fn tangled(rng: &mut Rng) -> Vec<u8> {
             4 => bytes.extend([0x34, a[0], a[1], 1 + rng.below(2) as u8]),
             5 => bytes.extend([0x35, rng.below(64) as u8, 0, 0, a[0], a[1]]),
             6 => bytes.extend([0x3A, rng.below(2) as u8, a[0], a[1], b[0], b[1]]),
-            7 => bytes.extend([0x3B, a[0], a[1], b[0], b[1], c[0], c[1], 1, 0]),
+            7 => {
+                let byte = rng.pick(&[0x3B, 0x40]);
+                bytes.extend([byte, a[0], a[1], b[0], b[1], c[0], c[1], 1, 0]);
+            }
             8 => {
                 let f = 0xFF;
                 bytes.extend([0x3C, 2, a[0], a[1], b[0], b[1], f, f, f, f, c[0], c[1]]);

@@ -181,6 +181,7 @@ impl Checker<'_> {
             Expr::Grant(key, body) => return self.grant(key, body),
             Expr::NewKey(_, name, key, body, ty) => return self.new_key(name, key, body, ty),
             Expr::Associate(value, key) => return self.associate(value, key),
+            Expr::Look(key, a, b, ty) => return self.look(key, a, b, ty),
         })
     }
 
@@ -273,6 +274,18 @@ impl Checker<'_> {
         let typed = self.make(shape, left | right);
         self.table[typed.entry as usize].key = name;
         Ok(typed)
+    }
+
+    /// What lies below the key's name is free in the first branch alone.
+    #[inline(always)]
+    fn look(&mut self, key: u16, enabled: u16, other: u16, ty: u16) -> Result<Typed, u32> {
+        let names = self.names();
+        let (touched, Shape::Limit(name)) = self.touch(key) else {
+            return Err(11);
+        };
+        let enabled = self.subtype(enabled, ty)?;
+        let other = self.subtype(other, ty)?;
+        Ok(self.point(ty, touched | names.without(enabled, name) | other))
     }
 }
 

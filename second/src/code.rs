@@ -43,6 +43,8 @@ pub enum Code {
     NewKey(u16, u16),
     /// A value gets a key.
     Associate(u16, u16),
+    /// Limit key, branch if its key is enabled, branch if not.
+    Look(u16, u16, u16),
 }
 
 /// The code of a job: each variable becomes the binding of a host value or the number of bindings
@@ -90,5 +92,6 @@ fn untyped(expr: &Expr) -> Code {
         Expr::Grant(key, body) => Code::Grant(key, body),
         Expr::NewKey(_, _, key, body, _) => Code::NewKey(key, body),
         Expr::Associate(a, b) => Code::Associate(a, b),
+        Expr::Look(a, b, c, _) => Code::Look(a, b, c),
     }
 }

@@ -152,6 +152,8 @@ pub enum Expr {
     NewKey(u8, u8, u16, u16, u16),
     /// 3F: a value gets the key of a limit key.
     Associate(u16, u16),
+    /// 40: a look at a key; limit key, branch if its key is enabled, branch if not, type.
+    Look(u16, u16, u16, u16),
 }
 
 /// What an expression binds, and where.
@@ -188,7 +190,9 @@ macro_rules! each_operand {
                     take(a);
                     take(b)
                 }
-                Expr::Test(a, b, c, _) => [a, b, c].into_iter().for_each(take),
+                Expr::Test(a, b, c, _) | Expr::Look(a, b, c, _) => {
+                    [a, b, c].into_iter().for_each(take)
+                }
                 Expr::Limit(count, keys, body) => {
                     for key in &$($mut)? keys[..*count as usize] {
                         take(key)
@@ -216,7 +220,8 @@ impl Expr {
             Expr::Function(_, ty, _)
             | Expr::NewCell(ty, _)
             | Expr::Test(_, _, _, ty)
-            | Expr::NewKey(_, _, _, _, ty) => Some(ty),
+            | Expr::NewKey(_, _, _, _, ty)
+            | Expr::Look(_, _, _, ty) => Some(ty),
             _ => None,
         }
     }

@@ -225,7 +225,8 @@ impl Machine {
             | Code::Limit(_, [first, ..], _)
             | Code::Grant(first, _)
             | Code::NewKey(first, _)
-            | Code::Associate(first, _) => return self.push(expr, first),
+            | Code::Associate(first, _)
+            | Code::Look(first, _, _) => return self.push(expr, first),
         };
         Ok(Control::Hand(value))
     }
@@ -315,6 +316,7 @@ impl Machine {
             Code::Grant(_, body) => return self.grant(frame, body, value),
             Code::NewKey(_, body) => return self.open(frame, body, value),
             Code::Associate(..) => self.associate(frame, first, value)?,
+            Code::Look(_, enabled, other) => return self.look(frame, enabled, other, value),
             Code::Number(_)
             | Code::Top
             | Code::Host(_)
@@ -430,6 +432,22 @@ impl Machine {
         self.key(frame, value)?;
         self.key(frame, limit)?;
         Ok(value.with_key(limit.data() as u8))
+    }
+
+    /// Enters the first branch where the key that the limit key stands for is enabled.
+    #[inline(always)]
+    fn look(
+        &mut self,
+        frame: &Frame,
+        enabled: u16,
+        other: u16,
+        key: Value,
+    ) -> Result<Control, Stop> {
+        self.test(frame, Kind::Limit, key)?;
+        let open = self.above[key.index() % KEYS] & frame.enabled != 0;
+        self.scope = frame.scope;
+        self.enabled = frame.enabled;
+        Ok(Control::Enter(if open { enabled } else { other }))
     }
 
     /// Whether a value is of a kind, and its key enabled.

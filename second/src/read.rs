@@ -43,7 +43,7 @@ fn command(byte: u8) -> Option<(Section, usize)> {
         0x34 => (Section::Expressions, 3),
         0x30 | 0x33 | 0x36 | 0x37 | 0x38 | 0x3D | 0x3F => (Section::Expressions, 4),
         0x35 | 0x3A => (Section::Expressions, 5),
-        0x3B | 0x3E => (Section::Expressions, 8),
+        0x3B | 0x3E | 0x40 => (Section::Expressions, 8),
         0x3C => (Section::Expressions, 11),
         0xFF => (Section::End, 0),
         _ => return None,
@@ -244,7 +244,8 @@ impl Reader {
                 self.expr(o)?,
                 self.ty(o.reference())?,
             ),
-            _ => Expr::Associate(self.expr(o)?, self.expr(o)?),
+            0x3F => Expr::Associate(self.expr(o)?, self.expr(o)?),
+            _ => Expr::Look(self.expr(o)?, self.expr(o)?, self.expr(o)?, self.ty(o.reference())?),
         };
         self.0.exprs.push(expr);
         Some(())
@@ -379,6 +380,7 @@ fn write_expr(out: &mut Vec<u8>, expr: &Expr) {
         Expr::Grant(a, b) => (&[0x3D], &[a, b]),
         Expr::NewKey(v, name, key, body, ty) => (&[0x3E, v, name], &[key, body, ty]),
         Expr::Associate(a, b) => (&[0x3F], &[a, b]),
+        Expr::Look(a, b, c, ty) => (&[0x40], &[a, b, c, ty]),
     };
     out.extend(head);
     out.extend(references.iter().flat_map(|reference| reference.to_le_bytes()));

@@ -191,31 +191,41 @@ impl View<'_> {
     /// The innermost expression that brings a name into an effect.
     fn source(&self, typing: &Typing, root: usize, name: u8) -> usize {
         let expr = &self.exprs[root];
-        let has = |expr: u16, name: u8| typing.typed[expr as usize].effect >> name & 1 == 1;
-        let inner = match expr.row.rule.effect {
-            Effect::Later => None,
-            _ => {
-                expr.exprs().into_iter().find(|&inner| has(inner, name)).map(|inner| (inner, name))
-            }
-        };
-        let hidden = || match expr.row.rule.effect {
-            Effect::Raise(local, body) => {
-                let (local, body) = (expr.args[local].one() as u8, expr.args[body].one() as u16);
-                has(body, local).then_some((body, local))
-            }
-            // The body of a function that is written where it is applied.
+        let from = |inner: u16| self.brings(typing, expr, inner, name).map(|name| (inner, name));
+        let inner = expr.exprs().into_iter().find_map(from);
+        // The body of a function that is written where it is applied.
+        let applied = || match expr.row.rule.effect {
             Effect::Calls(function) => {
                 let function = &self.exprs[expr.args[function].one() as usize];
                 let body = function.exprs().last().copied()?;
                 let written = matches!(function.row.rule.effect, Effect::Later);
-                (written && has(body, name)).then_some((body, name))
+                (written && has(typing, body, name)).then_some((body, name))
             }
             _ => None,
         };
-        match inner.or_else(hidden) {
+        match inner.or_else(applied) {
             Some((inner, name)) => self.source(typing, inner as usize, name),
             None => root,
         }
+    }
+
+    /// The name in an operand's effect by which the operand brings a name into an effect.
+    fn brings(&self, typing: &Typing, expr: &Command, inner: u16, name: u8) -> Option<u8> {
+        let names = &self.listing.job.names;
+        let is = |place: usize| expr.args[place].one() as u16 == inner;
+        let from = match expr.row.rule.effect {
+            Effect::Later => return None,
+            Effect::Drop(key, body) if is(body) => {
+                let key = typing.stands_for(expr.args[key].one() as u16);
+                (!names.set_below(1 << name, key)).then_some(name)?
+            }
+            Effect::Raise(local, body) if is(body) && !has(typing, inner, name) => {
+                let local = expr.args[local].one() as u8;
+                (names.upper(local) == name).then_some(local)?
+            }
+            _ => name,
+        };
+        has(typing, inner, from).then_some(from)
     }
 
     /// Where two types differ, and how.
@@ -254,4 +264,9 @@ impl View<'_> {
             }
         }
     }
+}
+
+/// Whether an expression's effect has a name.
+fn has(typing: &Typing, expr: u16, name: u8) -> bool {
+    typing.effect_of(expr) >> name & 1 == 1
 }
