@@ -14,7 +14,7 @@ use Rattle.syntax.specs.Words.{decode, codeIn}
 use Rattle.syntax.specs.DecodeLaws.{decodeBy, decode-is}
 use Rattle.semantics.specs.Machine.{Value, Machine}
 use Rattle.semantics.specs.Step.{o-stuck, room, touchAll, p-wrong, settle, push, act, enterAt, enterCmd, bare, one, two, limitKeys, keysOf, actLim, actTest, actAccess}
-use Rattle.semantics.specs.KeyLaws.{narrow-none}
+use Rattle.semantics.specs.Enabled.{narrow-none}
 use Rattle.store.specs.Frames.{handOf}
 use Rattle.machine.specs.Inner.{go, Works}
 use Rattle.machine.proofs.Limit.{padded}

@@ -140,6 +140,15 @@ pub record Marked : Type 0 where
   -- beyond the paper's: a job that asks for a key, where the rights lend it and where they do not: the same verdict, another branch
   pub asking-lent : Lines.deskOf (Jobs.asking 0x04) ≡ lentLines
   pub asking-unlent : Lines.deskOf (Jobs.asking 0x00) ≡ unlentLines
+  -- the key is touched: with its own key the effect has it, the rights must lend it, and the machine, started anyway, is denied
+  pub asking-keyed : Verdict.verdictOf (Jobs.askingWith 0x14 0x02 0x04 2 3 0) ≡ Verdict.accept (Types.num 0) (Effects.ofWord 0x04)
+  pub asking-keyed-refused : Verdict.verdictOf (Jobs.askingWith 0x14 0x02 0x00 2 3 0) ≡ Verdict.refuse (record { number = 14; place = 4 })
+  pub asking-keyed-denied : started 100000 (Jobs.askingWith 0x14 0x02 0x00 2 3 0) ≡ some (record { answer = Calls.denied; count = 2 })
+  -- nothing is dropped from the second branch
+  pub asking-turned : Verdict.verdictOf (Jobs.askingWith 0x14 0x00 0x00 3 2 0) ≡ Verdict.refuse (record { number = 14; place = 4 })
+  -- a grant key is of the wrong kind, also where a branch is of the wrong type; then the branches
+  pub asking-grant : Verdict.verdictOf (Jobs.askingWith 0x15 0x00 0x04 2 3 2) ≡ Verdict.refuse (record { number = 11; place = 4 })
+  pub asking-other : Verdict.verdictOf (Jobs.askingWith 0x14 0x00 0x04 2 3 2) ≡ Verdict.refuse (record { number = 12; place = 4 })
   -- a job that runs every command
   pub every-command : Lines.deskOf Jobs.everyCommand ≡ everyLines
   -- and one with a name out of scope: it is refused with 10, and the rules give it no type
@@ -171,6 +180,12 @@ marked =
       example-denied = refl;
       asking-lent = refl;
       asking-unlent = refl;
+      asking-keyed = refl;
+      asking-keyed-refused = refl;
+      asking-keyed-denied = refl;
+      asking-turned = refl;
+      asking-grant = refl;
+      asking-other = refl;
       every-command = refl;
       unscoped-refused = refl;
       unscoped-read = refl;

@@ -1,36 +1,35 @@
 -- What is enabled, exactly: no less than document 01's machine enables, and no more. Safety alone would not notice a machine that enables too much.
 use mathlib.Core.Path.{_≡_, refl, sym, ap, _∙_, subst}
-use Prim.Native.Nat.{ℕ, zero, suc, _^_, _<_}
+use Prim.Native.Nat.{ℕ, _^_, _<_}
 use native.Mathlib.Omega.{arith}
 use mathlib.Core.Bool.{Bool, true, false, false≢true}
-use mathlib.Core.List.{List, [], _∷_, _++_, map, List·Memᴰ, List·Memᴰ·head, List·Memᴰ·tail, Memᴰ·map, Memᴰ·of-map}
-use mathlib.Core.Option.{none, some}
+use mathlib.Core.List.{List, [], _∷_, map, List·Memᴰ, Memᴰ·map, Memᴰ·of-map}
 use mathlib.Core.Logic.{_↔_, _≢_, _⊎_, inl, inr}
-use lib.ListN.{length, getElem?, set}
+use lib.ListN.{length}
 use lib.Dec.{eqb, ltb}
 use lib.Bits.{bitOr}
 use borrow.Author.Tests.{eq-eqb, eqb-true, eqb-false, lt-ltb}
 use Rattle.order.specs.Bools.{_and_, _or_, and-l, and-r, and3}
 use Rattle.order.specs.Order.{Below, here, below}
 use Rattle.order.specs.OrderLaws.{Proper, below-trans, below-zero, below→, →below}
-use Rattle.order.specs.Sets.{bit, consIf, members, setOf, keep, some-of}
+use Rattle.order.specs.Sets.{bit, members, setOf, keep, some-of}
 use Rattle.order.specs.SetLaws.{or→, →or-l, →or-r, bit-or, bit-pow, bit-zero, mem-bit, bit-mem, keep-mem, mem-keep, some-of→, →some-of, mem-setOf, setOf-mem}
 use Rattle.order.specs.Effects.{pure, names}
 use Rattle.order.specs.EffectLaws.{eff-pure}
-use Rattle.syntax.specs.Commands.{Cmd, c-num, c-app, c-asg, c-test, c-lim, c-grant, c-access}
-use Rattle.syntax.specs.Operands.{nth, evaluated}
+use Rattle.syntax.specs.Commands.{Cmd, c-num, c-access}
+use Rattle.syntax.specs.Operands.{nth}
 use Rattle.syntax.specs.Job.{Src}
 use Rattle.syntax.specs.Tree.{root, predecessor}
 use Rattle.syntax.specs.WellRead.{WellRead}
 use Rattle.typing.specs.Rules.{h-num}
-use Rattle.semantics.specs.Machine.{k-num, k-fn, k-cell, k-lim, k-grant, Value, b-var, Closure, Frame, Control, enter, hand, Machine, most-bindings}
+use Rattle.semantics.specs.Machine.{k-lim, Value, Frame, Control, enter, hand, Machine}
 use Rattle.semantics.specs.Keys.{enabled, upto, narrow, add}
-use Rattle.semantics.specs.Step
-use Rattle.semantics.specs.Step.{Out, o-step, o-done, o-room, o-stuck, o-denied, Plan, room, settle, handing, entering, withCells, withBindings, withFrames, asNum, asFn, asCell, asLim, asGrant, found, one, two, branch, actApp, actAsg, actTest, limitKeys, keysOf, touchAll, actLim, actGrant, actAccess, act, enterAt, enterCmd, resume, receive, handTo, planOn, plan, step}
+use Rattle.semantics.specs.Step.{Out, o-step, o-done, o-room, o-stuck, o-denied, entering, withFrames, step}
 use Rattle.semantics.specs.Start.{named, keyNamed, startOf}
 use Rattle.semantics.specs.Invariant.{On, on-zero, on-key}
 use Rattle.semantics.specs.Enabled.{mem-upto, enabled-on}
 use Rattle.semantics.specs.Begin.{start-ok}
+use Rattle.semantics.specs.ActLaws.{Acting, access-first, access-second}
 
 -- Sets of keys
 
@@ -102,19 +101,6 @@ limit-exactly {up} ok on own k h = (λ e. to (enabled-from up (narrow up on own)
             let t : test k ≡ true = and3 (ltb 0 k) (enabled up on k) (some-of (λ a. below up k a) own) (lt-ltb 0 k (omega arith)) e (→some-of (λ a. below up k a) (w .1) (→below ok (w .2))) in
             some-enabled ok _ k (k, setOf-mem (mem-keep test (mem-upto (length up) k h) t), here)
 
--- a limit with no keys leaves none
-pub narrow-none : (up : List ℕ) (on : ℕ) → narrow up on [] ≡ 0
-unfolding narrow upto keep consIf setOf some-of _and_
-narrow-none up on = ap setOf (all (length up))
-  where
-    at : (b : Bool) → (b and false) ≡ false
-    at true = refl
-    at false = refl
-
-    all : (n : ℕ) → keep (λ k. ltb 0 k and enabled up on k and false) (upto n) ≡ []
-    all zero = refl
-    all (suc n) = rw (at (ltb 0 n and enabled up on n)) (all n)
-
 -- after a grant: what was enabled, and what is below the granted key
 pub grant-exactly : {up : List ℕ} → Proper up → (j on k : ℕ) → j < length up → (enabled up (add up j on) k ≡ true) ↔ ((enabled up on k ≡ true) ⊎ Below up k j)
 unfolding add
@@ -184,22 +170,7 @@ start-exactly S wr k = (λ e. to (enabled-from (named S .keys) on k e), from)
     from (inl e) = zero-enabled (named S .keys) on k e
     from (inr z) = some-enabled (start-proper S wr) on k (keyNamed S (z .0), setOf-mem (Memᴰ·map (keyNamed S) (z .1)), z .2)
 
--- Steps
-
--- values that are limit keys, and the keys that they stand for
-pub data Stand : List Value → List ℕ → Type 0 where
-  st-nil : Stand [] []
-  st-cons : {v : Value} {j : ℕ} {vs : List Value} {js : List ℕ} → v .kind ≡ k-lim j → Stand vs js → Stand (v ∷ vs) (j ∷ js)
-
-stand-keys : {vs : List Value} {js : List ℕ} → Stand vs js → (g : List ℕ → Plan) → limitKeys vs g ≡ g js
-unfolding limitKeys asLim found
-stand-keys st-nil g = refl
-stand-keys (st-cons {j = j} {vs = vs} e s) g = rw e (stand-keys s (λ js. g (j ∷ js)))
-
-touch-all : (m : Machine) (vs : List Value) (o : Out) → ((v : Value) → List·Memᴰ v vs → enabled (m .store .keys) (m .thread .on) (v .key) ≡ true) → touchAll (keysOf vs) m o ≡ o
-unfolding touchAll keysOf Step.touch
-touch-all m [] o h = refl
-touch-all m (v ∷ vs) o h = rw (h v (List·Memᴰ·head refl)) (touch-all m vs o (λ w n. h w (List·Memᴰ·tail n)))
+-- Which branch 0x40 takes
 
 -- the expression that a step enters
 towards : Out → ℕ
@@ -214,85 +185,16 @@ towards o-stuck = 0
 towards o-denied = 0
 
 module _ {T : Type 0} (code : ℕ → Cmd T) where
-  -- the next step of m is the act of the command k of the newest frame f, with the values vs, all in hand; fs are the frames below it
-  pub record Acting (m : Machine) (k : Cmd T) (vs : List Value) (f : Frame) (fs : List Frame) : Type 0 where
-    pub last : Value
-    pub control : m .thread .control ≡ hand last
-    pub frames : m .thread .frames ≡ (f ∷ fs)
-    pub command : code (f .at) ≡ k
-    pub whole : getElem? (evaluated k) (suc (length (f .hand))) ≡ none
-    pub values : (f .hand ++ (last ∷ [])) ≡ vs
-
-  -- "brings back its own bindings and enabled keys and .., all in hand, is popped and acts"
-  pub acting : {m : Machine} {k : Cmd T} {vs : List Value} {f : Frame} {fs : List Frame} → Acting m k vs f fs → step code m ≡ settle (act k vs (resume f fs m))
-  unfolding step plan planOn handTo receive
-  acting {m} {k} {vs} {f} {fs} a = rw (a .control, a .frames, a .command, a .whole, a .values, a .command)
-
-  -- "3C with no keys pushes none and enters its body with no key enabled"
-  pub limit-none : (m : Machine) {e b : ℕ} → m .thread .control ≡ enter e → code e ≡ c-lim [] b → step code m ≡ o-step (entering b (m .thread .env) 0 m)
-  unfolding step plan planOn enterCmd enterAt evaluated act actLim limitKeys keysOf settle touchAll Step.touch room
-  limit-none m h c = rw (h, c, narrow-none (m .store .keys) (m .thread .on))
-
-  -- 0x3C: the body is entered with exactly what the limit leaves of the frame's own enabled keys
-  pub limit-body : {m : Machine} {b : ℕ} {ks js : List ℕ} {vs : List Value} {f : Frame} {fs : List Frame} → Acting m (c-lim ks b) vs f fs → Stand vs js
-      → ((v : Value) → List·Memᴰ v vs → enabled (m .store .keys) (f .on) (v .key) ≡ true)
-      → step code m ≡ o-step (entering b (f .env) (narrow (m .store .keys) (f .on) js) (withFrames m fs))
-  unfolding act actLim settle room
-  limit-body {m} {vs = vs} {f = f} {fs = fs} a s h = acting a ∙ ap settle (stand-keys s _) ∙ touch-all (resume f fs m) vs _ h
-
-  -- 0x3D: with exactly what the frame had and the granted key
-  pub grant-body : {m : Machine} {a b j : ℕ} {v : Value} {f : Frame} {fs : List Frame} → Acting m (c-grant a b) (v ∷ []) f fs → v .kind ≡ k-grant j
-      → enabled (m .store .keys) (f .on) (v .key) ≡ true
-      → step code m ≡ o-step (entering b (f .env) (add (m .store .keys) j (f .on)) (withFrames m fs))
-  unfolding act one actGrant asGrant found settle touchAll Step.touch room
-  grant-body a e h = acting a ∙ rw (e, h)
-
-  -- 0x36: "a call uses the caller's enabled keys", the frame's own, and not those where the function was made
-  pub call-body : {m : Machine} {a b i : ℕ} {v w : Value} {c : Closure} {f : Frame} {fs : List Frame} → Acting m (c-app a b) (v ∷ w ∷ []) f fs → v .kind ≡ k-fn i
-      → enabled (m .store .keys) (f .on) (v .key) ≡ true → getElem? (m .store .functions) i ≡ some c → length (m .store .bindings) < most-bindings
-      → step code m ≡ o-step (entering (c .body) (suc (length (m .store .bindings))) (f .on) (withBindings (withFrames m fs) (m .store .bindings ++ (record { bind = b-var (c .var) w; next = c .env } ∷ []))))
-  unfolding act two actApp asFn found settle touchAll Step.touch room
-  call-body {m} a e h g r = acting a ∙ rw (e, g, h, lt-ltb (length (m .store .bindings)) most-bindings r)
-
-  -- 0x38 "hands on the assigned value"
-  pub assign-hands : {m : Machine} {a b c : ℕ} {v w old : Value} {f : Frame} {fs : List Frame} → Acting m (c-asg a b) (v ∷ w ∷ []) f fs → v .kind ≡ k-cell c
-      → enabled (m .store .keys) (f .on) (v .key) ≡ true → getElem? (m .store .cells) c ≡ some old
-      → step code m ≡ o-step (handing w (withCells (resume f fs m) (set (m .store .cells) c w)))
-  unfolding act two actAsg asCell found settle touchAll Step.touch room
-  assign-hands a e h g = acting a ∙ rw (e, g, h)
-
-  -- 0x3B: the second operand for a number above 0, the third for 0, each with the frame's own enabled keys
-  pub test-above : {m : Machine} {a b c n : ℕ} {t : T} {v : Value} {f : Frame} {fs : List Frame} → Acting m (c-test a b c t) (v ∷ []) f fs → v .kind ≡ k-num (suc n)
-      → enabled (m .store .keys) (f .on) (v .key) ≡ true → step code m ≡ o-step (entering b (f .env) (f .on) (withFrames m fs))
-  unfolding act one actTest asNum found branch settle touchAll Step.touch room
-  test-above a e h = acting a ∙ rw (e, h)
-
-  pub test-zero : {m : Machine} {a b c : ℕ} {t : T} {v : Value} {f : Frame} {fs : List Frame} → Acting m (c-test a b c t) (v ∷ []) f fs → v .kind ≡ k-num 0
-      → enabled (m .store .keys) (f .on) (v .key) ≡ true → step code m ≡ o-step (entering c (f .env) (f .on) (withFrames m fs))
-  unfolding act one actTest asNum found branch settle touchAll Step.touch room
-  test-zero a e h = acting a ∙ rw (e, h)
-
-  -- 0x40: the first branch where the key that the limit key stands for is enabled, the second where it is not, each with the frame's own enabled keys
-  pub access-first : {m : Machine} {a b c j : ℕ} {t : T} {v : Value} {f : Frame} {fs : List Frame} → Acting m (c-access a b c t) (v ∷ []) f fs → v .kind ≡ k-lim j
-      → enabled (m .store .keys) (f .on) (v .key) ≡ true → enabled (m .store .keys) (f .on) j ≡ true → step code m ≡ o-step (entering b (f .env) (f .on) (withFrames m fs))
-  unfolding act one actAccess asLim found settle touchAll Step.touch room
-  access-first a e h g = acting a ∙ rw (e, h, g)
-
-  pub access-second : {m : Machine} {a b c j : ℕ} {t : T} {v : Value} {f : Frame} {fs : List Frame} → Acting m (c-access a b c t) (v ∷ []) f fs → v .kind ≡ k-lim j
-      → enabled (m .store .keys) (f .on) (v .key) ≡ true → enabled (m .store .keys) (f .on) j ≡ false → step code m ≡ o-step (entering c (f .env) (f .on) (withFrames m fs))
-  unfolding act one actAccess asLim found settle touchAll Step.touch room
-  access-second a e h g = acting a ∙ rw (e, h, g)
-
-  -- so, of two branches (in a job each expression is used once), the first exactly when the key is 0 or lies below an enabled one, and else the second
-  pub access-exactly : {m : Machine} {a b c j : ℕ} {t : T} {v : Value} {f : Frame} {fs : List Frame} → Acting m (c-access a b c t) (v ∷ []) f fs → v .kind ≡ k-lim j
+  -- 0x40: where the branches are two expressions (as in every job that is free of 8), the first exactly when the key is 0 or lies below an enabled one, and else the second
+  pub access-exactly : {m : Machine} {a b c j : ℕ} {t : T} {v : Value} {f : Frame} {fs : List Frame} → Acting code m (c-access a b c t) (v ∷ []) f fs → v .kind ≡ k-lim j
       → enabled (m .store .keys) (f .on) (v .key) ≡ true → Proper (m .store .keys) → b ≢ c
       → ((step code m ≡ o-step (entering b (f .env) (f .on) (withFrames m fs))) ↔ ((j ≡ 0) ⊎ BelowOne (m .store .keys) j (members (f .on))))
       × ((step code m ≡ o-step (entering c (f .env) (f .on) (withFrames m fs))) ↔ (((j ≡ 0) ⊎ BelowOne (m .store .keys) j (members (f .on))) → ⊥))
   unfolding towards
   access-exactly {m} {b = b} {c = c} {j = j} {f = f} {fs = fs} a e h ok n =
       let x = enabled-exactly ok (f .on) j in (
-        (λ z. x .0 (first (enabled (m .store .keys) (f .on) j) refl z), λ z. access-first a e h (x .1 z)),
-        (λ z w. n (sym (entered (sym z ∙ access-first a e h (x .1 w)))), λ w. access-second a e h (other (enabled (m .store .keys) (f .on) j) refl (λ z. w (x .0 z)))),
+        (λ z. x .0 (first (enabled (m .store .keys) (f .on) j) refl z), λ z. access-first code a e h (x .1 z)),
+        (λ z w. n (sym (entered (sym z ∙ access-first code a e h (x .1 w)))), λ w. access-second code a e h (other (enabled (m .store .keys) (f .on) j) refl (λ z. w (x .0 z)))),
       )
     where
       Next : ℕ → Out
@@ -303,7 +205,7 @@ module _ {T : Type 0} (code : ℕ → Cmd T) where
 
       first : (t : Bool) → enabled (m .store .keys) (f .on) j ≡ t → step code m ≡ Next b → enabled (m .store .keys) (f .on) j ≡ true
       first true q z = q
-      first false q z = absurd (n (entered (sym z ∙ access-second a e h q)))
+      first false q z = absurd (n (entered (sym z ∙ access-second code a e h q)))
 
       other : (t : Bool) → enabled (m .store .keys) (f .on) j ≡ t → (enabled (m .store .keys) (f .on) j ≡ true → ⊥) → enabled (m .store .keys) (f .on) j ≡ false
       other true q w = absurd (w q)

@@ -4,6 +4,7 @@ pub mod Step
 pub mod Room
 pub mod Wants
 pub mod StepExactly
+pub mod ActLaws
 pub mod StepKeeps
 pub mod Agreement
 pub mod Start
