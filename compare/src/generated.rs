@@ -9,7 +9,8 @@ use compare::proved::{self, RUN_TABLES, Tables};
 use compare::words::{Words, kind, words};
 use jobdesk::{Answer, Call, LENGTHS};
 use second::generate::{Rng, job};
-use second::{Machine, Refusal, check, read, to_hex, tree};
+use second::observe::{looks, refused_at, wanted_of_looks};
+use second::{Job, Machine, Refusal, check, read, to_hex, tree};
 
 use crate::sessions::{END, compare_session};
 
@@ -83,6 +84,7 @@ fn wanted() -> Vec<String> {
     for room in ["cells", "keys", "pairs", "functions", "frames", "bindings"] {
         wanted.push(format!("no room in {room} alone"));
     }
+    wanted.extend(wanted_of_looks());
     wanted
 }
 
@@ -136,9 +138,11 @@ fn compare_check(job: &[u8], rng: &mut Rng, met: &mut Met) -> Result<bool, Strin
             same_tables("after acceptance", tables.differs(&before, &words, 8))?;
             Ok(true)
         }
-        Err(Refusal { number, place }) => {
+        Err(refusal @ Refusal { number, place }) => {
             same("verdict", verdict, (number as u64, [place as u64, 0]))?;
             met.meet(format!("refused {number:2}"));
+            let looked = |words: &String| words.ends_with("Look") || words.ends_with("at 40");
+            refused_at(job, refusal).into_iter().filter(looked).for_each(|words| met.meet(words));
             same_tables("after a refusal", tables.differs(&before, &Words::default(), 8))?;
             Ok(false)
         }
@@ -226,6 +230,7 @@ fn compare_run(
     let words = words(&read, &read.types, &[]);
     same_tables("after a run", tables.differs(&before, &words, RUN_TABLES))?;
     compare_session(job, &calls, rng, met)?;
+    meet_looks(&read, accepted, taken, met);
     let last = meet_answers(&calls, &answers, accepted, met)?;
     if last == Some(Answer::NoRoom)
         && let [room] = machine.rooms().full()[..]
@@ -250,6 +255,16 @@ fn compare_refused_run(
     met.meet(format!("not started {number:2}"));
     compare_session(job, &[Call::Step], rng, met)?;
     same_tables("after no start", tables.differs(&before, &Words::default(), RUN_TABLES))
+}
+
+/// Counts what the looks of a job come to within so many steps.
+fn meet_looks(job: &Job, accepted: bool, steps: u64, met: &mut Met) {
+    for look in looks(job, steps) {
+        met.meet(look.to_string());
+        if accepted {
+            met.meet(format!("accepted, {look}"));
+        }
+    }
 }
 
 /// Counts the answers, of which an accepted job never gives stuck or denied; the last one.

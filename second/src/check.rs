@@ -153,12 +153,7 @@ impl Checker<'_> {
                 let (first, second) = (self.of(first), self.of(second));
                 self.make(Shape::Pair(first.entry, second.entry), first.effect | second.effect)
             }
-            Expr::Part(pair, part) => {
-                let (touched, Shape::Pair(first, second)) = self.touch(pair) else {
-                    return Err(11);
-                };
-                self.point(if part == 1 { first } else { second }, touched)
-            }
+            Expr::Part(pair, part) => return self.part(pair, part),
             Expr::Function(_, from, body) => {
                 let body = self.of(body);
                 self.make(Shape::Function(from, body.entry, body.effect), 0)
@@ -183,6 +178,14 @@ impl Checker<'_> {
             Expr::Associate(value, key) => return self.associate(value, key),
             Expr::Look(key, a, b, ty) => return self.look(key, a, b, ty),
         })
+    }
+
+    #[inline(always)]
+    fn part(&self, pair: u16, part: u8) -> Result<Typed, u32> {
+        let (touched, Shape::Pair(first, second)) = self.touch(pair) else {
+            return Err(11);
+        };
+        Ok(self.point(if part == 1 { first } else { second }, touched))
     }
 
     #[inline(always)]
@@ -283,9 +286,9 @@ impl Checker<'_> {
         let (touched, Shape::Limit(name)) = self.touch(key) else {
             return Err(11);
         };
-        let enabled = self.subtype(enabled, ty)?;
-        let other = self.subtype(other, ty)?;
-        Ok(self.point(ty, touched | names.without(enabled, name) | other))
+        let first = self.subtype(enabled, ty)?;
+        let second = self.subtype(other, ty)?;
+        Ok(self.point(ty, touched | names.without(first, name) | second))
     }
 }
 

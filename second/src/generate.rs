@@ -3,6 +3,7 @@
 mod build;
 mod damage;
 mod limits;
+mod looks;
 
 use crate::job::Job;
 use crate::read::write;
@@ -53,6 +54,8 @@ pub enum Source {
     Changed,
     /// Built, and then changed in its bytes.
     Damaged,
+    /// Looks at keys, with something around them and in their branches.
+    Looks,
     /// Near one of the limits.
     Limits,
 }
@@ -62,22 +65,28 @@ pub fn job(seed: u64) -> (Source, Vec<u8>) {
     let mut rng = Rng::new(seed);
     let rng = &mut rng;
     match rng.below(100) {
-        0..28 => (Source::Typed, write(&typed(rng))),
-        28..42 => (Source::Loop, write(&looped(rng))),
-        42..72 => {
-            let mut job = if rng.chance(25) { looped(rng) } else { typed(rng) };
+        0..27 => (Source::Typed, write(&typed(rng))),
+        27..41 => (Source::Loop, write(&looped(rng))),
+        41..71 => {
+            let mut job = match rng.below(20) {
+                0..5 => looped(rng),
+                5 => looks::job(rng),
+                _ => typed(rng),
+            };
             for _ in 0..1 + rng.below(3) {
                 damage::tables(rng, &mut job);
             }
             (Source::Changed, write(&job))
         }
-        72..88 => {
-            let mut bytes = write(&typed(rng));
+        71..86 => {
+            let job = if rng.chance(8) { looks::job(rng) } else { typed(rng) };
+            let mut bytes = write(&job);
             for _ in 0..1 + rng.below(2) {
                 damage::bytes(rng, &mut bytes);
             }
             (Source::Damaged, bytes)
         }
+        86..88 => (Source::Looks, write(&looks::job(rng))),
         _ => (Source::Limits, limits::job(rng)),
     }
 }

@@ -144,6 +144,8 @@ pub enum Expr {
     Difference(u16, u16),
     /// 3B: tested number, branch if not zero, branch if zero, type.
     Test(u16, u16, u16, u16),
+    /// 40: a look at a key; limit key, branch if its key is enabled, branch if not, type.
+    Look(u16, u16, u16, u16),
     /// 3C: a limit; number of keys, the keys, body.
     Limit(u8, [u16; 4], u16),
     /// 3D: a grant; key, body.
@@ -152,8 +154,6 @@ pub enum Expr {
     NewKey(u8, u8, u16, u16, u16),
     /// 3F: a value gets the key of a limit key.
     Associate(u16, u16),
-    /// 40: a look at a key; limit key, branch if its key is enabled, branch if not, type.
-    Look(u16, u16, u16, u16),
 }
 
 /// What an expression binds, and where.

@@ -156,6 +156,19 @@ impl Machine {
         }
     }
 
+    /// The expression that is entered next.
+    pub fn entering(&self) -> Option<u16> {
+        match self.control {
+            Control::Enter(expr) => Some(expr),
+            Control::Hand(_) => None,
+        }
+    }
+
+    /// The expression of the newest frame.
+    pub fn waiting(&self) -> Option<u16> {
+        self.rooms.frames.checked_sub(1).map(|top| self.frames[top].expr)
+    }
+
     /// What the cells hold that are in use.
     pub fn cells(&self) -> &[Value] {
         &self.cells[..self.rooms.cells]
@@ -294,12 +307,7 @@ impl Machine {
                 self.pairs[value.index() % PAIRS][(part as usize - 1) % 2]
             }
             Code::Apply(..) => return self.apply(frame, first, value),
-            Code::NewCell(_) => {
-                if self.rooms.cells >= CELLS {
-                    return Err(Stop::NoRoom);
-                }
-                Value::unkeyed(Kind::Cell, self.new_cell(value))
-            }
+            Code::NewCell(_) => self.hold(value)?,
             Code::Assign(..) => {
                 self.test(frame, Kind::Cell, first)?;
                 self.cells[first.index() % CELLS] = value;
@@ -325,6 +333,15 @@ impl Machine {
             | Code::Shut(_) => unreachable!("no frame is pushed for it"),
         };
         Ok(Control::Hand(result))
+    }
+
+    /// Makes a cell that holds a value.
+    #[inline(always)]
+    fn hold(&mut self, value: Value) -> Result<Value, Stop> {
+        if self.rooms.cells >= CELLS {
+            return Err(Stop::NoRoom);
+        }
+        Ok(Value::unkeyed(Kind::Cell, self.new_cell(value)))
     }
 
     #[inline(always)]

@@ -1,13 +1,14 @@
 //! What can be seen of a job: its verdict with all tables, and its runs.
 
+use std::collections::BTreeSet;
 use std::fmt;
 
 use crate::check::check_job;
-use crate::job::{Job, Refusal};
-use crate::machine::runs;
+use crate::job::{Expr, Job, Refusal};
+use crate::machine::{Machine, runs};
 use crate::read::read;
 use crate::tree::tree;
-use crate::value::{Outcome, Rooms, Value};
+use crate::value::{Answer, Outcome, Rooms, Value};
 use crate::verdict::Accepted;
 
 /// How a run ended.
@@ -62,6 +63,72 @@ impl Parts {
 /// What is seen of a job, checked and run for the given numbers of steps, one run after the other.
 pub fn observe(job: &[u8], steps: &[u64]) -> Seen {
     Parts::OWN.observe(job, steps)
+}
+
+/// The command that a refusal is at, in words; of 13 also that it is around a look.
+pub fn refused_at(bytes: &[u8], refusal: Refusal) -> Vec<String> {
+    let (number, place) = (refusal.number, refusal.place as usize);
+    let mut words = Vec::new();
+    match (number, read(bytes)) {
+        (8.., Ok(job)) => {
+            let expr = job.exprs.get(place);
+            words.extend(expr.map(|expr| format!("refused {number} at {}", expr.label())));
+            if let (13, Some(&Expr::Limit(_, _, body))) = (number, expr)
+                && matches!(job.exprs[body as usize], Expr::Look(..))
+            {
+                words.push("refused 13 around Look".to_string());
+            }
+        }
+        (3..=6, _) => {
+            words.extend(bytes.get(place).map(|byte| format!("refused {number} at {byte:02x}")))
+        }
+        _ => {}
+    }
+    words
+}
+
+/// What the looks of a job come to in a run, in words. The job is free of refusals 8 to 10.
+pub fn looks(job: &Job, steps: u64) -> BTreeSet<&'static str> {
+    let mut taken = vec![None; job.exprs.len()];
+    for expr in &job.exprs {
+        if let Expr::Look(_, enabled, other, _) = *expr {
+            taken[enabled as usize] = Some("look takes its first branch");
+            taken[other as usize] = Some("look takes its second branch");
+        }
+    }
+    let mut seen = BTreeSet::new();
+    if taken.iter().all(Option::is_none) {
+        return seen;
+    }
+    let mut machine = Machine::of(job);
+    let mut left = steps;
+    let answer = loop {
+        seen.extend(machine.entering().and_then(|expr| taken[expr as usize]));
+        match machine.step() {
+            Answer::Taken if left > 0 => left -= 1,
+            answer => break answer,
+        }
+    };
+    let at_look =
+        machine.waiting().is_some_and(|expr| matches!(job.exprs[expr as usize], Expr::Look(..)));
+    match answer {
+        Answer::Stuck if at_look => seen.insert("look is stuck"),
+        Answer::Denied if at_look => seen.insert("look is denied"),
+        _ => false,
+    };
+    seen
+}
+
+/// What must be met of looks: refusals at them and what they come to in runs.
+pub fn wanted_of_looks() -> Vec<String> {
+    let mut wanted: Vec<String> = (3..=6).map(|number| format!("refused {number} at 40")).collect();
+    wanted.extend([8, 10, 11, 12, 14].map(|number| format!("refused {number} at Look")));
+    wanted.push("refused 13 around Look".to_string());
+    let branches = ["first", "second"].map(|branch| format!("look takes its {branch} branch"));
+    wanted.extend(branches.iter().cloned());
+    wanted.extend(branches.map(|branch| format!("accepted, {branch}")));
+    wanted.extend(["look is stuck", "look is denied"].map(str::to_string));
+    wanted
 }
 
 impl fmt::Display for Ran {

@@ -12,15 +12,17 @@ pub fn tree(job: &Job) -> Result<(), Refusal> {
 
 /// Refusal 8: every expression but the last is an operand once.
 fn uses(job: &Job) -> Result<(), Refusal> {
-    let mut uses = [0u32; EXPRESSIONS];
+    let mut uses = [0u16; EXPRESSIONS];
     for expr in &job.exprs {
         expr.each_operand(|&operand| uses[operand as usize] += 1);
     }
     // No reference is to the last one, so it is never used.
-    match uses[..job.last()].iter().position(|&count| count != 1) {
-        Some(wrong) => Err(Refusal::at(8, wrong)),
-        None => Ok(()),
+    let uses = &uses[..job.last()];
+    if uses.iter().fold(true, |once, &count| once & (count == 1)) {
+        return Ok(());
     }
+    let wrong = uses.iter().position(|&count| count != 1);
+    wrong.map_or(Ok(()), |wrong| Err(Refusal::at(8, wrong)))
 }
 
 /// Refusal 9: no variable and no name is bound twice.
@@ -56,7 +58,9 @@ fn scopes(job: &Job) -> Result<(), Refusal> {
         variables: (1u64.checked_shl(job.hosts.len() as u32).unwrap_or(0)).wrapping_sub(1),
         names: job.names.host() | 0b11,
     };
-    let mut scopes = [outer; EXPRESSIONS];
+    // Every other expression gets its scope from the one that uses it.
+    let mut scopes = [Scope { variables: 0, names: 0 }; EXPRESSIONS];
+    scopes[job.last()] = outer;
     let mut lowest = None;
     for (number, expr) in job.exprs.iter().enumerate().rev() {
         let own = scopes[number];

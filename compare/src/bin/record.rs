@@ -7,7 +7,8 @@ use std::collections::HashMap;
 use std::process::ExitCode;
 
 use second::generate::{example, job};
-use second::{Expr, Machine, Outcome, check, desk, read};
+use second::observe::{looks, refused_at};
+use second::{Machine, Outcome, check, desk, read};
 
 /// The seeds that are tried, the cases wanted, and the bytes that all may take.
 const SEEDS: std::ops::Range<u64> = 1..40_000;
@@ -21,17 +22,12 @@ fn shows(job: &[u8]) -> Vec<String> {
     let mut words = Vec::new();
     match check(job) {
         Err(refusal) => {
-            let number = refusal.number;
-            words.push(format!("refused {number}"));
-            let place = refusal.place as usize;
-            let command = match (number, read(job)) {
-                (8.., Ok(job)) => job.exprs.get(place).map(Expr::label),
-                // Jobs that are full of expressions are long.
-                (5, _) if job.get(place).is_some_and(|&byte| byte > 0x30) => None,
-                (3..=6, _) => job.get(place).map(|byte| format!("{byte:02x}")),
-                _ => None,
-            };
-            words.extend(command.map(|command| format!("refused {number} at {command}")));
+            words.push(format!("refused {}", refusal.number));
+            // Jobs that are full of expressions are long.
+            let byte = job.get(refusal.place as usize);
+            if refusal.number != 5 || byte.is_none_or(|&byte| byte <= 0x30) {
+                words.extend(refused_at(job, refusal));
+            }
         }
         Ok(accepted) => {
             let Ok(mut machine) = Machine::start(job) else { return words };
@@ -47,9 +43,12 @@ fn shows(job: &[u8]) -> Vec<String> {
                 words.push(format!("no room in {room}"));
             }
             let pure = if accepted.effect == 0 { "no" } else { "an" };
-            for expr in read(job).iter().flat_map(|job| &job.exprs) {
+            let Ok(job) = read(job) else { return words };
+            for expr in &job.exprs {
                 words.push(format!("accepted with {}, {pure} effect", expr.label()));
             }
+            let looks = looks(&job, second::desk::STEPS);
+            words.extend(looks.iter().map(|look| format!("accepted, {look}")));
         }
     }
     words.sort();
@@ -144,6 +143,7 @@ impl Chosen {
         println!("{} cases, {} bytes", self.cases, self.out.len());
         let mut must: Vec<String> = (2..=14).map(|number| format!("refused {number}")).collect();
         must.extend(["done", "spent", "no room"].map(str::to_string));
+        must.extend(["first", "second"].map(|b| format!("accepted, look takes its {b} branch")));
         must.retain(|word| !self.shown.contains_key(word));
         must
     }

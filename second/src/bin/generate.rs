@@ -9,8 +9,8 @@ use std::collections::{BTreeMap, BTreeSet};
 use std::process::ExitCode;
 
 use second::generate::job;
-use second::observe::observe;
-use second::{Expr, Outcome, desk, read, to_hex};
+use second::observe::{looks, observe, refused_at, wanted_of_looks};
+use second::{Expr, Outcome, desk, read, to_hex, tree};
 
 /// How often each thing was reached.
 type Reached = BTreeMap<String, u64>;
@@ -25,7 +25,10 @@ fn reach(seed: u64, reached: &mut Reached) {
             reach(format!("accepted as {}", accepted.kind.word()));
             "accepted".to_string()
         }
-        Err(refusal) => format!("refused {:2}", refusal.number),
+        Err(refusal) => {
+            refused_at(&job, *refusal).into_iter().for_each(&mut reach);
+            format!("refused {:2}", refusal.number)
+        }
     };
     reach(format!("verdict {verdict}"));
     reach(format!("source {source:?} {verdict}"));
@@ -37,6 +40,7 @@ fn reach(seed: u64, reached: &mut Reached) {
         let kinds: BTreeSet<&str> = job.types.iter().map(|ty| ty.kind().word()).collect();
         kinds.into_iter().for_each(|kind| reach(format!("accepted with type {kind}")));
     }
+    reach_looks(&job, seen.verdict.is_ok(), &mut reach);
     for run in seen.runs.iter().flatten() {
         let accepted = if seen.verdict.is_ok() { "accepted" } else { "refused" };
         reach(format!("outcome of {accepted} {}", run.outcome.words()));
@@ -44,6 +48,17 @@ fn reach(seed: u64, reached: &mut Reached) {
             && let [room] = run.rooms.full()[..]
         {
             reach(format!("no room in {room} alone"));
+        }
+    }
+}
+
+/// Counts what the looks of a job come to, if it starts.
+fn reach_looks(job: &[u8], accepted: bool, mut reach: impl FnMut(String)) {
+    let formed = read(job).and_then(|job| tree(&job).map(|()| job));
+    for look in formed.iter().flat_map(|job| looks(job, 100_000)) {
+        reach(look.to_string());
+        if accepted {
+            reach(format!("accepted, {look}"));
         }
     }
 }
@@ -57,6 +72,7 @@ fn wanted() -> Vec<String> {
         ["cells", "keys", "pairs", "functions", "frames", "bindings"]
             .map(|room| format!("no room in {room} alone")),
     );
+    wanted.extend(wanted_of_looks());
     wanted
 }
 

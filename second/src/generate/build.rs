@@ -31,6 +31,8 @@ struct Builder<'r> {
     /// Variables and names in scope.
     variables: Vec<(u8, Ty)>,
     scope: u64,
+    /// The names of the keys that are looked at.
+    looked: u64,
     /// Whether subtypes are not taken strictly.
     lax: bool,
 }
@@ -92,6 +94,7 @@ impl<'r> Builder<'r> {
             locals: 0,
             variables: Vec::new(),
             scope,
+            looked: 0,
             lax,
         };
         for _ in 0..builder.rng.below(5) {
@@ -347,8 +350,17 @@ impl<'r> Builder<'r> {
                 let shape = self.shape(value);
                 (self.ty(name, shape), self.touched(value) | self.touched(key))
             }
+            Expr::Look(key, a, b, ty) => return self.typed_look(key, a, b, ty),
             _ => return None,
         })
+    }
+
+    fn typed_look(&self, key: Node, a: Node, b: Node, ty: Ty) -> Option<(Ty, u64)> {
+        let Shape::Limit(name) = self.shape(key) else { return None };
+        let (first, second) = (self.of(a), self.of(b));
+        let fits = self.subtype(first.ty, ty) && self.subtype(second.ty, ty);
+        let left = self.names.without(first.effect, name);
+        fits.then(|| (ty, self.touched(key) | left | second.effect))
     }
 
     fn some_number(&mut self) -> Node {
@@ -511,11 +523,8 @@ impl<'r> Builder<'r> {
         if self.nodes.len() > 700 {
             return None;
         }
-        match self.rng.below(18) {
-            0 => {
-                let (a, b) = (self.any(fuel), self.any(fuel));
-                self.add(Expr::Pair(a, b))
-            }
+        match self.rng.below(19) {
+            0 => self.pair(fuel),
             1 => {
                 let pair = self.of_kind(Kind::Pair, fuel)?;
                 let part = 1 + self.rng.below(2) as u8;
@@ -536,16 +545,22 @@ impl<'r> Builder<'r> {
             }
             14..17 => self.new_key(fuel),
             around => {
-                let keyed = matches!(around, 12 | 13);
+                let keyed = matches!(around, 12 | 13 | 18);
                 let node = if keyed { self.keyed(fuel) } else { self.any(fuel) };
                 match around {
                     11 => self.test(node, fuel),
                     12 => self.limit(node),
                     13 => self.grant(node),
+                    18 => self.look(node, fuel),
                     _ => self.associate(node),
                 }
             }
         }
+    }
+
+    fn pair(&mut self, fuel: usize) -> Option<Node> {
+        let (a, b) = (self.any(fuel), self.any(fuel));
+        self.add(Expr::Pair(a, b))
     }
 
     fn applied(&mut self, fuel: usize) -> Option<Node> {
@@ -602,10 +617,7 @@ impl<'r> Builder<'r> {
                 self.add(Expr::Sum(a, b))?
             }
             Kind::Number => self.some_number(),
-            Kind::Pair => {
-                let (a, b) = (self.any(less), self.any(less));
-                self.add(Expr::Pair(a, b))?
-            }
+            Kind::Pair => self.pair(less)?,
             Kind::Cell => self.new_cell(less)?,
             Kind::Function => self.function(less)?,
             Kind::Limit | Kind::Grant => {
@@ -681,7 +693,7 @@ impl<'r> Builder<'r> {
         if fuel == 0 || self.rng.chance(55) || self.nodes.len() > 700 {
             return node;
         }
-        let around = match self.rng.below(9) {
+        let around = match self.rng.below(10) {
             0 => self.limit(node),
             1 => self.grant(node),
             2 => self.test(node, fuel),
@@ -699,6 +711,7 @@ impl<'r> Builder<'r> {
                     .and_then(|cell| self.add(Expr::Read(cell)))
             }
             6 | 7 => self.associate(node),
+            8 => self.look(node, fuel),
             _ => self.key_around(move |_| Some(node)),
         };
         around.unwrap_or(node)
@@ -762,6 +775,36 @@ impl<'r> Builder<'r> {
         let first = self.rng.chance(50);
         let (a, b) = if first { (node, other) } else { (other, node) };
         self.add(Expr::Test(number, a, b, ty))
+    }
+
+    /// A look at a key, mostly of a name that the expression uses or of one above it.
+    fn look(&mut self, node: Node, fuel: usize) -> Option<Node> {
+        let mut name = self.some_name();
+        if self.rng.chance(75)
+            && let Some(used) = bits(self.of(node).effect).next()
+        {
+            name = used;
+            while name != 1 && self.rng.chance(25) {
+                name = self.names.upper(name);
+            }
+        }
+        let less = fuel.saturating_sub(1);
+        let ty = self.widen(self.of(node).ty, 0, true)?;
+        let other = self.of_type(ty, less)?;
+        let key = self.key(name, false)?;
+        let key = self.wrapped(key, less);
+        let first = self.rng.chance(75);
+        let (a, b) = if first { (node, other) } else { (other, node) };
+        let look = self.add(Expr::Look(key, a, b, ty))?;
+        self.looked |= 1 << name;
+        match self.rng.below(8) {
+            0 => self.limit(look),
+            1 => {
+                let key = self.key(name, true)?;
+                self.add(Expr::Grant(key, look))
+            }
+            _ => Some(look),
+        }
     }
 
     /// The expression as the argument of a function that hands it back.
@@ -1000,7 +1043,7 @@ impl<'r> Builder<'r> {
                     *v = variable(*v);
                     *ty = self.declare(&mut job, &mut declared, *ty)?;
                 }
-                Expr::NewCell(ty, _) | Expr::Test(_, _, _, ty) => {
+                Expr::NewCell(ty, _) | Expr::Test(_, _, _, ty) | Expr::Look(_, _, _, ty) => {
                     *ty = self.declare(&mut job, &mut declared, *ty)?;
                 }
                 _ => {}
@@ -1064,12 +1107,13 @@ impl<'r> Builder<'r> {
 
     fn rights(&mut self, effect: u64) -> u64 {
         let open = self.names.host() | 2;
-        let rights = match self.rng.below(20) {
+        let rights = match self.rng.below(22) {
             0..12 => effect,
             12..15 => effect | open & self.rng.word() & self.rng.word(),
             15 | 16 => bits(effect).fold(0, |set, name| set | 1 << self.names.upper(name).max(1)),
             17 => 2,
             18 => effect & self.rng.word(),
+            19 | 20 => effect | self.looked,
             _ => open & self.rng.word(),
         };
         self.names.reduce(rights & open)

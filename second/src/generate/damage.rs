@@ -67,6 +67,7 @@ fn other_type(rng: &mut Rng, job: &mut Job, expr: usize) {
         Expr::Function(_, own, _)
         | Expr::NewCell(own, _)
         | Expr::Test(_, _, _, own)
+        | Expr::Look(_, _, _, own)
         | Expr::NewKey(_, _, _, _, own) => *own = ty,
         _ => {}
     }
@@ -169,7 +170,11 @@ fn other_command(rng: &mut Rng, mut expr: Expr) -> Expr {
             keys[..count as usize].rotate_left(1);
             Expr::Limit(count, keys, body)
         }
-        Expr::Test(a, b, c, ty) => Expr::Test(a, c, b, ty),
+        Expr::Test(a, b, c, ty) | Expr::Look(a, b, c, ty) => match rng.below(3) {
+            0 => Expr::Test(a, c, b, ty),
+            1 => Expr::Look(a, c, b, ty),
+            _ => Expr::Look(a, b, c, ty),
+        },
         // The commands of two operands and no type can take each other's place.
         _ => match (expr.type_operand(), &references(&mut expr)[..]) {
             (None, &[&mut a, &mut b]) => match rng.below(7) {

@@ -8,7 +8,7 @@ use crate::read::write;
 /// A job at a limit, or one past it, or near a condition of the reader or of scopes.
 pub fn job(rng: &mut Rng) -> Vec<u8> {
     let past = rng.below(2);
-    match rng.below(23) {
+    match rng.below(27) {
         0 => repeated(rng, &[], &[0x01, 1], &[0x01, 0], 62 + past),
         1 => repeated(rng, &[], &[0x10, 0], &[0x10, 77], 256 + past),
         2 => {
@@ -16,16 +16,7 @@ pub fn job(rng: &mut Rng) -> Vec<u8> {
             let (good, bad) = ([0x20, 1, 0, 7, 0, 0, 0], [0x20, 2, 0, 7, 0, 0, 0]);
             repeated(rng, &cell, &good, &bad, 64 + past)
         }
-        3 => {
-            let mut bytes = write(&tower(511 + past));
-            if rng.chance(50) {
-                // One more expression, whole or cut short, with a reference that is not earlier.
-                let end = bytes.len() - 1;
-                bytes.splice(end.., [0x39, 0xFF, 0x7F, 0xFF]);
-                bytes.truncate(end + 1 + rng.below(4));
-            }
-            bytes
-        }
+        3 => towering(rng, 511 + past),
         4 => write(&tower(240 + rng.below(40))),
         5 => {
             let depth = 15 + rng.below(3);
@@ -38,7 +29,7 @@ pub fn job(rng: &mut Rng) -> Vec<u8> {
         11 => full(rng),
         12..16 => write(&brink(rng)),
         16 | 17 => misplaced(rng),
-        18..21 => edited(rng),
+        18..25 => edited(rng),
         _ => write(&scopes(rng)),
     }
 }
@@ -97,6 +88,21 @@ pub fn tower(count: usize) -> Job {
         });
     }
     Job { types: vec![number(0)], exprs: exprs.0, ..Job::default() }
+}
+
+/// The same, at times with one more expression, whole or cut short, that refers to no earlier one.
+fn towering(rng: &mut Rng, count: usize) -> Vec<u8> {
+    let mut bytes = write(&tower(count));
+    if rng.chance(70) {
+        let more: &[u8] = match rng.below(2) {
+            0 => &[0x39, 0xFF, 0x7F, 0xFF],
+            _ => &[0x40, 0, 0, 1, 0, 0xFF, 0x7F, 0, 0, 0xFF],
+        };
+        let kept = if rng.chance(50) { more.len() } else { 1 + rng.below(more.len()) };
+        bytes.pop();
+        bytes.extend(&more[..kept]);
+    }
+    bytes
 }
 
 /// A job with a declared type of some depth.
@@ -353,7 +359,7 @@ fn full_of_uses(rng: &mut Rng, types: &[Type], hosts: &[HostValue]) -> Vec<Expr>
 }
 
 /// A job of most commands.
-const MOST: [&[u8]; 25] = [
+const MOST: [&[u8]; 31] = [
     &[0x01, 1],
     &[0x02, 2],
     &[0x10, 0],
@@ -378,12 +384,18 @@ const MOST: [&[u8]; 25] = [
     &[0x33, 7, 0, 8, 0],
     &[0x34, 9, 0, 1],
     &[0x35, 11, 0, 0, 10, 0],
+    &[0x32, 1],
+    &[0x30, 7, 0, 0, 0],
+    &[0x35, 12, 0, 0, 13, 0],
+    &[0x40, 12, 0, 11, 0, 14, 0, 5, 0],
+    &[0x30, 8, 0, 0, 0],
+    &[0x36, 15, 0, 16, 0],
     &[0xFF],
 ];
 
 /// Bytes of it on the edge of a condition: command, byte, value.
 #[rustfmt::skip]
-const EDGES: [(usize, usize, u8); 72] = [
+const EDGES: [(usize, usize, u8); 100] = [
     (0, 1, 0), (0, 1, 2), (1, 1, 0), (1, 1, 3), (1, 0, 1), (2, 1, 4), (2, 1, 3), (3, 1, 0),
     (3, 1, 3), (3, 2, 1), (4, 2, 0), (4, 2, 3), (4, 2, 4), (5, 2, 0), (5, 2, 1), (6, 2, 4),
     (6, 3, 1), (7, 4, 5), (7, 6, 1), (7, 6, 2), (7, 6, 6), (7, 6, 12), (7, 6, 8), (7, 6, 16),
@@ -393,7 +405,12 @@ const EDGES: [(usize, usize, u8); 72] = [
     (14, 1, 63), (14, 1, 64), (14, 2, 2), (14, 2, 1), (14, 2, 4), (14, 3, 2), (14, 7, 6),
     (17, 1, 0), (17, 1, 1), (17, 1, 3), (17, 1, 4), (17, 1, 5), (17, 2, 5), (17, 6, 0),
     (17, 7, 0), (17, 9, 0xFE), (19, 1, 1), (19, 1, 2), (19, 2, 7), (22, 3, 0), (22, 3, 2),
-    (22, 3, 3), (23, 1, 2), (23, 1, 10), (23, 1, 64), (23, 2, 1), (24, 0, 0xFE),
+    (22, 3, 3), (23, 1, 2), (23, 1, 10), (23, 1, 64), (23, 2, 1), (30, 0, 0xFE),
+    (27, 0, 0x3B), (27, 0, 0x41), (27, 0, 0x40), (27, 1, 15), (27, 2, 1), (27, 1, 13),
+    (27, 1, 14), (27, 3, 15), (27, 4, 1), (27, 3, 12), (27, 3, 10), (27, 5, 15), (27, 5, 16),
+    (27, 6, 1), (27, 5, 11), (27, 7, 6), (27, 7, 0), (27, 7, 2), (27, 7, 4), (27, 8, 1),
+    (24, 1, 2), (24, 1, 0), (26, 2, 4), (26, 1, 11), (29, 1, 16), (29, 3, 15),
+    (27, 3, 14), (27, 0, 0x41),
 ];
 
 /// A job of most commands with one byte on the edge of a condition, or a command more.
@@ -401,7 +418,7 @@ fn edited(rng: &mut Rng) -> Vec<u8> {
     let mut commands: Vec<Vec<u8>> = MOST.map(<[u8]>::to_vec).into();
     match rng.below(10) {
         0 => {
-            let (at, again) = (rng.below(25), rng.below(25));
+            let (at, again) = (rng.below(MOST.len()), rng.below(MOST.len()));
             let again = commands[again].clone();
             commands.insert(at, again);
         }
@@ -420,8 +437,15 @@ fn edited(rng: &mut Rng) -> Vec<u8> {
 
 /// A job cut off within or after a command that may stand out of its section.
 fn misplaced(rng: &mut Rng) -> Vec<u8> {
-    let commands: [&[u8]; 6] =
-        [&[0x01, 1], &[0x10, 0], &[0x20, 1, 0, 7, 0, 0, 0], &END[..9], &END[9..14], &END[14..]];
+    let commands: [&[u8]; 7] = [
+        &[0x01, 1],
+        &[0x10, 0],
+        &[0x20, 1, 0, 7, 0, 0, 0],
+        &END[..9],
+        &END[9..14],
+        &END[14..],
+        &[0x40, 0, 0, 1, 0, 2, 0, 0, 0],
+    ];
     let mut bytes = vec![0x01, 1, 0x10, 0, 0x12, 2, 0, 0];
     for command in &commands[2..2 + rng.below(4)] {
         bytes.extend(*command);
@@ -463,7 +487,7 @@ fn scopes(rng: &mut Rng) -> Job {
     Job { names, types, rights: 2, exprs: e.0, ..Job::default() }
 }
 
-/// A new key, with functions beside its operands whose types may name it.
+/// A new key, with functions and looks beside its operands whose types may name it.
 fn scoped_key(rng: &mut Rng, e: &mut Exprs, next: &mut u8, turn: u8) -> u16 {
     let top = e.add(Expr::Top);
     let key = beside(rng, e, next, top, 60);
@@ -475,8 +499,8 @@ fn scoped_key(rng: &mut Rng, e: &mut Exprs, next: &mut u8, turn: u8) -> u16 {
     if rng.chance(40) { beside(rng, e, next, made, 50) } else { made }
 }
 
-/// An expression, with a function beside it that is dropped. `next` is the last variable bound; the
-/// type is that of numbers `plain` times in a hundred.
+/// An expression, with a function or a look beside it that is dropped. `next` is the last variable
+/// bound; the type is that of numbers `plain` times in a hundred.
 fn beside(rng: &mut Rng, e: &mut Exprs, next: &mut u8, inner: u16, plain: usize) -> u16 {
     let ty = if rng.chance(plain) { 0 } else { rng.below(7) as u16 };
     let body = match rng.below(4) {
@@ -486,7 +510,13 @@ fn beside(rng: &mut Rng, e: &mut Exprs, next: &mut u8, inner: u16, plain: usize)
     if rng.chance(85) {
         *next += 1;
     }
-    let function = e.add(Expr::Function(*next, ty, body));
+    let function = match rng.below(4) {
+        0 => {
+            let (top, other) = (e.add(Expr::Top), e.number(2));
+            e.add(Expr::Look(top, body, other, ty))
+        }
+        _ => e.add(Expr::Function(*next, ty, body)),
+    };
     let pair = e.add(Expr::Pair(function, inner));
     e.add(Expr::Part(pair, 2))
 }
