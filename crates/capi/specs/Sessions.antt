@@ -8,7 +8,7 @@ use denote.Ref.{now}
 use Rattle.typing.specs.Tables.{Tables}
 use Rattle.machine.specs.View.{seen}
 use Rattle.calls.specs.Words.{over}
-use Rattle.job.specs.Lent.{Table}
+use Rattle.table.specs.Lent.{Table}
 use Rattle.session.specs.declared.Held.{Held}
 use Rattle.session.specs.Session.{SessionTo}
 use Rattle.results.specs.Told.{numberFor, outWords, cell-words, lentShort}

@@ -20,7 +20,7 @@ use Rattle.typing.specs.NumberedLaws.{Inv}
 use Rattle.typing.specs.NumberedVerdict.{lastEntry, lastEffect, filledFrom}
 use Rattle.elaborate.specs.OpsLaws.{jobOps}
 use Rattle.job.specs.declared.Shape.{Shape}
-use Rattle.job.specs.Answer.{shapeOf}
+use Rattle.job.specs.Answer.{shapeOf, noShape}
 use Rattle.load.specs.Loads.{jobTables}
 use Rattle.checker.specs.declared.Verdict.{Verdict}
 use Rattle.checker.specs.declared.Verdict.the-variants.{Accepted, Refused}
@@ -37,9 +37,6 @@ treeOf types sets i = treeIn (suc i) (entryIn types sets) i
 unfoldable pub verdictIn : List ℕ → List ℕ → Verdict → rules.Verdict
 verdictIn types sets (Accepted i s) = rules.accept (treeOf types sets i) (ofWord s)
 verdictIn types sets (Refused n p) = rules.refuse (record { number = n; place = p })
-
-abbrev pub noShape : Shape
-noShape = record { names = 0; types = 0; values = 0; cmds = 0; rights = 0 }
 
 abbrev pub refusedBy : ℕ → ℕ → Checked
 refusedBy n p = record { verdict = Refused n p; shape = noShape }

@@ -1,7 +1,7 @@
 -- The eight lent tables of a contract, before a call and after it.
 use denote.Ref.{now}
 use Rattle.typing.specs.Tables.{Tables}
-use Rattle.job.specs.Lent.{Table}
+use Rattle.table.specs.Lent.{Table}
 use Rattle.load.specs.Lent.{jobBefore, jobAfter}
 use Rattle.checker.specs.Answer.{tables}
 

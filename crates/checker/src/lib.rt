@@ -14,7 +14,7 @@ ghost use Prim.Native.Nat.{ℕ, _%_};
 ghost use Rattle.syntax.specs.Job.{Job};
 ghost use Rattle.syntax.specs.Tree.{predecessor};
 ghost use Rattle.typing.specs.Tables.{cleared};
-ghost use Rattle.checker.specs.Answer.{refusedBy, noShape, Given, Untyped, unlessOne, Judged, CheckTo};
+ghost use Rattle.checker.specs.Answer.{refusedBy, Given, Untyped, unlessOne, Judged, CheckTo};
 ghost use Rattle.checker.specs.Lent.{before, after, typedAfter};
 
 // Accepted, with the entry of the job's type and its effect; or refused, with the number and the place.
@@ -29,22 +29,10 @@ pub struct Checked {
     pub shape: Shape,
 }
 
-fn empty() -> Shape
-    ensures { λ r. ⌜ r ≡ noShape ⌝ }
-{
-    Shape {
-        names: 0,
-        types: 0,
-        values: 0,
-        cmds: 0,
-        rights: 0,
-    }
-}
-
 fn refused(n: u8, p: usize) -> Checked
     ensures { λ r. ⌜ r ≡ refusedBy n p ⌝ }
 {
-    let s = empty();
+    let s = job::no_shape();
     Checked {
         verdict: Verdict::Refused(n, p),
         shape: s,

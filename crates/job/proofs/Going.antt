@@ -25,7 +25,7 @@ use Rattle.names.specs.Ancestors.{namesIn}
 use Rattle.names.specs.Tables as tables
 use Rattle.job.specs.Bytes.{widthByte, restOf}
 use Rattle.job.specs.Entries.{namesAfter, typesAfter, setsAfter, depthsAfter, valuesAfter, headsAfter, slotsAfter, shapeAfter, judgedBy, judgedIn}
-use Rattle.job.specs.Answer.{shapeOf, refusedBy, answerOf, longEnough, longTables, Cleared, Holds, Filled, Put, Small, stopsOf, stoppedOf}
+use Rattle.job.specs.Answer.{shapeOf, noShape, refusedBy, answerOf, longEnough, longTables, Cleared, Holds, Filled, Put, Small, stopsOf, stoppedOf}
 use Rattle.job.specs.Told.{sortOf}
 use Rattle.job.specs.declared.Shape.{Shape}
 use Rattle.job.specs.declared.Answer.{Answer}
@@ -90,7 +90,7 @@ pub record Going (bytes left : List ℕ) (cur : ℕ) (g : Shape) (d n t s v h p 
 
 pub going-first : (bytes : List ℕ) (n t s v h p : List ℕ) (kn kt ks kv kh kp : ℕ) → Long kn kt ks kv kh kp
     → n ≡ replicate kn 0 → t ≡ replicate kt 0 → s ≡ replicate ks 0 → v ≡ replicate kv 0 → h ≡ replicate kh 0 → p ≡ replicate kp 0
-    → Going bytes bytes 0 (record { names = 0; types = 0; values = 0; cmds = 0; rights = 0 }) (replicate 256 0) n t s v h p kn kt ks kv kh kp
+    → Going bytes bytes 0 noShape (replicate 256 0) n t s v h p kn kt ks kv kh kp
 unfolding shapeOf reading flatMap
 going-first bytes n t s v h p kn kt ks kv kh kp l en et es ev eh ep =
     record {
@@ -518,12 +518,12 @@ rest-shorter left h = omega (arith, length-drop (widthByte (getD left 0 0) + 1) 
 
 -- The loop, from its start, over a turn, and at its ends
 
-pub loop-first : (bytes n t u v h p : List ℕ) → longTables n t u v h p ≡ true → Cleared n t u v h p
-    → Loop bytes bytes 0 (record { names = 0; types = 0; values = 0; cmds = 0; rights = 0 }) (replicate 256 0) n t u v h p n t u v h p
-loop-first bytes n t u v h p e z =
+pub loop-first : (bytes n t u v h p : List ℕ) (g : Shape) → g ≡ noShape → longTables n t u v h p ≡ true → Cleared n t u v h p → Loop bytes bytes 0 g (replicate 256 0) n t u v h p n t u v h p
+loop-first bytes n t u v h p g eg e z =
     let l = long-is (length n) (length t) (length u) (length v) (length h) (length p) e in
-    loop-of bytes bytes 0 (record { names = 0; types = 0; values = 0; cmds = 0; rights = 0 }) (replicate 256 0) n t u v h p n t u v h p l
-    (going-first bytes n t u v h p (length n) (length t) (length u) (length v) (length h) (length p) l (z .names) (z .types) (z .sets) (z .values) (z .heads) (z .slots))
+    subst (λ (y : Shape). Loop bytes bytes 0 y (replicate 256 0) n t u v h p n t u v h p) (sym eg)
+    (loop-of bytes bytes 0 noShape (replicate 256 0) n t u v h p n t u v h p l
+    (going-first bytes n t u v h p (length n) (length t) (length u) (length v) (length h) (length p) l (z .names) (z .types) (z .sets) (z .values) (z .heads) (z .slots)))
 
 module _ (bytes left : List ℕ) (cur : ℕ) (g : Shape) (d n t u v h p n₀ t₀ u₀ v₀ h₀ p₀ : List ℕ) (k : Loop bytes left cur g d n t u v h p n₀ t₀ u₀ v₀ h₀ p₀) where
   pub loop-turn : 0 < length left → (e : Entry) → e ≡ judgedIn (getD left 0 0) left cur g n t d → (o : Bool) → o ≡ stopsOf e → o ≡ false

@@ -9,12 +9,13 @@ use lib.Seq.{getD-set-same, getD-set-other}
 use lib.Dec.{ltb}
 use denote.Ref.{now}
 use borrow.Author.Tests.{lt-ltb, le-ltb}
+use Rattle.table.specs.Lent.{Table}
 use Rattle.names.specs.Ancestors.{namesIn, ancestorsBy}
 use Rattle.job.specs.Bytes.{restOf}
 use Rattle.job.specs.Entries.{namesAfter, typesAfter, setsAfter, valuesAfter, headsAfter, slotsAfter, ancestorsAfter, shapeAfter, judgedBy, judgedIn}
 use Rattle.job.specs.Answer.{Filled, Put, stopsOf}
 use Rattle.job.specs.Told.{sortOf, numberOf, lentOf, countedBy, stoppedBy, counted-is, stopped-is, stops-is}
-use Rattle.job.specs.Lent.{Table, PutLent, entryFor, Command}
+use Rattle.job.specs.Lent.{PutLent, entryFor, Command}
 use Rattle.job.specs.declared.Shape.{Shape}
 use Rattle.job.specs.declared.Answer.{Answer}
 use Rattle.job.specs.declared.Entry.{Entry}

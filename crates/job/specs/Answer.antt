@@ -20,6 +20,10 @@ use Rattle.job.specs.declared.Entry.the-variants.{Refuse, Named, Typed, 
 unfoldable pub shapeOf : Job → Shape
 shapeOf J = record { names = length (J .names); types = length (J .types); values = length (J .values); cmds = length (J .cmds); rights = J .rights .set }
 
+-- those of no job
+abbrev pub noShape : Shape
+noShape = record { names = 0; types = 0; values = 0; cmds = 0; rights = 0 }
+
 abbrev pub refusedBy : ℕ → ℕ → Answer
 refusedBy n p = answers.Refused (record { number = n; place = p })
 

@@ -3,8 +3,8 @@ use mathlib.Core.Path.{_≡_}
 use Prim.Native.Nat.{ℕ}
 use mathlib.Core.List.{List}
 use lib.ListN.{length, getD, set}
-use denote.Ref.{RefT, now}
-use denote.Triple.Both.{Both}
+use denote.Ref.{now}
+use Rattle.table.specs.Lent.{Table}
 use Rattle.job.specs.Bytes.{restOf}
 use Rattle.job.specs.Entries.{judgedBy, ancestorsAfter}
 use Rattle.job.specs.Answer.{Put, Zeroed, Filled, ReadTo}
@@ -12,10 +12,6 @@ use Rattle.job.specs.Told.{sortOf, numberOf, lentOf}
 use Rattle.job.specs.declared.Shape.{Shape}
 use Rattle.job.specs.declared.Answer.{Answer}
 use Rattle.job.specs.declared.Entry.{Entry}
-
--- a lent table: before the call, and after it
-abbrev pub Table : Type 0
-Table = Both (RefT (List ℕ)) (RefT (List ℕ))
 
 abbrev pub PutLent : Entry → Shape → Table → Table → Table → Table → Table → Table → Table → Type 0
 PutLent e g d n t s v h p =

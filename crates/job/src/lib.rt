@@ -34,7 +34,7 @@ ghost use Prim.Native.Nat.{_<_};
 ghost use lib.ListN.{getD};
 ghost use mathlib.Core.Bool.{true};
 ghost use Rattle.job.specs.Bytes.{misplacedBy, fullBy};
-ghost use Rattle.job.specs.Answer.{refusedBy, isJob, longTables, Small, Cleared};
+ghost use Rattle.job.specs.Answer.{noShape, refusedBy, isJob, longTables, Small, Cleared};
 ghost use Rattle.job.specs.Told.{stoppedBy};
 ghost use Rattle.job.specs.Lent.{FilledLent, ReadLent, Command};
 ghost use Rattle.job.specs.Entries.{entryOf, judgedBy};
@@ -46,6 +46,19 @@ pub struct Shape {
     pub values: usize,
     pub cmds: usize,
     pub rights: u64,
+}
+
+// The counts of no job.
+pub fn no_shape() -> Shape
+    ensures { λ r. ⌜ r ≡ noShape ⌝ }
+{
+    Shape {
+        names: 0,
+        types: 0,
+        values: 0,
+        cmds: 0,
+        rights: 0,
+    }
 }
 
 pub enum Answer {
@@ -246,15 +259,9 @@ fn fill(
 {
     let mut left = job;
     let mut cur: u8 = 0;
-    let mut g = Shape {
-        names: 0,
-        types: 0,
-        values: 0,
-        cmds: 0,
-        rights: 0,
-    };
+    let mut g = no_shape();
     let mut depths = [0u8; MOST_TYPES];
-    let mut anc = names::ancestors(names, 0);
+    let mut anc = names::ancestors(names, g.names);
     let mut told = [0u8; 2];
     let mut rights = [0u64; 1];
     while 0 < left.len() {

@@ -1,7 +1,7 @@
 -- The six lent tables of a job in a contract, before a call and after it.
 use denote.Ref.{now}
 use Rattle.syntax.specs.Loading.{JobTables}
-use Rattle.job.specs.Lent.{Table}
+use Rattle.table.specs.Lent.{Table}
 use Rattle.load.specs.Loads.{jobTables}
 
 abbrev pub jobBefore : Table → Table → Table → Table → Table → Table → JobTables

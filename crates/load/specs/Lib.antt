@@ -1,3 +1,4 @@
 pub mod Loads
 pub mod Lent
 pub mod Cases
+pub mod Kept

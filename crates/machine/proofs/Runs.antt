@@ -1,6 +1,6 @@
 -- The turns of a run.
 use Prim.Native.Nat.{ℕ, zero, suc, _-_, _+_, _<_, _≤_}
-use mathlib.Core.Path.{_≡_, refl, ap, sym, _∙_}
+use mathlib.Core.Path.{_≡_, refl, ap, ap₂, sym, _∙_}
 use mathlib.Core.Bool.{Bool, true, false, cond}
 use native.Mathlib.Omega.{arith}
 use Rattle.syntax.specs.Commands.{Cmd}
@@ -8,10 +8,14 @@ use Rattle.semantics.specs.Machine.{Machine as Clean}
 use Rattle.semantics.specs.Step.{Out, o-step, o-done, o-room, o-stuck, o-denied, step}
 use Rattle.semantics.specs.Room.{isDone}
 use Rattle.semantics.specs.Calls.{stepsOf, Answer as SAnswer, taken, finished, spent, noroom, stuck, denied, Ran, ran, turn, run, call, one-step}
+use Rattle.store.specs.declared.Used.{Used}
+use Rattle.machine.specs.declared.Thread.{Thread}
+use Rattle.machine.specs.declared.State.{State}
 use Rattle.machine.specs.declared.Answer.{Answer}
 use Rattle.machine.specs.declared.Answer.the-variants.{Taken, Finished, Spent, NoRoom, Stuck, Denied}
 use Rattle.machine.specs.Meaning.{answerIn}
-use Rattle.machine.specs.Inner.{Stepped, settled, isTaken, loopOf, closing}
+use Rattle.machine.specs.View.{Tables, view, stateOf}
+use Rattle.machine.specs.Inner.{Stepped, settled, isTaken, threadOf, usedOf, loopOf, closing}
 
 abbrev took : SAnswer → Bool
 took taken = true
@@ -96,3 +100,10 @@ module _ {T : Type 0} (code : ℕ → Cmd T) where
 pub run-closed :
     {T : Type 0} (code : ℕ → Cmd T) (n k : ℕ) (m p : Clean) {a b : SAnswer} {d : Bool} → ran a k p ≡ loopOf code n 0 m → d ≡ isDone p → b ≡ closing d a → ran b k p ≡ run (stepsOf code) n 0 m
 run-closed code n k m p hr hd hb = simp (hb, hd) (ap (λ (r : Ran). ran (closing (isDone (r .machine)) (r .answer)) (r .count) (r .machine)) hr ∙ loop-run code n 0 m)
+
+-- a machine is taken apart into the state of its thread and store, and put together again
+pub from-parts : {T : Type 0} (code : ℕ → Cmd T) (n : ℕ) (w : Tables) {s : State} {t : Thread} {u : Used} → s ≡ stateOf t u → loopOf code n 0 (view s w) ≡ loopOf code n 0 (view (stateOf t u) w)
+from-parts code n w e = ap (λ (x : State). loopOf code n 0 (view x w)) e
+
+pub to-parts : (a : SAnswer) (k : ℕ) (w : Tables) {s : State} {t : Thread} {u : Used} → t ≡ threadOf s → u ≡ usedOf s → ran a k (view (stateOf t u) w) ≡ ran a k (view s w)
+to-parts a k w e f = ap₂ (λ (x : Thread) (y : Used). ran a k (view (stateOf x y) w)) e f

@@ -15,6 +15,7 @@ use Rattle.table.specs.declared.Expr.{Expr}
 use Rattle.store.specs.declared.Keys.{Keys}
 use Rattle.store.specs.declared.Kind.{Kind}
 use Rattle.store.specs.declared.Value.{Value}
+use Rattle.store.specs.declared.Used.{Used}
 use Rattle.store.specs.Meaning.{ownIn}
 use Rattle.machine.specs.declared.Answer.{Answer}
 use Rattle.machine.specs.declared.Answer.the-variants.{Taken, Finished, Spent, NoRoom, Stuck, Denied}
@@ -22,6 +23,7 @@ use Rattle.machine.specs.declared.Control.the-variants.{Enter, Hand}
 use Rattle.machine.specs.declared.Limits.{Limits}
 use Rattle.machine.specs.declared.Limits.the-variants.{All, Other}
 use Rattle.machine.specs.declared.Now.{Now}
+use Rattle.machine.specs.declared.Thread.{Thread}
 use Rattle.machine.specs.declared.State.{State}
 use Rattle.machine.specs.declared.Acted.{Acted}
 use Rattle.machine.specs.declared.Ended.{Ended}
@@ -76,6 +78,13 @@ putFunctions w x = record { frames = w .frames; cells = w .cells; keys = w .keys
 
 abbrev pub putBindings : Tables → List ℕ → Tables
 putBindings w x = record { frames = w .frames; cells = w .cells; keys = w .keys; pairs = w .pairs; functions = w .functions; bindings = x }
+
+-- the thread of a state, and what its store uses
+abbrev pub threadOf : State → Thread
+threadOf s = record { now = s .now; frames = s .frames }
+
+abbrev pub usedOf : State → Used
+usedOf s = record { cells = s .cells; keys = s .keys; pairs = s .pairs; functions = s .functions; bindings = s .bindings }
 
 abbrev pub stopOf : State → Answer → Acted
 stopOf t a = record { state = t; answer = a }

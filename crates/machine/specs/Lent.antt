@@ -1,16 +1,11 @@
 -- The lent tables of a contract, before and after a call.
 use Prim.Native.Nat.{ℕ}
-use mathlib.Core.List.{List}
-use denote.Ref.{RefT, now}
-use denote.Triple.Both.{Both}
+use denote.Ref.{now}
 use Rattle.syntax.specs.Commands.{Cmd}
 use Rattle.syntax.specs.Words.{codeIn}
+use Rattle.table.specs.Lent.{Table}
 use Rattle.machine.specs.View.{Tables, tables}
 use Rattle.machine.specs.Inner.{putFrames, putCells, putKeys, putPairs, putFunctions, putBindings}
-
--- a lent table: before the call, and after it
-abbrev pub Table : Type 0
-Table = Both (RefT (List ℕ)) (RefT (List ℕ))
 
 -- the expressions that the heads and slots hold
 abbrev pub lentCode : Table → Table → ℕ → Cmd ℕ

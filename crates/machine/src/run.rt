@@ -18,8 +18,8 @@ ghost use Rattle.syntax.specs.Words.{codeIn};
 ghost use Rattle.semantics.specs.Room.{isDone};
 ghost use Rattle.semantics.specs.Calls.{stepsOf, one-step, call, run};
 ghost use Rattle.machine.specs.Meaning.{answerIn};
-ghost use Rattle.machine.specs.View.{Tables, view, seen, ranIn};
-ghost use Rattle.machine.specs.Inner.{isTaken, loopOf, ended, closing};
+ghost use Rattle.machine.specs.View.{Tables, view, stateOf, seen, ranIn};
+ghost use Rattle.machine.specs.Inner.{isTaken, threadOf, usedOf, loopOf, ended, closing};
 ghost use Rattle.machine.specs.Lent.{lentCode, before, after};
 
 fn is_taken(a: Answer) -> bool
@@ -120,23 +120,51 @@ impl State {
     }
 }
 
+// The state of a thread over a store that uses so much.
+fn joined(thread: Thread, used: Used) -> State
+    ensures { λ r. ⌜ r ≡ stateOf thread used ⌝ }
+{
+    let now = thread.now;
+    State {
+        now: now,
+        frames: thread.frames,
+        cells: used.cells,
+        keys: used.keys,
+        pairs: used.pairs,
+        functions: used.functions,
+        bindings: used.bindings,
+    }
+}
+
+// The thread of a state, and what its store uses.
+fn thread_of(s: State) -> Thread
+    ensures { λ r. ⌜ r ≡ threadOf s ⌝ }
+{
+    let now = s.now;
+    Thread {
+        now: now,
+        frames: s.frames,
+    }
+}
+
+fn used_of(s: State) -> Used
+    ensures { λ r. ⌜ r ≡ usedOf s ⌝ }
+{
+    Used {
+        cells: s.cells,
+        keys: s.keys,
+        pairs: s.pairs,
+        functions: s.functions,
+        bindings: s.bindings,
+    }
+}
+
 impl Machine {
     // One step, by the loop of `run`: a second caller of the state's step would keep it from being inlined there.
     pub fn step(self, heads: &[u64], slots: &[u16]) -> Outcome
         ensures { λ r. ⌜ ranIn r ≡ call (stepsOf (codeIn (now (heads .entry)) (now (slots .entry)))) one-step (seen self) ⌝ }
     {
-        let thread = self.thread;
-        let used = self.used;
-        let now = thread.now;
-        let start = State {
-            now: now,
-            frames: thread.frames,
-            cells: used.cells,
-            keys: used.keys,
-            pairs: used.pairs,
-            functions: used.functions,
-            bindings: used.bindings,
-        };
+        let start = joined(self.thread, self.used);
         let mut frames = self.frames;
         let mut cells = self.cells;
         let mut keys = self.keys;
@@ -156,19 +184,9 @@ impl Machine {
         );
         let next = s.state;
         let answer = s.answer;
-        let now = next.now;
         let m = Machine {
-            thread: Thread {
-                now: now,
-                frames: next.frames,
-            },
-            used: Used {
-                cells: next.cells,
-                keys: next.keys,
-                pairs: next.pairs,
-                functions: next.functions,
-                bindings: next.bindings,
-            },
+            thread: thread_of(next),
+            used: used_of(next),
             frames: frames,
             cells: cells,
             keys: keys,
@@ -187,18 +205,7 @@ impl Machine {
     pub fn run(self, n: u64, heads: &[u64], slots: &[u16]) -> Outcome
         ensures { λ r. ⌜ ranIn r ≡ run (stepsOf (codeIn (now (heads .entry)) (now (slots .entry)))) n 0 (seen self) ⌝ }
     {
-        let thread = self.thread;
-        let used = self.used;
-        let now = thread.now;
-        let start = State {
-            now: now,
-            frames: thread.frames,
-            cells: used.cells,
-            keys: used.keys,
-            pairs: used.pairs,
-            functions: used.functions,
-            bindings: used.bindings,
-        };
+        let start = joined(self.thread, self.used);
         let mut frames = self.frames;
         let mut cells = self.cells;
         let mut keys = self.keys;
@@ -217,22 +224,11 @@ impl Machine {
             &mut bindings,
         );
         let next = s.state;
-        let done = next.is_done();
         let a = s.answer;
-        let answer = close(done, a);
-        let now = next.now;
+        let answer = close(next.is_done(), a);
         let m = Machine {
-            thread: Thread {
-                now: now,
-                frames: next.frames,
-            },
-            used: Used {
-                cells: next.cells,
-                keys: next.keys,
-                pairs: next.pairs,
-                functions: next.functions,
-                bindings: next.bindings,
-            },
+            thread: thread_of(next),
+            used: used_of(next),
             frames: frames,
             cells: cells,
             keys: keys,

@@ -18,14 +18,14 @@ use Rattle.initial.specs.Held.{filled-holds}
 use Rattle.job.specs.declared.Shape.{Shape}
 use Rattle.job.specs.declared.Answer.{Answer}
 use Rattle.job.specs.declared.Answer.the-variants as answers
-use Rattle.job.specs.Answer.{shapeOf}
+use Rattle.job.specs.Answer.{shapeOf, noShape}
 use Rattle.load.specs.Loads.{LoadTo}
 use Rattle.load.specs.Cases.{Loaded, refused-by, job-loaded}
 use Rattle.start.specs.declared.Told.{Told}
-use Rattle.start.specs.Starts.{Starts, toldOf, noCounts, countsIn, builtFrom, Ready, ready-built}
+use Rattle.start.specs.Starts.{Starts, toldOf, countsIn, builtFrom, Ready, ready-built}
 
 -- of no job the empty machine is built, whatever the tables hold
-pub none-built : (n t v : List ℕ) → builtFrom noCounts n t v ≡ emptyMachine
+pub none-built : (n t v : List ℕ) → builtFrom noShape n t v ≡ emptyMachine
 unfolding builtFrom sourceIn isJob _and_
 none-built n t v = empty-is
 

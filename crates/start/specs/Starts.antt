@@ -16,7 +16,7 @@ use Rattle.initial.specs.Held.{Holds, held-start}
 use Rattle.job.specs.declared.Shape.{Shape}
 use Rattle.job.specs.declared.Answer.{Answer}
 use Rattle.job.specs.declared.Answer.the-variants as answers
-use Rattle.job.specs.Answer.{shapeOf}
+use Rattle.job.specs.Answer.{shapeOf, noShape}
 use Rattle.start.specs.declared.Told.{Told}
 use Rattle.start.specs.declared.Told.the-variants as told
 use Rattle.start.specs.declared.Opened.{Opened}
@@ -40,12 +40,9 @@ unfoldable pub toldOf : Answer → Told
 toldOf (answers.Job g) = told.Started
 toldOf (answers.Refused k) = told.Refused (k .number) (k .place)
 
-abbrev pub noCounts : Shape
-noCounts = record { names = 0; types = 0; values = 0; cmds = 0; rights = 0 }
-
 unfoldable pub countsIn : Answer → Shape
 countsIn (answers.Job g) = g
-countsIn (answers.Refused k) = noCounts
+countsIn (answers.Refused k) = noShape
 
 -- the machine at the start of the job that words hold, with the counts and rights of g; the empty one where the counts are no job's
 unfoldable pub builtFrom : Shape → List ℕ → List ℕ → List ℕ → Clean

@@ -83,13 +83,7 @@ pub fn empty() -> Machine
 {
     let names = [0u16; 1];
     let words = [0u64; 1];
-    let g = Shape {
-        names: 0,
-        types: 0,
-        values: 0,
-        cmds: 0,
-        rights: 0,
-    };
+    let g = job::no_shape();
     built(g, &names, &words, &words)
 }
 
@@ -99,13 +93,7 @@ fn counts(a: Answer) -> Shape
 {
     match a {
         Answer::Job(g) => g,
-        Answer::Refused(_) => Shape {
-            names: 0,
-            types: 0,
-            values: 0,
-            cmds: 0,
-            rights: 0,
-        },
+        Answer::Refused(_) => job::no_shape(),
     }
 }
 

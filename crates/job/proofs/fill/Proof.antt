@@ -15,11 +15,14 @@ abbrev μ-loop : tie.MeasureT-loop
 μ-loop job names₀ types₀ sets₀ values₀ heads₀ slots₀ left₀ cur₀ g₀ depths₀ anc₀ told₀ rights₀ names types sets values heads slots left cur g depths anc told rights =
     length left
 
+no-shape-requires : tie.Need-no-shape-requires Inv-loop μ-loop
+no-shape-requires c κs = search needs
+
 ancestors-requires : tie.Need-ancestors-requires Inv-loop μ-loop
 ancestors-requires c κs = search needs
 
 loop-holds : tie.Need-loop-holds Inv-loop μ-loop
-loop-holds c = record { loop = loop-first _ _ _ _ _ _ _ (c .before .before .before .before .before .before .before .before .before .pre .0) (c .before .before .before .before .before .before .before .before .before .pre .1); ancestors = c .ancestors .ensures; two = refl; one = refl }
+loop-holds c = record { loop = loop-first _ _ _ _ _ _ _ _ (c .before .before .no-shape .ensures) (c .before .before .before .before .before .before .before .before .before .before .pre .0) (c .before .before .before .before .before .before .before .before .before .before .pre .1); ancestors = c .ancestors .ensures; two = refl; one = refl }
 
 slice-aggregate-command : tie.Need-slice-aggregate-command Inv-loop μ-loop
 slice-aggregate-command c = sym (c .before .before .before .loop .inv .loop .depths)
@@ -40,7 +43,7 @@ sub-stopped : tie.Need-sub-stopped Inv-loop μ-loop
 sub-stopped c = omega (arith, c .before .before .before .before .before .before .before .before .before .before .before .before .before .before .before .before .before .before .before .before .before .before .before .before .before .before .loop .inv .loop .within)
 
 stopped-requires : tie.Need-stopped-requires Inv-loop μ-loop
-stopped-requires c κs = search (needs, c .before .before .before .before .before .before .before .before .before .before .before .before .before .before .before .before .before .before .before .before .before .before .before .before .before .before .before .before .before .before .before .before .before .before .before .before .good .0, c .before .before .before .before .before .before .before .before .before .before .before .before .before .before .before .before .before .before .before .before .before .before .before .before .before .before .loop .inv .loop .within)
+stopped-requires c κs = search (needs, c .before .before .before .before .before .before .before .before .before .before .before .before .before .before .before .before .before .before .before .before .before .before .before .before .before .before .before .before .before .before .before .before .before .before .before .before .before .good .0, c .before .before .before .before .before .before .before .before .before .before .before .before .before .before .before .before .before .before .before .before .before .before .before .before .before .before .loop .inv .loop .within)
 
 same-length : tie.Need-same-length Inv-loop μ-loop
 same-length c = stop-long (c .before .before .before .before .before .before .before .before .before .before .before .before .before .before .before .before .before .before .before .before .before .before .before .before .before .before .before .loop .inv) (c .before .before .before .before .before .before .before .before .before .before .before .before .before .before .before .before .before .before .before .before .before .before .before .before .before .before .loop-test .taken) refl (c .before .before .before .before .before .before .before .before .before .before .before .before .before .before .before .command .ensures .tables) (c .before .before .before .before .before .before .before .before .before .before .before .before .before .before .before .command .ensures .ancestors) (c .before .before .before .before .before .before .before .before .before .before .before .before .before .before .before .command .ensures .told-is) (c .before .before .before .before .before .before .before .before .before .before .before .before .before .before .before .command .ensures .rights-are) (c .before .if1 .taken) .names
@@ -111,6 +114,7 @@ fill-spec =
     (tie.spec
     Inv-loop
     μ-loop
+    no-shape-requires
     ancestors-requires
     loop-holds
     slice-aggregate-command
