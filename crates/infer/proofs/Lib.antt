@@ -1,3 +1,4 @@
 pub mod Sorts
+pub mod Branches
 pub mod Keys
 pub mod Fields

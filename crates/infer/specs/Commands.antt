@@ -1,6 +1,6 @@
 -- The result of each command from what is known of its operands: the clauses of `resultAt`, with the operands' entries and effects in place of their numbers.
 use Prim.Native.Nat.{ℕ, zero, suc, _+_, _/_, _%_}
-use mathlib.Core.Bool.{Bool, cond}
+use mathlib.Core.Bool.{Bool, false, cond}
 use mathlib.Core.List.{List, [], _∷_}
 use lib.ListN.{getD, take}
 use lib.Dec.{eqb, ltb}
@@ -22,6 +22,9 @@ operandAt slots entries effects j = record { ty = getD entries (getD slots j 0) 
 
 abbrev pub fitsBy : List ℕ → List ℕ → List ℕ → ℕ → ℕ → Bool
 fitsBy anc types sets a t = subIn (belowBy anc) (effectsBy anc) most-depth (entryIn types sets) a t
+
+abbrev pub branchesFit : List ℕ → List ℕ → List ℕ → ℕ → ℕ → ℕ → Bool
+branchesFit anc types sets a b t = cond (fitsBy anc types sets a t) (fitsBy anc types sets b t) false
 
 abbrev pub numberBy : Result
 numberBy = makes [] (e-num 0) pure

@@ -75,6 +75,26 @@ fn fits<'a>(
     types::below(MOST_DEPTH, anc, types, sets, a, t, known)
 }
 
+// Whether the types of two branches are subtypes of type t.
+fn branches_fit<'a>(
+    anc: &'a [u64; MOST_NAMES],
+    types: &'a [u64],
+    sets: &'a [u64],
+    a: u16,
+    b: u16,
+    t: u16,
+    known: &mut [u64],
+) -> bool
+    requires { ⌜ Known (now anc) (now types) (now sets) (now known) ⌝ }
+    ensures { λ r. ⌜ (r ≡ by.branchesFit (now (anc .entry)) (now (types .entry)) (now (sets .entry)) a b t)
+        × Known (now (anc .entry)) (now (types .entry)) (now (sets .entry)) (now (known .exit)) ⌝ }
+{
+    if fits(anc, types, sets, a, t, known) {
+        return fits(anc, types, sets, b, t, known);
+    }
+    false
+}
+
 // 0x30, 0x31, 0x32.
 fn number() -> Typing
     ensures { λ r. ⌜ resultIn r ≡ by.numberBy ⌝ }
@@ -243,10 +263,7 @@ fn test<'a>(
     let Entry::Number(q) = entry_at(types, sets, x.ty) else {
         return Typing::Wrong(11);
     };
-    if fits(anc, types, sets, y.ty, t, known) {} else {
-        return Typing::Wrong(12);
-    }
-    if fits(anc, types, sets, z.ty, t, known) {} else {
+    if branches_fit(anc, types, sets, y.ty, z.ty, t, known) {} else {
         return Typing::Wrong(12);
     }
     let s = join(x.effect, join(y.effect, z.effect));
@@ -420,10 +437,7 @@ fn access<'a>(
     let Entry::Limit(q, r) = entry_at(types, sets, x.ty) else {
         return Typing::Wrong(11);
     };
-    if fits(anc, types, sets, y.ty, t, known) {} else {
-        return Typing::Wrong(12);
-    }
-    if fits(anc, types, sets, z.ty, t, known) {} else {
+    if branches_fit(anc, types, sets, y.ty, z.ty, t, known) {} else {
         return Typing::Wrong(12);
     }
     let s = join(
