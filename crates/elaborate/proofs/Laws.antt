@@ -1,18 +1,14 @@
 -- Laws that the functions' proofs cite: binders and entries by their kinds, and one turn of each loop.
-use mathlib.Core.Path.{_≡_, refl, sym, ap, _∙_, subst, subst⁻¹}
+use mathlib.Core.Path.{_≡_, refl, sym, ap, _∙_, subst}
 use Prim.Native.Nat.{ℕ, zero, suc, _+_, _-_, _/_, _%_, _<_, _≤_}
 use native.Mathlib.Omega.{arith}
-use mathlib.Core.Bool.{Bool, true, false, cond}
 use mathlib.Core.List.{List, [], _∷_}
 use lib.ListN.{getD, set, replicate}
-use lib.Dec.{eqb}
-use borrow.Author.Tests.{ne-eqb}
 use types.Run.{OneOf, miss}
 use denote.Enum.Declared.{tagOf}
 use Rattle.syntax.specs.Types.{e-num}
-use Rattle.syntax.specs.Commands.{Cmd}
 use Rattle.syntax.specs.Words.{setWord, decode, codeIn}
-use Rattle.syntax.specs.DecodeLaws.{decodeBy, decode-is}
+use Rattle.syntax.specs.DecodeLaws.{decode-cases}
 use Rattle.typing.specs.Numbered.{Result, makes, points, wrong}
 use Rattle.types.specs.declared.Entry.{Entry}
 use Rattle.types.specs.declared.Entry.the-variants.{Number, Pair, Cell, Limit, Grant}
@@ -36,18 +32,11 @@ use Rattle.elaborate.specs.Pass.{Work, work, nextOf, settled, Settled, O
 
 -- Kinds
 
-either : (b : Bool) (k l : Cmd ℕ) → Nothing ≡ binderOf k → Nothing ≡ binderOf l → Nothing ≡ binderOf (cond b k l)
-either true k l h g = h
-either false k l h g = g
-
 pub no-binder : (byte x a b c d e : ℕ) → (byte ≡ 0x35 → ⊥) → (byte ≡ 0x3E → ⊥) → Nothing ≡ binderOf (decode byte x a b c d e)
-unfolding decodeBy binderOf
-no-binder byte x a b c d e h g =
-    subst⁻¹ (λ k. Nothing ≡ binderOf k) (decode-is byte x a b c d e)
-    (rw (ne-eqb byte 0x35 h, ne-eqb byte 0x3E g)
-    (either (eqb byte 0x31) _ _ refl (either (eqb byte 0x32) _ _ refl (either (eqb byte 0x33) _ _ refl (either (eqb byte 0x34) _ _ refl (either (eqb byte 0x36) _ _ refl
-    (either (eqb byte 0x37) _ _ refl (either (eqb byte 0x38) _ _ refl (either (eqb byte 0x39) _ _ refl (either (eqb byte 0x3A) _ _ refl (either (eqb byte 0x3B) _ _ refl
-    (either (eqb byte 0x3C) _ _ refl (either (eqb byte 0x3D) _ _ refl (either (eqb byte 0x3F) _ _ refl (either (eqb byte 0x40) _ _ refl refl)))))))))))))))
+unfolding binderOf
+no-binder byte x a b c d e h g = decode-cases (λ k. Nothing ≡ binderOf k) byte x a b c d e
+    (λ z. refl) (λ z. refl) (λ z. refl) (λ z. refl) (λ z. absurd (h z)) (λ z. refl) (λ z. refl) (λ z. refl) (λ z. refl) (λ z. refl)
+    (λ z. refl) (λ z. refl) (λ z. refl) (λ z. absurd (g z)) (λ z. refl) (λ z. refl) refl
 
 pub no-set : (e : Entry) → OneOf (0 ∷ 1 ∷ 2 ∷ 4 ∷ 5 ∷ 6 ∷ []) (tagOf the-type e) → 0 ≡ setWord (made (entryOf e))
 unfolding setWord made entryOf

@@ -23,7 +23,7 @@ use Rattle.semantics.specs.Step.{Out, o-step, o-done, o-room, o-stuck, o
 use Rattle.semantics.specs.Step.{seek, variable, actPair, actPart, actFn, actApp, actNew, actAsg, actRead, actSum, actTest, limitKeys, keysOf, actLim, actGrant, makeKey, actNewkey, actAssoc, actAccess}
 use Rattle.semantics.specs.Step.{push, act, enterAt, enterCmd, receive, handTo, planOn, plan, step}
 use Rattle.semantics.specs.Room.{doneAt, isDone, lacking, anyLacking}
-use Rattle.semantics.specs.Wants.{Use, read, write, read-and-write, takes, touches, anything, a-number, a-pair, a-function, a-cell, a-limit, a-grant, alike, wantsOf, holds, isThere, byKind, yes, no, suits, suit, isTouched, touchedIn, acting, toEnter, toReceive, toHand, needsOn, needs, wrong, shut, lacks, Stuck, Denied, NoRoom, Ready}
+use Rattle.semantics.specs.Wants.{Use, read, write, read-and-write, takes, touches, anything, a-number, a-pair, a-function, a-cell, a-limit, a-grant, alike, wantsOf, holds, isThere, byKind, yes, no, suits, suit, isTouched, touchedIn, touched, acting, toEnter, toReceive, toHand, needsOn, needs, wrong, shut, lacks, Stuck, Denied, NoRoom, Ready}
 use Rattle.semantics.specs.Calls.{Steps, stepsOf}
 
 -- done, wrong, shut and lacking, in this order, against an outcome
@@ -187,7 +187,7 @@ all-touched (v ∷ vs) = rw (all-touched vs)
 
 module _ {T : Type 0} where
   act-exact : (k : Cmd T) (h : List Value) (t u : Thread) (s : Store)
-      → ExactPlan s (t .on) false (not (acting k h (t .env) (t .on) s .suited)) (acting k h (t .env) (t .on) s .touched)
+      → ExactPlan s (t .on) false (not (acting k h (t .env) (t .on) s .suited)) (touched (acting k h (t .env) (t .on) s))
       (anyLacking (acting k h (t .env) (t .on) s .places) (record { thread = u; store = s })) (act k h (record { thread = t; store = s }))
   unfolding act acting wantsOf Operands.usesVar Sets.all-of touchedIn isTouched holds suits _and_ anyLacking lacking actPair actPart actFn actApp actNew actAsg actRead actSum actTest actLim actGrant makeKey actNewkey actAssoc actAccess variable found
   act-exact (c-num n) h t u s = bare-exact true h _ (xp-try refl refl)
@@ -213,25 +213,25 @@ module _ {T : Type 0} where
   act-exact (c-access a b c ty) h t u s = one-exact (touches read a-limit) h _ (λ v. rw (is-limit (v .kind) s) (found-exact (asLim (v .kind)) _ (λ x. true) true (λ j. xp-try refl refl)))
 
   enter-exact : (e : ℕ) (l : List ℕ) (k : Cmd T) (m : Machine)
-      → ExactPlan (m .store) (toEnter l k m .on) false (not (toEnter l k m .suited)) (toEnter l k m .touched) (anyLacking (toEnter l k m .places) m) (enterAt e l k m)
-  unfolding enterAt toEnter push anyLacking lacking acting
+      → ExactPlan (m .store) (toEnter l k m .on) false (not (toEnter l k m .suited)) (touched (toEnter l k m)) (anyLacking (toEnter l k m .places) m) (enterAt e l k m)
+  unfolding enterAt toEnter push anyLacking lacking acting touchedIn
   enter-exact e [] k m = act-exact k [] (m .thread) (m .thread) (m .store)
   enter-exact e (a ∷ l) k m = xp-try refl (one-full (length (m .thread .frames)) most-frames)
 
 module _ {T : Type 0} (code : ℕ → Cmd T) where
   receive-exact : (o : Option ℕ) (f : Frame) (h : List Value) (fs : List Frame) (m : Machine)
-      → let n = toReceive o (code (f .at)) f h m in ExactPlan (m .store) (n .on) false (not (n .suited)) (n .touched) (anyLacking (n .places) m) (receive code o f h fs m)
-  unfolding receive toReceive anyLacking acting
+      → let n = toReceive o (code (f .at)) f h m in ExactPlan (m .store) (n .on) false (not (n .suited)) (touched n) (anyLacking (n .places) m) (receive code o f h fs m)
+  unfolding receive toReceive anyLacking acting touchedIn
   receive-exact none f h fs m = act-exact (code (f .at)) h _ (m .thread) (m .store)
   receive-exact (some a) f h fs m = xp-try refl refl
 
   pub on-exact : (c : Control) (m : Machine)
-      → let n = needsOn code c m in ExactPlan (m .store) (n .on) (doneAt c (m .thread .frames)) (not (n .suited)) (n .touched) (anyLacking (n .places) m) (planOn code c m)
-  unfolding doneAt needsOn planOn toHand handTo enterCmd anyLacking
+      → let n = needsOn code c m in ExactPlan (m .store) (n .on) (doneAt c (m .thread .frames)) (not (n .suited)) (touched n) (anyLacking (n .places) m) (planOn code c m)
+  unfolding doneAt needsOn planOn toHand handTo enterCmd anyLacking touchedIn
   on-exact (enter e) m = enter-exact e (evaluated (code e)) (code e) m
   on-exact (hand v) m = at (m .thread .frames)
     where
-      at : (fs : List Frame) → let n = toHand code v fs m in ExactPlan (m .store) (n .on) (doneAt (hand v) fs) (not (n .suited)) (n .touched) (anyLacking (n .places) m) (handTo code v fs m)
+      at : (fs : List Frame) → let n = toHand code v fs m in ExactPlan (m .store) (n .on) (doneAt (hand v) fs) (not (n .suited)) (touched n) (anyLacking (n .places) m) (handTo code v fs m)
       at [] = xp-done
       at (f ∷ fs) = receive-exact (getElem? (evaluated (code (f .at))) (suc (length (f .hand)))) f (f .hand ++ (v ∷ [])) fs m
 

@@ -19,7 +19,7 @@ use Rattle.semantics.specs.Keys.{enabled}
 use Rattle.semantics.specs.Step.{Out, o-step, o-denied, Plan, p-done, p-wrong, p-try, handing, withCells, room, touch, touchAll, settle, asNum, asPair, asFn, asCell, asLim, asGrant, found, bare, one, two}
 use Rattle.semantics.specs.Step.{seek, variable, actPair, actPart, actFn, actApp, actNew, actAsg, actRead, actSum, actTest, limitKeys, actLim, actGrant, makeKey, actNewkey, actAssoc, actAccess}
 use Rattle.semantics.specs.Step.{resume, push, act, enterAt, enterCmd, receive, handTo, planOn, plan, step}
-use Rattle.semantics.specs.Wants.{Usage, read, write, read-and-write, Use, touches, a-limit, alike, wantsOf}
+use Rattle.semantics.specs.Wants.{Usage, read, write, read-and-write, Use, touches, a-limit, alike, wantsOf, acting, toEnter, toReceive, toHand, needsOn, needs}
 
 -- the machine after a plan, if its room is found free, is one of P
 data Ends (P : Machine → Type 0) : Plan → Type 0 where
@@ -174,28 +174,6 @@ unfoldable pub anyWritten : List Use → Bool
 anyWritten [] = false
 anyWritten (u ∷ us) = isWrite (u .touch) or anyWritten us
 
--- The operands of the act that the next step makes, as `Wants` finds what the step needs. A push, and a frame that still lacks an operand, act on nothing.
-module _ {T : Type 0} where
-  unfoldable pub usesEntering : List ℕ → Cmd T → List Use
-  usesEntering [] k = wantsOf k 0 .uses
-  usesEntering (a ∷ l) k = []
-
-  unfoldable pub usesReceiving : Option ℕ → Cmd T → List Value → List Use
-  usesReceiving (some a) k h = []
-  usesReceiving none k h = wantsOf k (length h) .uses
-
-module _ {T : Type 0} (code : ℕ → Cmd T) where
-  unfoldable pub usesHanding : Value → List Frame → List Use
-  usesHanding v [] = []
-  usesHanding v (f ∷ fs) = usesReceiving (getElem? (evaluated (code (f .at))) (suc (length (f .hand)))) (code (f .at)) (f .hand ++ (v ∷ []))
-
-  unfoldable pub usesOn : Control → List Frame → List Use
-  usesOn (enter e) fs = usesEntering (evaluated (code e)) (code e)
-  usesOn (hand v) fs = usesHanding v fs
-
-  unfoldable pub usesOf : Machine → List Use
-  usesOf m = usesOn (m .thread .control) (m .thread .frames)
-
 -- every cell of s, n has with the same value
 pub record Kept (s : Store) (n : Machine) : Type 0 where
   pub at : (i : ℕ) (v : Value) → getElem? (s .cells) i ≡ some v → getElem? (n .store .cells) i ≡ some v
@@ -222,29 +200,29 @@ module _ {T : Type 0} where
   act-keeps (c-assoc a b) h m r = two-ends h _ (λ v w. found-ends (asLim (w .kind)) _ (λ j. en-try (λ e. record { at = λ i v z. z })))
   act-keeps (c-access a b c t) h m r = one-ends h _ (λ v. found-ends (asLim (v .kind)) _ (λ j. en-try (λ e. record { at = λ i v z. z })))
 
-  enter-keeps : (e : ℕ) (l : List ℕ) (k : Cmd T) (m : Machine) → anyWritten (usesEntering l k) ≡ false → Ends (Kept (m .store)) (enterAt e l k m)
-  unfolding enterAt push usesEntering
+  enter-keeps : (e : ℕ) (l : List ℕ) (k : Cmd T) (m : Machine) → anyWritten (toEnter l k m .uses) ≡ false → Ends (Kept (m .store)) (enterAt e l k m)
+  unfolding enterAt push toEnter acting
   enter-keeps e [] k m r = act-keeps k [] m r
   enter-keeps e (a ∷ l) k m r = en-try (λ e. record { at = λ i v z. z })
 
 module _ {T : Type 0} (code : ℕ → Cmd T) where
-  receive-keeps : (o : Option ℕ) (f : Frame) (h : List Value) (fs : List Frame) (m : Machine) → anyWritten (usesReceiving o (code (f .at)) h) ≡ false → Ends (Kept (m .store)) (receive code o f h fs m)
-  unfolding receive usesReceiving
+  receive-keeps : (o : Option ℕ) (f : Frame) (h : List Value) (fs : List Frame) (m : Machine) → anyWritten (toReceive o (code (f .at)) f h m .uses) ≡ false → Ends (Kept (m .store)) (receive code o f h fs m)
+  unfolding receive toReceive acting
   receive-keeps none f h fs m r = act-keeps (code (f .at)) h (resume f fs m) r
   receive-keeps (some a) f h fs m r = en-try (λ e. record { at = λ i v z. z })
 
-  on-keeps : (c : Control) (m : Machine) → anyWritten (usesOn code c (m .thread .frames)) ≡ false → Ends (Kept (m .store)) (planOn code c m)
-  unfolding planOn handTo enterCmd usesOn usesHanding
+  on-keeps : (c : Control) (m : Machine) → anyWritten (needsOn code c m .uses) ≡ false → Ends (Kept (m .store)) (planOn code c m)
+  unfolding planOn handTo enterCmd needsOn toHand
   on-keeps (enter e) m r = enter-keeps e (evaluated (code e)) (code e) m r
   on-keeps (hand v) m r = at (m .thread .frames) r
     where
-      at : (fs : List Frame) → anyWritten (usesHanding code v fs) ≡ false → Ends (Kept (m .store)) (handTo code v fs m)
+      at : (fs : List Frame) → anyWritten (toHand code v fs m .uses) ≡ false → Ends (Kept (m .store)) (handTo code v fs m)
       at [] r = en-done
       at (f ∷ fs) r = receive-keeps (getElem? (evaluated (code (f .at))) (suc (length (f .hand)))) f (f .hand ++ (v ∷ [])) fs m r
 
   -- a step whose act has no operand that is written keeps every cell's value
-  pub unwritten-kept : (m n : Machine) → step code m ≡ o-step n → anyWritten (usesOf code m) ≡ false → (i : ℕ) (v : Value) → getElem? (m .store .cells) i ≡ some v → getElem? (n .store .cells) i ≡ some v
-  unfolding plan step usesOf
+  pub unwritten-kept : (m n : Machine) → step code m ≡ o-step n → anyWritten (needs code m .uses) ≡ false → (i : ℕ) (v : Value) → getElem? (m .store .cells) i ≡ some v → getElem? (n .store .cells) i ≡ some v
+  unfolding plan step needs
   unwritten-kept m n e r = settle-ends (on-keeps (m .thread .control) m r) e .at
 
 -- No row says more than that: where an operand is written, some machine with some values in hand takes the act's step, and a cell changes

@@ -119,16 +119,21 @@ touchedIn [] vs = []
 touchedIn (u ∷ us) [] = []
 touchedIn (u ∷ us) (v ∷ vs) = cond (isTouched u) (v .key ∷ touchedIn us vs) (touchedIn us vs)
 
--- what the next step needs: each value suits its place, and the variable is bound; the keys that it touches, in order; those that are enabled there; places
+-- what the next step needs: each value suits its place, and the variable is bound; how its act uses the values in hand; the keys that are enabled there; places
 pub record Needs : Type 0 where
   pub suited : Bool
-  pub touched : List ℕ
+  pub uses : List Use
+  pub held : List Value
   pub on : KeySet
   pub places : List Place
 
+-- the keys that it touches, in order
+abbrev pub touched : Needs → List ℕ
+touched n = touchedIn (n .uses) (n .held)
+
 -- no more than places
 abbrev pub only : List Place → KeySet → Needs
-only ps on = record { suited = true; touched = []; on = on; places = ps }
+only ps on = record { suited = true; uses = []; held = []; on = on; places = ps }
 
 module _ {T : Type 0} where
   -- an act, with these values in hand, bindings and enabled keys
@@ -136,7 +141,8 @@ module _ {T : Type 0} where
   acting k h env on s =
       record {
         suited = suit (wantsOf k (length h) .uses) h s and all-of (λ x. holds (seek most-bindings (s .bindings) env x) (λ v. true)) (usesVar k);
-        touched = touchedIn (wantsOf k (length h) .uses) h;
+        uses = wantsOf k (length h) .uses;
+        held = h;
         on = on;
         places = wantsOf k (length h) .places;
       }
@@ -170,7 +176,7 @@ module _ (needs : Machine → Needs) where
 
   -- a key that is touched is not enabled
   unfoldable pub shut : Machine → Bool
-  shut m = some-of (λ k. not (enabled (m .store .keys) (needs m .on) k)) (needs m .touched)
+  shut m = some-of (λ k. not (enabled (m .store .keys) (needs m .on) k)) (touched (needs m))
 
   -- the next step needs a place that is not there
   unfoldable pub lacks : Machine → Bool

@@ -1,5 +1,5 @@
 -- What a head and its places stand for, one condition a command byte, for proofs about programs that test the byte.
-use mathlib.Core.Path.{_≡_, refl, sym, ap, _∙_}
+use mathlib.Core.Path.{_≡_, refl, sym, ap, _∙_, subst⁻¹}
 use Prim.Native.Nat.{ℕ, _/_, _%_}
 use mathlib.Core.Bool.{Bool, true, false, cond}
 use mathlib.Core.List.{List, [], _∷_}
@@ -81,3 +81,35 @@ decode-is byte x a b c d e =
     last : (t : Bool) → _≡_ {A = Cmd ℕ} (cond t (c-num x) (c-num x)) (c-num x)
     last true = refl
     last false = refl
+
+by : {A : Type 0} (P : A → Type 0) (b : Bool) (x y : A) → (b ≡ true → P x) → P y → P (cond b x y)
+by P true x y f g = f refl
+by P false x y f g = g
+
+-- a fact of the expression that a head stands for, by its command byte
+module _ (P : Cmd ℕ → Type 0) (op x a b c d e : ℕ) where
+  pub decode-cases :
+      (op ≡ 0x31 → P c-top) → (op ≡ 0x32 → P (c-var (x % 256))) → (op ≡ 0x33 → P (c-pair a b)) → (op ≡ 0x34 → P (c-part a (eqb x 1))) →
+      (op ≡ 0x35 → P (c-fn (x % 256) b a)) → (op ≡ 0x36 → P (c-app a b)) → (op ≡ 0x37 → P (c-new b a)) → (op ≡ 0x38 → P (c-asg a b)) →
+      (op ≡ 0x39 → P (c-read a)) → (op ≡ 0x3A → P (c-sum (eqb x 0) a b)) → (op ≡ 0x3B → P (c-test a b c d)) →
+      (op ≡ 0x3C → P (c-lim (take x (a ∷ b ∷ c ∷ d ∷ [])) e)) → (op ≡ 0x3D → P (c-grant a b)) →
+      (op ≡ 0x3E → P (c-newkey (x % 256) (x / 256 % 256) a b c)) → (op ≡ 0x3F → P (c-assoc a b)) → (op ≡ 0x40 → P (c-access a b c d)) → P (c-num x) → P (decode op x a b c d e)
+  unfolding decodeBy
+  decode-cases f1 f2 f3 f4 f5 f6 f7 f8 f9 fa fb fc fd fe ff f40 g =
+      subst⁻¹ P (decode-is op x a b c d e)
+      (by P (eqb op 0x31) _ _ (λ h. f1 (eqb-true op 0x31 h))
+      (by P (eqb op 0x32) _ _ (λ h. f2 (eqb-true op 0x32 h))
+      (by P (eqb op 0x33) _ _ (λ h. f3 (eqb-true op 0x33 h))
+      (by P (eqb op 0x34) _ _ (λ h. f4 (eqb-true op 0x34 h))
+      (by P (eqb op 0x35) _ _ (λ h. f5 (eqb-true op 0x35 h))
+      (by P (eqb op 0x36) _ _ (λ h. f6 (eqb-true op 0x36 h))
+      (by P (eqb op 0x37) _ _ (λ h. f7 (eqb-true op 0x37 h))
+      (by P (eqb op 0x38) _ _ (λ h. f8 (eqb-true op 0x38 h))
+      (by P (eqb op 0x39) _ _ (λ h. f9 (eqb-true op 0x39 h))
+      (by P (eqb op 0x3A) _ _ (λ h. fa (eqb-true op 0x3A h))
+      (by P (eqb op 0x3B) _ _ (λ h. fb (eqb-true op 0x3B h))
+      (by P (eqb op 0x3C) _ _ (λ h. fc (eqb-true op 0x3C h))
+      (by P (eqb op 0x3D) _ _ (λ h. fd (eqb-true op 0x3D h))
+      (by P (eqb op 0x3E) _ _ (λ h. fe (eqb-true op 0x3E h))
+      (by P (eqb op 0x3F) _ _ (λ h. ff (eqb-true op 0x3F h))
+      (by P (eqb op 0x40) _ _ (λ h. f40 (eqb-true op 0x40 h)) g))))))))))))))))
