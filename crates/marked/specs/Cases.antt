@@ -27,7 +27,6 @@ use Rattle.semantics.specs.Start as Start
 use Rattle.semantics.specs.Calls as Calls
 use Rattle.syntax.specs.Loading as Loading
 use Rattle.semantics.specs.Starting as Starting
-use Rattle.semantics.specs.MarkedSteps as MarkedSteps
 use Rattle.output.specs.Lines as Lines
 use Rattle.marked.specs.Jobs as Jobs
 
@@ -121,10 +120,9 @@ pub record Marked : Type 0 where
   -- depth 16 read, 17 refused with 6
   pub depth-16 : isRead (Reading.reading (Jobs.nested 15)) ≡ true
   pub depth-17 : Reading.reading (Jobs.nested 16) ≡ Reading.refusedAt 6 62
-  -- 4294967295 + 1 = 0
-  pub sum-wraps : Step.sumN true 4294967295 1 ≡ 0
-  -- 3 − 5 = 4294967294
-  pub difference-wraps : Step.sumN false 3 5 ≡ 4294967294
+  -- 4294967295 + 1 = 4294967295, and 3 − 5 = 0, as document 02 has them (F-2)
+  pub sum-stops : Step.sumN true 4294967295 1 ≡ 4294967295
+  pub difference-stops : Step.sumN false 3 5 ≡ 0
   -- an unkeyed cell read with no rights done
   pub unkeyed-done : Lines.deskOf Jobs.unkeyedRead ≡ unkeyedLines
   -- a keyed read inside a limit without keys refused with 13
@@ -164,14 +162,14 @@ marked =
       below = refl;
       not-below = refl;
       reduces = refl;
-      limit-leaves = MarkedSteps.limit-leaves;
-      limit-nothing = MarkedSteps.limit-nothing;
+      limit-leaves = refl;
+      limit-nothing = refl;
       grant-drops = refl;
       raised = refl;
       depth-16 = refl;
       depth-17 = refl;
-      sum-wraps = MarkedSteps.sum-wraps;
-      difference-wraps = MarkedSteps.difference-wraps;
+      sum-stops = refl;
+      difference-stops = refl;
       unkeyed-done = refl;
       limited-refused = refl;
       limited-denied = refl;

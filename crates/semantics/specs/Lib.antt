@@ -5,12 +5,12 @@ pub mod Room
 pub mod Wants
 pub mod StepExactly
 pub mod ActLaws
+pub mod ArithmeticLaws
 pub mod StepKeeps
 pub mod Agreement
 pub mod Start
 pub mod Starting
 pub mod Calls
-pub mod MarkedSteps
 pub mod TypeFree
 pub mod RuntimeTypes
 pub mod Chains

@@ -1,6 +1,6 @@
 -- One step of the machine, as data first (`Plan`): the keys that it touches, whether there is room, and the machine after it. A plan is then tried once for all steps
 -- (`settle`). The expressions are given with type operands of any form: the machine "never looks at types".
-use Prim.Native.Nat.{ℕ, zero, suc, _+_, _-_, _%_, _^_}
+use Prim.Native.Nat.{ℕ, zero, suc, _+_, _-_, min}
 use mathlib.Core.Bool.{Bool, true, false, cond}
 use mathlib.Core.List.{List, [], _∷_, _++_}
 use mathlib.Core.Option.{Option, none, some}
@@ -10,7 +10,7 @@ use Rattle.order.specs.Bools.{_and_}
 use Rattle.syntax.specs.Operands.{evaluated}
 use Rattle.syntax.specs.Commands.{Cmd, c-num, c-top, c-var, c-pair, c-part, c-fn, c-app, c-new, c-asg, c-read, c-sum, c-test, c-lim, c-grant, c-newkey, c-assoc, c-access}
 use Rattle.semantics.specs.Machine.{Kind, k-num, k-pair, k-fn, k-cell, k-lim, k-grant, Value, unkeyed, Two, Bind, b-var, b-name, Link, Closure, KeySet, Frame, Control, enter, hand, Machine}
-use Rattle.semantics.specs.Machine.{most-cells, most-keys, most-pairs, most-functions, most-frames, most-bindings}
+use Rattle.semantics.specs.Machine.{most-number, most-cells, most-keys, most-pairs, most-functions, most-frames, most-bindings}
 use Rattle.semantics.specs.Keys.{enabled, narrow, add}
 
 -- what a step comes to: the machine after it, or why it is not taken
@@ -187,10 +187,10 @@ actAsg v w m = found (asCell (v .kind)) (λ c. found (getElem? (m .store .cells)
 unfoldable pub actRead : Value → Machine → Plan
 actRead v m = found (asCell (v .kind)) (λ c. found (getElem? (m .store .cells) c) (λ w. gives (v .key ∷ []) w m))
 
--- 0x3A: "modulo 2^32"
+-- 0x3A: "a difference below zero is 0 and a sum above 4294967295 is 4294967295"; a - b is 0 where b is above a
 unfoldable pub sumN : Bool → ℕ → ℕ → ℕ
-sumN true a b = (a + b) % 2 ^ 32
-sumN false a b = (a + 2 ^ 32 - b % 2 ^ 32) % 2 ^ 32
+sumN true a b = min (a + b) most-number
+sumN false a b = a - b
 
 unfoldable pub actSum : Bool → Value → Value → Machine → Plan
 actSum i v w m = found (asNum (v .kind)) (λ a. found (asNum (w .kind)) (λ b. gives (v .key ∷ w .key ∷ []) (unkeyed (k-num (sumN i a b))) m))
