@@ -9,7 +9,7 @@ use compare::proved::{self, RUN_TABLES, Tables};
 use compare::words::{Words, kind, words};
 use jobdesk::{Answer, Call, LENGTHS};
 use second::generate::{Rng, job};
-use second::observe::{looks, refused_at, wanted_of_looks};
+use second::observe::{acts, refused_at, wanted_of_acts};
 use second::{Job, Machine, Refusal, check, read, to_hex, tree};
 
 use crate::sessions::{END, compare_session};
@@ -84,7 +84,7 @@ fn wanted() -> Vec<String> {
     for room in ["cells", "keys", "pairs", "functions", "frames", "bindings"] {
         wanted.push(format!("no room in {room} alone"));
     }
-    wanted.extend(wanted_of_looks());
+    wanted.extend(wanted_of_acts());
     wanted
 }
 
@@ -230,7 +230,7 @@ fn compare_run(
     let words = words(&read, &read.types, &[]);
     same_tables("after a run", tables.differs(&before, &words, RUN_TABLES))?;
     compare_session(job, &calls, rng, met)?;
-    meet_looks(&read, accepted, taken, met);
+    meet_acts(&read, accepted, taken, met);
     let last = meet_answers(&calls, &answers, accepted, met)?;
     if last == Some(Answer::NoRoom)
         && let [room] = machine.rooms().full()[..]
@@ -257,12 +257,12 @@ fn compare_refused_run(
     same_tables("after no start", tables.differs(&before, &Words::default(), RUN_TABLES))
 }
 
-/// Counts what the looks of a job come to within so many steps.
-fn meet_looks(job: &Job, accepted: bool, steps: u64, met: &mut Met) {
-    for look in looks(job, steps) {
-        met.meet(look.to_string());
+/// Counts what the looks, sums and differences of a job come to within so many steps.
+fn meet_acts(job: &Job, accepted: bool, steps: u64, met: &mut Met) {
+    for act in acts(job, steps) {
+        met.meet(act.to_string());
         if accepted {
-            met.meet(format!("accepted, {look}"));
+            met.meet(format!("accepted, {act}"));
         }
     }
 }

@@ -169,6 +169,14 @@ impl Machine {
         self.rooms.frames.checked_sub(1).map(|top| self.frames[top].expr)
     }
 
+    /// The expression that acts next on two operands, and both.
+    pub fn acting(&self) -> Option<(u16, Value, Value)> {
+        let Control::Hand(second) = self.control else { return None };
+        let frame = &self.frames[self.rooms.frames.checked_sub(1)?];
+        let acts = next_operand(self.code[frame.expr as usize], frame.held).is_none();
+        (acts && frame.held == 1).then_some((frame.expr, frame.hand[0], second))
+    }
+
     /// What the cells hold that are in use.
     pub fn cells(&self) -> &[Value] {
         &self.cells[..self.rooms.cells]
@@ -317,8 +325,8 @@ impl Machine {
                 self.test(frame, Kind::Cell, value)?;
                 self.cells[value.index() % CELLS]
             }
-            Code::Sum(..) => self.arithmetic(frame, u32::wrapping_add, first, value)?,
-            Code::Difference(..) => self.arithmetic(frame, u32::wrapping_sub, first, value)?,
+            Code::Sum(..) => self.arithmetic(frame, u32::saturating_add, first, value)?,
+            Code::Difference(..) => self.arithmetic(frame, u32::saturating_sub, first, value)?,
             Code::Test(_, nonzero, zero) => return self.branch(frame, nonzero, zero, value),
             Code::Limit(count, _, body) => return self.limit(frame, count as usize, body, value),
             Code::Grant(_, body) => return self.grant(frame, body, value),
@@ -356,7 +364,7 @@ impl Machine {
         Ok(Control::Enter(body))
     }
 
-    /// Numbers are unkeyed again once they are reckoned with.
+    /// A sum or a difference stops at the ends of the numbers. It is unkeyed.
     #[inline(always)]
     fn arithmetic(
         &self,

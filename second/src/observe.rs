@@ -87,27 +87,27 @@ pub fn refused_at(bytes: &[u8], refusal: Refusal) -> Vec<String> {
     words
 }
 
-/// What the looks of a job come to in a run, in words. The job is free of refusals 8 to 10.
-pub fn looks(job: &Job, steps: u64) -> BTreeSet<&'static str> {
-    let mut taken = vec![None; job.exprs.len()];
-    for expr in &job.exprs {
-        if let Expr::Look(_, enabled, other, _) = *expr {
-            taken[enabled as usize] = Some("look takes its first branch");
-            taken[other as usize] = Some("look takes its second branch");
-        }
-    }
+/// Sums and differences, by how near they come to the end at which they stop.
+const SUMS: [&str; 4] =
+    ["sum above 4294967295", "sum of 4294967295", "sum of 4294967294", "sum below 4294967294"];
+const DIFFERENCES: [&str; 4] =
+    ["difference below 0", "difference of 0", "difference of 1", "difference above 1"];
+
+/// What the looks, sums and differences of a job come to in a run, in words. The job is free of
+/// refusals 8 to 10.
+pub fn acts(job: &Job, steps: u64) -> BTreeSet<&'static str> {
+    let branches = branches(job);
     let mut seen = BTreeSet::new();
-    if taken.iter().all(Option::is_none) {
-        return seen;
-    }
     let mut machine = Machine::of(job);
     let mut left = steps;
     let answer = loop {
-        seen.extend(machine.entering().and_then(|expr| taken[expr as usize]));
+        seen.extend(machine.entering().and_then(|expr| branches[expr as usize]));
+        let reckoned = reckoned(job, &machine);
         match machine.step() {
             Answer::Taken if left > 0 => left -= 1,
             answer => break answer,
         }
+        seen.extend(reckoned);
     };
     let at_look =
         machine.waiting().is_some_and(|expr| matches!(job.exprs[expr as usize], Expr::Look(..)));
@@ -119,8 +119,33 @@ pub fn looks(job: &Job, steps: u64) -> BTreeSet<&'static str> {
     seen
 }
 
-/// What must be met of looks: refusals at them and what they come to in runs.
-pub fn wanted_of_looks() -> Vec<String> {
+/// For each expression, the words for it if it is a branch of a look.
+fn branches(job: &Job) -> Vec<Option<&'static str>> {
+    let mut branches = vec![None; job.exprs.len()];
+    for expr in &job.exprs {
+        if let Expr::Look(_, enabled, other, _) = *expr {
+            branches[enabled as usize] = Some("look takes its first branch");
+            branches[other as usize] = Some("look takes its second branch");
+        }
+    }
+    branches
+}
+
+/// The words for the sum or difference that is next.
+fn reckoned(job: &Job, machine: &Machine) -> Option<&'static str> {
+    let (expr, a, b) = machine.acting()?;
+    let (a, b) = (i64::from(a.data()), i64::from(b.data()));
+    let near = |distance: i64| (distance + 1).clamp(0, 3) as usize;
+    match job.exprs[expr as usize] {
+        Expr::Sum(..) => Some(SUMS[near(i64::from(u32::MAX) - (a + b))]),
+        Expr::Difference(..) => Some(DIFFERENCES[near(a - b)]),
+        _ => None,
+    }
+}
+
+/// What must be met of looks: refusals at them and what they come to in runs. And of sums and
+/// differences: each kind in an accepted job.
+pub fn wanted_of_acts() -> Vec<String> {
     let mut wanted: Vec<String> = (3..=6).map(|number| format!("refused {number} at 40")).collect();
     wanted.extend([8, 10, 11, 12, 14].map(|number| format!("refused {number} at Look")));
     wanted.push("refused 13 around Look".to_string());
@@ -128,6 +153,7 @@ pub fn wanted_of_looks() -> Vec<String> {
     wanted.extend(branches.iter().cloned());
     wanted.extend(branches.map(|branch| format!("accepted, {branch}")));
     wanted.extend(["look is stuck", "look is denied"].map(str::to_string));
+    wanted.extend(SUMS.into_iter().chain(DIFFERENCES).map(|kind| format!("accepted, {kind}")));
     wanted
 }
 

@@ -77,11 +77,11 @@ fn depth() {
 fn arithmetic() {
     prints(
         "210000000000000000 30FFFFFFFF 3001000000 3A0000000100 FF",
-        "accepted 0000000000000000 number\ndone 5 number 0\n",
+        "accepted 0000000000000000 number\ndone 5 number 4294967295\n",
     );
     prints(
         "210000000000000000 3003000000 3005000000 3A0100000100 FF",
-        "accepted 0000000000000000 number\ndone 5 number 4294967294\n",
+        "accepted 0000000000000000 number\ndone 5 number 0\n",
     );
 }
 

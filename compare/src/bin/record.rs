@@ -7,7 +7,7 @@ use std::collections::HashMap;
 use std::process::ExitCode;
 
 use second::generate::{example, job};
-use second::observe::{looks, refused_at};
+use second::observe::{acts, refused_at};
 use second::{Machine, Outcome, check, desk, read};
 
 /// The seeds that are tried, the cases wanted, and the bytes that all may take.
@@ -47,8 +47,8 @@ fn shows(job: &[u8]) -> Vec<String> {
             for expr in &job.exprs {
                 words.push(format!("accepted with {}, {pure} effect", expr.label()));
             }
-            let looks = looks(&job, second::desk::STEPS);
-            words.extend(looks.iter().map(|look| format!("accepted, {look}")));
+            let acts = acts(&job, second::desk::STEPS);
+            words.extend(acts.iter().map(|act| format!("accepted, {act}")));
         }
     }
     words.sort();
@@ -144,6 +144,9 @@ impl Chosen {
         let mut must: Vec<String> = (2..=14).map(|number| format!("refused {number}")).collect();
         must.extend(["done", "spent", "no room"].map(str::to_string));
         must.extend(["first", "second"].map(|b| format!("accepted, look takes its {b} branch")));
+        must.extend(
+            ["sum above 4294967295", "difference below 0"].map(|a| format!("accepted, {a}")),
+        );
         must.retain(|word| !self.shown.contains_key(word));
         must
     }

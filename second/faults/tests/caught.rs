@@ -18,5 +18,5 @@ fn every_fault_is_caught() {
 #[test]
 fn faults_have_numbers_of_their_own() {
     assert!(ALL.is_sorted_by(|a, b| a.number < b.number));
-    assert_eq!(ALL.len(), 150);
+    assert_eq!(ALL.len(), 168);
 }

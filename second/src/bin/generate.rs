@@ -9,7 +9,7 @@ use std::collections::{BTreeMap, BTreeSet};
 use std::process::ExitCode;
 
 use second::generate::job;
-use second::observe::{looks, observe, refused_at, wanted_of_looks};
+use second::observe::{acts, observe, refused_at, wanted_of_acts};
 use second::{Expr, Outcome, desk, read, to_hex, tree};
 
 /// How often each thing was reached.
@@ -40,7 +40,7 @@ fn reach(seed: u64, reached: &mut Reached) {
         let kinds: BTreeSet<&str> = job.types.iter().map(|ty| ty.kind().word()).collect();
         kinds.into_iter().for_each(|kind| reach(format!("accepted with type {kind}")));
     }
-    reach_looks(&job, seen.verdict.is_ok(), &mut reach);
+    reach_acts(&job, seen.verdict.is_ok(), &mut reach);
     for run in seen.runs.iter().flatten() {
         let accepted = if seen.verdict.is_ok() { "accepted" } else { "refused" };
         reach(format!("outcome of {accepted} {}", run.outcome.words()));
@@ -52,13 +52,13 @@ fn reach(seed: u64, reached: &mut Reached) {
     }
 }
 
-/// Counts what the looks of a job come to, if it starts.
-fn reach_looks(job: &[u8], accepted: bool, mut reach: impl FnMut(String)) {
+/// Counts what the looks, sums and differences of a job come to, if it starts.
+fn reach_acts(job: &[u8], accepted: bool, mut reach: impl FnMut(String)) {
     let formed = read(job).and_then(|job| tree(&job).map(|()| job));
-    for look in formed.iter().flat_map(|job| looks(job, 100_000)) {
-        reach(look.to_string());
+    for act in formed.iter().flat_map(|job| acts(job, 100_000)) {
+        reach(act.to_string());
         if accepted {
-            reach(format!("accepted, {look}"));
+            reach(format!("accepted, {act}"));
         }
     }
 }
@@ -72,7 +72,7 @@ fn wanted() -> Vec<String> {
         ["cells", "keys", "pairs", "functions", "frames", "bindings"]
             .map(|room| format!("no room in {room} alone")),
     );
-    wanted.extend(wanted_of_looks());
+    wanted.extend(wanted_of_acts());
     wanted
 }
 

@@ -363,14 +363,26 @@ impl<'r> Builder<'r> {
         fits.then(|| (ty, self.touched(key) | left | second.effect))
     }
 
-    fn some_number(&mut self) -> Node {
-        let number = match self.rng.below(6) {
-            0 => 0,
-            1 => u32::MAX,
-            2 => self.rng.word() as u32,
+    /// A number, often at an end of the numbers or near it.
+    fn some_word(&mut self) -> u32 {
+        match self.rng.below(12) {
+            0 | 1 => 0,
+            2 => u32::MAX,
+            3 => u32::MAX - self.rng.below(5) as u32,
+            4 | 5 => self.rng.word() as u32,
             _ => self.rng.below(10) as u32,
-        };
+        }
+    }
+
+    fn some_number(&mut self) -> Node {
+        let number = self.some_word();
         self.literal(number)
+    }
+
+    /// The sum or the difference of two numbers.
+    fn reckoned(&mut self, a: Node, b: Node) -> Option<Node> {
+        let sum = self.rng.chance(50);
+        self.add(if sum { Expr::Sum(a, b) } else { Expr::Difference(a, b) })
     }
 
     fn literal(&mut self, number: u32) -> Node {
@@ -425,6 +437,7 @@ impl<'r> Builder<'r> {
         };
         let ty = self.ty(key, shape);
         let number = match shape {
+            Shape::Cell(_) if self.rng.chance(30) => self.some_word(),
             Shape::Cell(_) => self.rng.below(1000) as u32,
             _ => 0,
         };
@@ -540,8 +553,7 @@ impl<'r> Builder<'r> {
             }
             9 | 10 => {
                 let (a, b) = (self.of_kind(Kind::Number, fuel)?, self.of_kind(Kind::Number, fuel)?);
-                let sum = self.rng.chance(50);
-                self.add(if sum { Expr::Sum(a, b) } else { Expr::Difference(a, b) })
+                self.reckoned(a, b)
             }
             14..17 => self.new_key(fuel),
             around => {
@@ -614,7 +626,7 @@ impl<'r> Builder<'r> {
         let node = match kind {
             Kind::Number if fuel > 0 && self.rng.chance(50) => {
                 let (a, b) = (self.of_kind(kind, less)?, self.of_kind(kind, less)?);
-                self.add(Expr::Sum(a, b))?
+                self.reckoned(a, b)?
             }
             Kind::Number => self.some_number(),
             Kind::Pair => self.pair(less)?,
@@ -983,7 +995,7 @@ impl<'r> Builder<'r> {
                 let mut sum = self.some_number();
                 for _ in 0..20 + self.rng.below(80) {
                     let other = self.some_number();
-                    sum = self.add(Expr::Difference(sum, other))?;
+                    sum = self.reckoned(sum, other)?;
                 }
                 Some(sum)
             }
