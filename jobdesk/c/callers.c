@@ -207,6 +207,33 @@ static void asks(void)
     }
 }
 
+/* 4294967295 and 1 is 4294967295; 3 less 5 is 0. */
+static void stops(void)
+{
+    static const uint8_t sum[] = {
+        0x21, 0, 0, 0, 0, 0, 0, 0, 0,    /* no rights */
+        0x30, 0xFF, 0xFF, 0xFF, 0xFF,    /* expression 0 */
+        0x30, 1, 0, 0, 0,                /* expression 1 */
+        0x3A, 0, 0, 0, 1, 0, 0xFF,       /* their sum */
+    };
+    static const uint8_t difference[] = {
+        0x21, 0, 0, 0, 0, 0, 0, 0, 0,
+        0x30, 3, 0, 0, 0,
+        0x30, 5, 0, 0, 0,
+        0x3A, 1, 0, 0, 1, 0, 0xFF,
+    };
+    const uint64_t calls[] = { JOBDESK_RUN(100000) };
+    uint64_t answers[2], value[JOBDESK_VALUE], cells[JOBDESK_CELLS], out[JOBDESK_OUT];
+    same("sum", jobdesk_session_in(&tables, sum, sizeof sum, calls, 1, answers, value, cells, out), JOBDESK_OK);
+    same("sum, kind", value[0], JOBDESK_NUMBER);
+    same("sum, value", value[1], UINT32_MAX);
+    same("difference",
+         jobdesk_session_in(&tables, difference, sizeof difference, calls, 1, answers, value, cells, out),
+         JOBDESK_OK);
+    same("difference, kind", value[0], JOBDESK_NUMBER);
+    same("difference, value", value[1], 0);
+}
+
 /* A refused job is not run. */
 static void sessions_refused(void)
 {
@@ -294,6 +321,7 @@ int main(void)
     short_tables();
     sessions();
     asks();
+    stops();
     sessions_refused();
     short_sessions();
     short_answers();

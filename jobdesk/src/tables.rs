@@ -160,7 +160,7 @@ fn refusal(number: u64, place: u64) -> Refusal {
 /// The kinds of types and of values.
 #[derive(Clone, Copy, Debug, PartialEq, Eq, Hash)]
 pub enum Kind {
-    /// A number of 32 bits.
+    /// A number of 32 bits. A difference below zero is 0, and a sum above 4294967295 is 4294967295.
     Number,
     /// Two values.
     Pair,
@@ -245,7 +245,8 @@ pub struct Value {
     /// Its kind.
     pub kind: Kind,
     /// The number itself; the number of the pair, cell or function; or the key that a limit key or
-    /// a grant key stands for.
+    /// a grant key stands for. The numbers 0 and 4294967295 may be ends at which a difference or a
+    /// sum has stopped: nothing tells these from true results.
     pub data: u32,
 }
 

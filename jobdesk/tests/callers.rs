@@ -86,6 +86,37 @@ fn a_job_that_asks() {
     }
 }
 
+/// A sum (0) or difference (1) of two numbers.
+fn sum(operation: u8, first: u32, second: u32) -> Vec<u8> {
+    let mut job = vec![0x21, 0, 0, 0, 0, 0, 0, 0, 0];
+    for number in [first, second] {
+        job.push(0x30);
+        job.extend(number.to_le_bytes());
+    }
+    job.extend([0x3A, operation, 0, 0, 1, 0, 0xFF]);
+    job
+}
+
+#[test]
+fn sums_and_differences_stop() {
+    let mut tables = Tables::new();
+    for (operation, first, second, number) in [
+        (0, 1290, 25, 1315),
+        (0, u32::MAX - 1, 1, u32::MAX),
+        (0, u32::MAX, 1, u32::MAX),
+        (0, 1, u32::MAX, u32::MAX),
+        (1, 5, 3, 2),
+        (1, 5, 5, 0),
+        (1, 3, 5, 0),
+        (1, 0, u32::MAX, 0),
+    ] {
+        let session = tables.session(&sum(operation, first, second), &[Call::Run(100)]);
+        let session = session.expect("a session");
+        assert_eq!(session.answers, [Answered { answer: Answer::Done, steps: 5 }]);
+        assert_eq!(session.value, Some(Value { kind: Kind::Number, data: number }));
+    }
+}
+
 #[test]
 fn short_answers() {
     let mut tables = Tables::new();

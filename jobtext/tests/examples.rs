@@ -80,6 +80,7 @@ fn the_pages_show_what_is_recorded() {
     let shown = [
         ("JOBS.md", "payroll_week.explain"),
         ("JOBS.md", "payroll_week.out"),
+        ("JOBS.md", "rest_over.out"),
         ("VERDICTS.md", "two_agencies.explain"),
         ("VERDICTS.md", "two_agencies.out"),
         ("VERDICTS.md", "agency_bill_lent.explain"),
