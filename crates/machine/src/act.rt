@@ -26,7 +26,7 @@ ghost use Prim.Native.Nat.{ℕ, suc, _<_};
 ghost use Rattle.order.specs.Sets.{all-of};
 ghost use Rattle.semantics.specs.Machine.{most-keys, most-pairs, most-bindings};
 ghost use Rattle.semantics.specs.Keys.{enabled};
-ghost use Rattle.semantics.specs.Step.{Plan, settle, actPair, actPart, actApp, actNew, actAsg, actRead, actSum, actTest, limitKeys, actLim, actGrant, makeKey, actNewkey, actAssoc, actAccess, sumN};
+ghost use Rattle.semantics.specs.Step.{Plan, settle, actPair, actPart, actApp, actNew, actAsg, actRead, actSum, actTest, limitKeys, actLim, actGrant, makeKey, actNewkey, actAssoc, actAccess};
 ghost use Rattle.store.specs.Meaning.{keysIn, valueIn};
 ghost use Rattle.store.specs.Words.{upIn};
 ghost use Rattle.store.specs.Tables.{capped, listOf};
@@ -63,16 +63,6 @@ fn limit_keys(a: Value, b: Value, c: Value, d: Value) -> Limits
         store::key_in(c),
         store::key_in(d),
     ))
-}
-
-// The sum of two numbers, or their difference.
-fn sum_of(sum: bool, a: u32, b: u32) -> u32
-    ensures { λ r. ⌜ r ≡ sumN sum a b ⌝ }
-{
-    if sum {
-        return std::num::wrapping_add_u32(a, b);
-    }
-    std::num::wrapping_sub_u32(a, b)
 }
 
 impl State {
@@ -279,7 +269,7 @@ impl State {
         if back.touch(y, keys) {} else {
             return self.stop(Answer::Denied);
         }
-        let v = unkeyed(Kind::Number, sum_of(sum, x.payload, y.payload));
+        let v = unkeyed(Kind::Number, arithmetic::sum_of(sum, x.payload, y.payload));
         back.give(v)
     }
 
