@@ -5,7 +5,7 @@ use machine::Outcome;
 ghost use mathlib.Core.Path.{_≡_};
 ghost use Rattle.syntax.specs.Words.{codeIn};
 ghost use Rattle.semantics.specs.Calls.{stepsOf, call};
-ghost use Rattle.machine.specs.Meaning.{answerIn};
+ghost use Rattle.acts.specs.Meaning.{answerIn};
 ghost use Rattle.machine.specs.View.{seen, ranIn};
 ghost use Rattle.calls.specs.Words.{callOf, answerNo};
 ghost use Rattle.calls.specs.Made.{Made, Noted, NotedRan};

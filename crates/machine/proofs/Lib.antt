@@ -1,7 +1,6 @@
 pub mod Sorts
+pub mod Enters
 pub mod Codes
-pub mod Acts
-pub mod Limit
 pub mod Seeks
 pub mod Hands
 pub mod Runs

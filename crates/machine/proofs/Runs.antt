@@ -10,12 +10,14 @@ use Rattle.semantics.specs.Room.{isDone}
 use Rattle.semantics.specs.Calls.{stepsOf, Answer as SAnswer, taken, finished, spent, noroom, stuck, denied, Ran, ran, turn, run, call, one-step}
 use Rattle.store.specs.declared.Used.{Used}
 use Rattle.machine.specs.declared.Thread.{Thread}
-use Rattle.machine.specs.declared.State.{State}
-use Rattle.machine.specs.declared.Answer.{Answer}
-use Rattle.machine.specs.declared.Answer.the-variants.{Taken, Finished, Spent, NoRoom, Stuck, Denied}
-use Rattle.machine.specs.Meaning.{answerIn}
-use Rattle.machine.specs.View.{Tables, view, stateOf}
-use Rattle.machine.specs.Inner.{Stepped, settled, isTaken, threadOf, usedOf, loopOf, closing}
+use Rattle.acts.specs.declared.State.{State}
+use Rattle.acts.specs.declared.Answer.{Answer}
+use Rattle.acts.specs.declared.Answer.the-variants.{Taken, Finished, Spent, NoRoom, Stuck, Denied}
+use Rattle.acts.specs.Meaning.{answerIn}
+use Rattle.acts.specs.View.{Tables, view}
+use Rattle.machine.specs.View.{stateOf}
+use Rattle.acts.specs.Inner.{Stepped, settled}
+use Rattle.machine.specs.Inner.{isTaken, threadOf, usedOf, loopOf, closing}
 
 abbrev took : SAnswer → Bool
 took taken = true

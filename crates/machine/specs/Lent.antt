@@ -4,8 +4,8 @@ use denote.Ref.{now}
 use Rattle.syntax.specs.Commands.{Cmd}
 use Rattle.syntax.specs.Words.{codeIn}
 use Rattle.table.specs.Lent.{Table}
-use Rattle.machine.specs.View.{Tables, tables}
-use Rattle.machine.specs.Inner.{putFrames, putCells, putKeys, putPairs, putFunctions, putBindings}
+use Rattle.acts.specs.View.{Tables, tables}
+use Rattle.acts.specs.Inner.{putFrames, putCells, putKeys, putPairs, putFunctions, putBindings}
 
 -- the expressions that the heads and slots hold
 abbrev pub lentCode : Table → Table → ℕ → Cmd ℕ
@@ -45,9 +45,3 @@ beforeEnter w frames functions bindings = putBindings (putFunctions (putFrames w
 
 abbrev pub afterEnter : Tables → Table → Table → Table → Tables
 afterEnter w frames functions bindings = putBindings (putFunctions (putFrames w (now (frames .exit))) (now (functions .exit))) (now (bindings .entry))
-
-abbrev pub beforeKey : Tables → Table → Table → Table → Tables
-beforeKey w keys pairs bindings = putBindings (putPairs (putKeys w (now (keys .entry))) (now (pairs .entry))) (now (bindings .entry))
-
-abbrev pub afterKey : Tables → Table → Table → Table → Tables
-afterKey w keys pairs bindings = putBindings (putPairs (putKeys w (now (keys .exit))) (now (pairs .exit))) (now (bindings .exit))

@@ -1,9 +1,9 @@
 // Entering an expression: it gives its value, or a frame is pushed for its operands.
-use crate::Acted;
-use crate::Answer;
 use crate::Found;
-use crate::State;
-use crate::unkeyed;
+use acts::Acted;
+use acts::Answer;
+use acts::State;
+use acts::unkeyed;
 use store::BINDING_WORDS;
 use store::Bound;
 use store::Closure;
@@ -23,8 +23,9 @@ ghost use Rattle.store.specs.Meaning.{boundIn};
 ghost use Rattle.store.specs.Words.{linkIn};
 ghost use Rattle.store.specs.Tables.{listOf};
 ghost use Rattle.machine.specs.Meaning.{foundIn};
-ghost use Rattle.machine.specs.View.{Tables};
-ghost use Rattle.machine.specs.Inner.{acted, tried, putFrames, putFunctions, putBindings, orElse, Works};
+ghost use Rattle.acts.specs.View.{Tables};
+ghost use Rattle.acts.specs.Inner.{acted, tried, putFrames, putFunctions, putBindings};
+ghost use Rattle.machine.specs.Inner.{orElse, Works};
 ghost use Rattle.machine.specs.Lent.{lentCode, beforeEnter, afterEnter};
 
 // No chain of bindings is longer.
@@ -87,100 +88,98 @@ fn lookup(bindings: &[u64; BINDING_WORDS], n: u16, x: u8, from: u16) -> Found
     Found::Nothing
 }
 
-impl State {
-    fn push(self, e: Expr, first: Expr, frames: &mut [u64; FRAME_WORDS]) -> Acted
-        ensures { λ r. ⌜ ((w : Tables) → acted r (putFrames w (now (frames .exit))) ≡ tried self self (putFrames w (now (frames .entry))) (push (e .0) (first .0))) ⌝ }
-    {
-        let n = self.frames;
-        if n < MOST_FRAMES {
-            let now = self.now;
-            let on = now.on;
-            store::put_fresh(frames, n as u16, e, now.env, on);
-            let mut next = self;
-            next.frames = n + 1;
-            next.go(first, now.env, on)
-        } else {
-            self.stop(Answer::NoRoom)
-        }
+fn push(state: State, e: Expr, first: Expr, frames: &mut [u64; FRAME_WORDS]) -> Acted
+    ensures { λ r. ⌜ ((w : Tables) → acted r (putFrames w (now (frames .exit))) ≡ tried state state (putFrames w (now (frames .entry))) (push (e .0) (first .0))) ⌝ }
+{
+    let n = state.frames;
+    if n < MOST_FRAMES {
+        let now = state.now;
+        let on = now.on;
+        store::put_fresh(frames, n as u16, e, now.env, on);
+        let mut next = state;
+        next.frames = n + 1;
+        next.go(first, now.env, on)
+    } else {
+        state.stop(Answer::NoRoom)
     }
+}
 
-    fn function(self, x: u8, body: Expr, functions: &mut [u64; FUNCTION_WORDS]) -> Acted
-        ensures { λ r. ⌜ ((w : Tables) → acted r (putFunctions w (now (functions .exit))) ≡ tried self self (putFunctions w (now (functions .entry))) (actFn x (body .0))) ⌝ }
-    {
-        let n = self.functions;
-        if n < MOST_FUNCTIONS {
-            let now = self.now;
-            store::put_closure(
-                functions,
-                n as u16,
-                Closure {
-                    var: x,
-                    body: body,
-                    env: now.env,
-                },
-            );
-            let mut next = self;
-            next.functions = n + 1;
-            let v = unkeyed(Kind::Function, n as u32);
-            next.give(v)
-        } else {
-            self.stop(Answer::NoRoom)
-        }
+fn function(state: State, x: u8, body: Expr, functions: &mut [u64; FUNCTION_WORDS]) -> Acted
+    ensures { λ r. ⌜ ((w : Tables) → acted r (putFunctions w (now (functions .exit))) ≡ tried state state (putFunctions w (now (functions .entry))) (actFn x (body .0))) ⌝ }
+{
+    let n = state.functions;
+    if n < MOST_FUNCTIONS {
+        let now = state.now;
+        store::put_closure(
+            functions,
+            n as u16,
+            Closure {
+                var: x,
+                body: body,
+                env: now.env,
+            },
+        );
+        let mut next = state;
+        next.functions = n + 1;
+        let v = unkeyed(Kind::Function, n as u32);
+        next.give(v)
+    } else {
+        state.stop(Answer::NoRoom)
     }
+}
 
-    fn variable(self, x: u8, bindings: &[u64; BINDING_WORDS]) -> Acted
-        ensures { λ r. ⌜ ((w : Tables) → acted r (putBindings w (now (bindings .entry))) ≡ tried self self (putBindings w (now (bindings .entry))) (variable x)) ⌝ }
-    {
-        let now = self.now;
-        let n = store::cap(self.bindings, MOST_BINDINGS) as u16;
-        let found = lookup(bindings, n, x, now.env);
-        match found {
-            Found::At(v) => self.give(v),
-            Found::Nothing => self.stop(Answer::Stuck),
-        }
+fn variable(state: State, x: u8, bindings: &[u64; BINDING_WORDS]) -> Acted
+    ensures { λ r. ⌜ ((w : Tables) → acted r (putBindings w (now (bindings .entry))) ≡ tried state state (putBindings w (now (bindings .entry))) (variable x)) ⌝ }
+{
+    let now = state.now;
+    let n = store::cap(state.bindings, MOST_BINDINGS) as u16;
+    let found = lookup(bindings, n, x, now.env);
+    match found {
+        Found::At(v) => state.give(v),
+        Found::Nothing => state.stop(Answer::Stuck),
     }
+}
 
-    pub(crate) fn enter(
-        self,
-        e: Expr,
-        heads: &[u64],
-        slots: &[u16],
-        frames: &mut [u64; FRAME_WORDS],
-        functions: &mut [u64; FUNCTION_WORDS],
-        bindings: &[u64; BINDING_WORDS],
-    ) -> Acted
-        ensures { λ r. ⌜
-            ((w : Tables) →
-            acted r (afterEnter w frames functions bindings) ≡
-            tried self self (beforeEnter w frames functions bindings) (enterCmd (e .0) (lentCode heads slots (e .0))))
-            ⌝ }
-    {
-        let i = e.0 as usize;
-        let head = table::at64(heads, i);
-        let op = head % 256;
-        let x = head / 256 % 4294967296;
-        if 0 < need(op, x) {
-            let first = Expr(table::at16(slots, i * 5));
-            return self.push(e, first, frames);
+pub(crate) fn enter(
+    state: State,
+    e: Expr,
+    heads: &[u64],
+    slots: &[u16],
+    frames: &mut [u64; FRAME_WORDS],
+    functions: &mut [u64; FUNCTION_WORDS],
+    bindings: &[u64; BINDING_WORDS],
+) -> Acted
+    ensures { λ r. ⌜
+        ((w : Tables) →
+        acted r (afterEnter w frames functions bindings) ≡
+        tried state state (beforeEnter w frames functions bindings) (enterCmd (e .0) (lentCode heads slots (e .0))))
+        ⌝ }
+{
+    let i = e.0 as usize;
+    let head = table::at64(heads, i);
+    let op = head % 256;
+    let x = head / 256 % 4294967296;
+    if 0 < need(op, x) {
+        let first = Expr(table::at16(slots, i * 5));
+        return push(state, e, first, frames);
+    }
+    match op {
+        0x31 => {
+            let v = unkeyed(Kind::Limit, 1);
+            state.give(v)
         }
-        match op {
-            0x31 => {
-                let v = unkeyed(Kind::Limit, 1);
-                self.give(v)
-            }
-            0x32 => self.variable((x % 256) as u8, bindings),
-            0x35 => {
-                let body = Expr(table::at16(slots, i * 5));
-                self.function((x % 256) as u8, body, functions)
-            }
-            0x3C => {
-                let now = self.now;
-                self.go(Expr(table::at16(slots, i * 5 + 4)), now.env, Keys(0, 0))
-            }
-            _ => {
-                let v = unkeyed(Kind::Number, x as u32);
-                self.give(v)
-            }
+        0x32 => variable(state, (x % 256) as u8, bindings),
+        0x35 => {
+            let body = Expr(table::at16(slots, i * 5));
+            function(state, (x % 256) as u8, body, functions)
+        }
+        0x3C => {
+            let now = state.now;
+            state.go(Expr(table::at16(slots, i * 5 + 4)), now.env, Keys(0, 0))
+        }
+        _ => {
+            let v = unkeyed(Kind::Number, x as u32);
+            state.give(v)
         }
     }
 }

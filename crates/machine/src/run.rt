@@ -1,11 +1,12 @@
 // Runs: steps one after another, counted; the machine's own step and run.
-use crate::Answer;
-use crate::Control;
 use crate::Ended;
 use crate::Machine;
 use crate::Outcome;
-use crate::State;
 use crate::Thread;
+use crate::step::step;
+use acts::Answer;
+use acts::Control;
+use acts::State;
 use store::BINDING_WORDS;
 use store::CELL_WORDS;
 use store::FRAME_WORDS;
@@ -17,8 +18,9 @@ ghost use mathlib.Core.Path.{_≡_};
 ghost use Rattle.syntax.specs.Words.{codeIn};
 ghost use Rattle.semantics.specs.Room.{isDone};
 ghost use Rattle.semantics.specs.Calls.{stepsOf, one-step, call, run};
-ghost use Rattle.machine.specs.Meaning.{answerIn};
-ghost use Rattle.machine.specs.View.{Tables, view, stateOf, seen, ranIn};
+ghost use Rattle.acts.specs.Meaning.{answerIn};
+ghost use Rattle.acts.specs.View.{Tables, view};
+ghost use Rattle.machine.specs.View.{stateOf, seen, ranIn};
 ghost use Rattle.machine.specs.Inner.{isTaken, threadOf, usedOf, loopOf, ended, closing};
 ghost use Rattle.machine.specs.Lent.{lentCode, before, after};
 
@@ -55,68 +57,67 @@ fn close(done: bool, a: Answer) -> Answer
     }
 }
 
-impl State {
-    // Up to n steps, one after another.
-    fn run(
-        self,
-        n: u64,
-        heads: &[u64],
-        slots: &[u16],
-        frames: &mut [u64; FRAME_WORDS],
-        cells: &mut [u64; CELL_WORDS],
-        keys: &mut [u8; KEY_BYTES],
-        pairs: &mut [u64; PAIR_WORDS],
-        functions: &mut [u64; FUNCTION_WORDS],
-        bindings: &mut [u64; BINDING_WORDS],
-    ) -> Ended
-        ensures { λ r. ⌜
-            ended r (after frames cells keys pairs functions bindings) ≡
-            loopOf (lentCode heads slots) n 0 (view self (before frames cells keys pairs functions bindings))
-            ⌝ }
-    {
-        let mut m = self;
-        let mut taken: u64 = 0;
-        while taken < n {
-            let s = m.step(
-                heads,
-                slots,
-                frames,
-                cells,
-                keys,
-                pairs,
-                functions,
-                bindings,
-            );
-            let next = s.state;
-            let a = s.answer;
-            if is_taken(a) {
-                m = next;
-                taken = taken + 1;
-            } else {
-                return Ended {
-                    state: next,
-                    taken: taken,
-                    answer: a,
-                };
-            }
-        }
-        Ended {
-            state: m,
-            taken: taken,
-            answer: Answer::Taken,
+// Up to n steps, one after another.
+fn run(
+    state: State,
+    n: u64,
+    heads: &[u64],
+    slots: &[u16],
+    frames: &mut [u64; FRAME_WORDS],
+    cells: &mut [u64; CELL_WORDS],
+    keys: &mut [u8; KEY_BYTES],
+    pairs: &mut [u64; PAIR_WORDS],
+    functions: &mut [u64; FUNCTION_WORDS],
+    bindings: &mut [u64; BINDING_WORDS],
+) -> Ended
+    ensures { λ r. ⌜
+        ended r (after frames cells keys pairs functions bindings) ≡
+        loopOf (lentCode heads slots) n 0 (view state (before frames cells keys pairs functions bindings))
+        ⌝ }
+{
+    let mut m = state;
+    let mut taken: u64 = 0;
+    while taken < n {
+        let s = step(
+            m,
+            heads,
+            slots,
+            frames,
+            cells,
+            keys,
+            pairs,
+            functions,
+            bindings,
+        );
+        let next = s.state;
+        let a = s.answer;
+        if is_taken(a) {
+            m = next;
+            taken = taken + 1;
+        } else {
+            return Ended {
+                state: next,
+                taken: taken,
+                answer: a,
+            };
         }
     }
+    Ended {
+        state: m,
+        taken: taken,
+        answer: Answer::Taken,
+    }
+}
 
-    // No frame left and a value.
-    fn is_done(self) -> bool
-        ensures { λ r. ⌜ ((w : Tables) → r ≡ isDone (view self w)) ⌝ }
-    {
-        let now = self.now;
-        let control = now.control;
-        match control {
-            Control::Enter(_) => false,
-            Control::Hand(_) => self.frames == 0,
-        }
+// No frame left and a value.
+fn is_done(state: State) -> bool
+    ensures { λ r. ⌜ ((w : Tables) → r ≡ isDone (view state w)) ⌝ }
+{
+    let now = state.now;
+    let control = now.control;
+    match control {
+        Control::Enter(_) => false,
+        Control::Hand(_) => state.frames == 0,
     }
 }
 
@@ -171,7 +172,8 @@ impl Machine {
         let mut pairs = self.pairs;
         let mut functions = self.functions;
         let mut bindings = self.bindings;
-        let s = start.run(
+        let s = run(
+            start,
             1,
             heads,
             slots,
@@ -212,7 +214,8 @@ impl Machine {
         let mut pairs = self.pairs;
         let mut functions = self.functions;
         let mut bindings = self.bindings;
-        let s = start.run(
+        let s = run(
+            start,
             n,
             heads,
             slots,
@@ -225,7 +228,7 @@ impl Machine {
         );
         let next = s.state;
         let a = s.answer;
-        let answer = close(next.is_done(), a);
+        let answer = close(is_done(next), a);
         let m = Machine {
             thread: thread_of(next),
             used: used_of(next),

@@ -32,10 +32,11 @@ use Rattle.table.specs.declared.Expr.{Expr}
 use Rattle.store.specs.Meaning.{valueIn, kindIn}
 use Rattle.machine.specs.declared.Machine.{Machine}
 use Rattle.machine.specs.declared.Outcome.{Outcome}
-use Rattle.machine.specs.declared.Answer.{Answer}
-use Rattle.machine.specs.declared.Control.the-variants.{Enter, Hand}
-use Rattle.machine.specs.Meaning.{answerIn, controlIn}
-use Rattle.machine.specs.View.{view, seen, ranIn}
+use Rattle.acts.specs.declared.Answer.{Answer}
+use Rattle.acts.specs.declared.Control.the-variants.{Enter, Hand}
+use Rattle.acts.specs.Meaning.{answerIn, controlIn}
+use Rattle.acts.specs.View.{view}
+use Rattle.machine.specs.View.{seen, ranIn}
 use Rattle.format.specs.declared.Sort.{Sort}
 use Rattle.format.specs.declared.Sort.the-variants.{Number, Pair, Cell, Function, Limit, Grant}
 use Rattle.output.specs.Lines.{refusedLine, acceptedLine, ranLine, ranOf, runLine, runRead, reported, deskOf, most-bytes, most-steps, printed}

@@ -25,7 +25,7 @@ ghost use Rattle.semantics.specs.Room.{isDone};
 ghost use Rattle.semantics.specs.Calls as spec;
 ghost use Rattle.semantics.specs.Demand3.{exprOf};
 ghost use Rattle.store.specs.Meaning.{kindIn};
-ghost use Rattle.machine.specs.Meaning.{answerIn};
+ghost use Rattle.acts.specs.Meaning.{answerIn};
 ghost use Rattle.machine.specs.View.{seen, ranIn};
 ghost use Rattle.output.specs.Lines.{refusedLine, acceptedLine, ranLine, ranOf, runLine, deskOf, most-bytes, printed};
 ghost use Rattle.format.specs.Text.{textOf, typeSort, kindSort, kindNumber, acceptedAs};

@@ -16,7 +16,8 @@ use Rattle.store.proofs.Laws.{list-length, stack-length}
 use Rattle.store.specs.declared.Used.{Used}
 use Rattle.machine.specs.declared.Thread.{Thread}
 use Rattle.machine.specs.declared.Machine.{Machine}
-use Rattle.machine.specs.View.{view, seen}
+use Rattle.acts.specs.View.{view}
+use Rattle.machine.specs.View.{seen}
 use Rattle.calls.specs.Words.{over}
 use Rattle.calls.specs.Laws.{sets-over}
 use Rattle.checker.specs.declared.Verdict.{Verdict}

@@ -19,9 +19,10 @@ use Rattle.store.specs.Tables.{listOf, stackOf, capped}
 use Rattle.store.proofs.Laws.{list-get, list-beyond}
 use Rattle.store.specs.declared.Used.{Used}
 use Rattle.machine.specs.declared.Thread.{Thread}
-use Rattle.machine.specs.declared.Control.the-variants.{Enter, Hand}
+use Rattle.acts.specs.declared.Control.the-variants.{Enter, Hand}
 use Rattle.machine.specs.declared.Machine.{Machine}
-use Rattle.machine.specs.View.{Tables, stateOf, view, seen}
+use Rattle.acts.specs.View.{Tables, view}
+use Rattle.machine.specs.View.{stateOf, seen}
 use Rattle.calls.specs.Words.{over}
 use Rattle.calls.specs.Laws.{sets-over}
 use Rattle.results.specs.Values.{kindNo, payloadOf, firstWord, secondWord, handedOn, valueOf, valueWords, cellsFrom, cellWords, TwoPut, CellPut}

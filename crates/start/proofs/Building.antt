@@ -11,8 +11,8 @@ use Rattle.semantics.specs.Start.{startOf, valued}
 use Rattle.store.specs.Tables.{listOf, stackOf}
 use Rattle.store.specs.Words.{linkIn}
 use Rattle.store.proofs.Laws.{list-length}
-use Rattle.machine.specs.declared.Control.the-variants.{Enter}
-use Rattle.machine.specs.View.{view, tables}
+use Rattle.acts.specs.declared.Control.the-variants.{Enter}
+use Rattle.acts.specs.View.{view, tables}
 use Rattle.initial.specs.declared.Initial.{Initial}
 use Rattle.initial.specs.Begun.{Begun}
 use Rattle.initial.proofs.Jobs.{capped-le}

@@ -1,5 +1,5 @@
 use mathlib.Core.Path.{ap}
-use Rattle.machine.specs.Meaning.{answerIn}
+use Rattle.acts.specs.Meaning.{answerIn}
 use Rattle.print.proofs.Prints.{ended-with, with-spent, with-no-room, with-none, no-taken, no-stuck, no-denied}
 use borrow.Author.Needs.{needs}
 use Rattle.print.proofs.ended.Statement.{statement}

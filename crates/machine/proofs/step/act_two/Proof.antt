@@ -1,0 +1,77 @@
+use Rattle.syntax.specs.Words.{codeIn, decode}
+use Rattle.acts.specs.View.{view}
+use Rattle.store.specs.Meaning.{valueIn}
+use Rattle.semantics.specs.Step.{act, two}
+use Rattle.machine.proofs.Codes.{code-two}
+use Rattle.acts.proofs.Acts.{is-stuck}
+use Rattle.acts.specs.Inner.{putCells, putKeys, putPairs, putFunctions, putBindings}
+use denote.Ref.{now}
+use borrow.Author.Needs.{needs}
+use Rattle.machine.proofs.step.act_two.Statement.{statement}
+use Rattle.machine.proofs.step.act_two.Tie as tie
+
+cast-i : tie.Need-cast-i
+cast-i c = search needs
+
+at64-requires : tie.Need-at64-requires
+at64-requires c κs = search needs
+
+act-pair-requires : tie.Need-act-pair-requires
+act-pair-requires c κs = search needs
+
+act-apply-requires : tie.Need-act-apply-requires
+act-apply-requires c κs = search needs
+
+act-assign-requires : tie.Need-act-assign-requires
+act-assign-requires c κs = search needs
+
+act-sum-requires : tie.Need-act-sum-requires
+act-sum-requires c κs = search needs
+
+act-associate-requires : tie.Need-act-associate-requires
+act-associate-requires c κs = search needs
+
+stop-requires : tie.Need-stop-requires
+stop-requires c κs = search needs
+
+returns : tie.Need-returns
+unfolding codeIn decode act two
+returns c = λ w. simp (← c .before .before .before .at64 .ensures, c .before .before .match .keys1) (c .act-pair .ensures (putBindings (putFunctions (putKeys (putCells w (now (c .before .before .before .before .before .before .before .args .cells))) (now (c .before .before .before .before .before .before .before .args .keys))) (now (c .before .before .before .before .before .before .before .args .functions))) (now (c .before .before .before .before .before .before .before .args .bindings))))
+
+returns-2 : tie.Need-returns-2
+unfolding codeIn decode act two
+returns-2 c = λ w. simp (← c .before .before .before .at64 .ensures, c .before .before .match .keys2) (c .act-apply .ensures (putPairs (putCells w (now (c .before .before .before .before .before .before .before .args .cells))) (now (c .before .before .before .before .before .before .before .args .pairs))))
+
+returns-3 : tie.Need-returns-3
+unfolding codeIn decode act two
+returns-3 c = λ w. simp (← c .before .before .before .at64 .ensures, c .before .before .match .keys3) (c .act-assign .ensures (putBindings (putFunctions (putPairs w (now (c .before .before .before .before .before .before .before .args .pairs))) (now (c .before .before .before .before .before .before .before .args .functions))) (now (c .before .before .before .before .before .before .before .args .bindings))))
+
+returns-4 : tie.Need-returns-4
+unfolding codeIn decode act two
+returns-4 c = λ w. simp (← c .before .before .at64 .ensures, c .before .match .keys4) (c .act-sum .ensures (putBindings (putFunctions (putPairs (putCells w (now (c .before .before .before .before .before .before .args .cells))) (now (c .before .before .before .before .before .before .args .pairs))) (now (c .before .before .before .before .before .before .args .functions))) (now (c .before .before .before .before .before .before .args .bindings))))
+
+returns-5 : tie.Need-returns-5
+unfolding codeIn decode act two
+returns-5 c = λ w. simp (← c .before .before .at64 .ensures, c .before .match .keys5) (c .act-associate .ensures (putBindings (putFunctions (putPairs (putCells w (now (c .before .before .before .before .before .before .args .cells))) (now (c .before .before .before .before .before .before .args .pairs))) (now (c .before .before .before .before .before .before .args .functions))) (now (c .before .before .before .before .before .before .args .bindings))))
+
+returns-6 : tie.Need-returns-6
+returns-6 c = λ w. is-stuck _ _ _ (c .stop .ensures) (code-two (now (c .before .before .before .before .before .before .args .heads)) (now (c .before .before .before .before .before .before .args .slots)) (c .before .before .before .before .before .before .args .at .0) _ (c .before .before .at64 .ensures) (valueIn (c .before .before .before .before .before .before .args .u)) (valueIn (c .before .before .before .before .before .before .args .v)) (view (c .before .before .before .before .before .before .args .back) (putBindings (putFunctions (putPairs (putKeys (putCells w (now (c .before .before .before .before .before .before .args .cells))) (now (c .before .before .before .before .before .before .args .keys))) (now (c .before .before .before .before .before .before .args .pairs))) (now (c .before .before .before .before .before .before .args .functions))) (now (c .before .before .before .before .before .before .args .bindings)))) (c .before .before .before .before .before .before .pre) (c .before .match .rest .0 .0 .0 .0 .1) (c .before .match .rest .0 .0 .0 .1) (c .before .match .rest .0 .0 .1) (c .before .match .rest .0 .1) (c .before .match .rest .1))
+
+pub act-two-spec : {M : Type 1} → statement M
+act-two-spec =
+    tie.close
+    (tie.spec
+    cast-i
+    at64-requires
+    act-pair-requires
+    act-apply-requires
+    act-assign-requires
+    act-sum-requires
+    act-associate-requires
+    stop-requires
+    returns
+    returns-2
+    returns-3
+    returns-4
+    returns-5
+    returns-6)
