@@ -1,3 +1,4 @@
 pub mod Sorts
 pub mod Acts
 pub mod Limit
+pub mod Codes

@@ -1,7 +1,5 @@
 -- What the contracts of the state's own functions say.
-use Prim.Native.Nat.{ℕ}
 use mathlib.Core.Path.{_≡_}
-use mathlib.Core.List.{List}
 use Rattle.semantics.specs.Machine.{Value as SValue, Machine as Clean}
 use Rattle.semantics.specs.Step.{Out, o-step, o-done, o-room, o-stuck, o-denied, handing, entering, Plan, p-wrong, settle}
 use Rattle.semantics.specs.Calls.{Answer as SAnswer, taken, finished, noroom, stuck, denied}
@@ -20,6 +18,11 @@ use Rattle.acts.specs.declared.State.{State}
 use Rattle.acts.specs.declared.Acted.{Acted}
 use Rattle.acts.specs.Meaning.{answerIn}
 use Rattle.acts.specs.View.{Tables, view}
+use Prim.Native.Nat.{ℕ, _≤_}
+use mathlib.Core.List.{List, [], _∷_}
+use lib.ListN.{take}
+use Rattle.syntax.specs.Operands.{evaluated}
+use Rattle.syntax.specs.Words.{decode}
 
 -- a machine, and the answer of the step that led to it
 pub record Stepped : Type 0 where
@@ -102,3 +105,8 @@ limitsIn Other f = p-wrong
 pub record Went (r : Acted) (w : Tables) (o : Out) : Type 0 where
   pub answer : r .answer ≡ Taken
   pub gives : o ≡ o-step (view (r .state) w)
+
+-- n operands are evaluated before the act of a command: those in the first n of its places
+pub record Works (op x n : ℕ) : Type 0 where
+  pub all : (a b c d e : ℕ) → evaluated (decode op x a b c d e) ≡ take n (a ∷ b ∷ c ∷ d ∷ [])
+  pub few : n ≤ 4

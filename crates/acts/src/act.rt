@@ -81,7 +81,13 @@ impl State {
         self.touch(d, keys)
     }
 
-    pub fn act_pair(self, back: State, x: Value, y: Value, pairs: &mut [u64; PAIR_WORDS]) -> Acted
+    pub(crate) fn act_pair(
+        self,
+        back: State,
+        x: Value,
+        y: Value,
+        pairs: &mut [u64; PAIR_WORDS],
+    ) -> Acted
         ensures { λ r. ⌜ ((w : Tables) → acted r (putPairs w (now (pairs .exit))) ≡ tried self back (putPairs w (now (pairs .entry))) (actPair (valueIn x) (valueIn y))) ⌝ }
     {
         let n = back.pairs;
@@ -103,7 +109,7 @@ impl State {
         }
     }
 
-    pub fn act_part(
+    pub(crate) fn act_part(
         self,
         back: State,
         first: bool,
@@ -133,7 +139,7 @@ impl State {
         }
     }
 
-    pub fn act_apply(
+    pub(crate) fn act_apply(
         self,
         back: State,
         x: Value,
@@ -173,7 +179,7 @@ impl State {
         }
     }
 
-    pub fn act_cell(self, back: State, x: Value, cells: &mut [u64; CELL_WORDS]) -> Acted
+    pub(crate) fn act_cell(self, back: State, x: Value, cells: &mut [u64; CELL_WORDS]) -> Acted
         ensures { λ r. ⌜ ((w : Tables) → acted r (putCells w (now (cells .exit))) ≡ tried self back (putCells w (now (cells .entry))) (actNew (valueIn x))) ⌝ }
     {
         let n = back.cells;
@@ -188,7 +194,7 @@ impl State {
         }
     }
 
-    pub fn act_assign(
+    pub(crate) fn act_assign(
         self,
         back: State,
         cell: Value,
@@ -216,7 +222,7 @@ impl State {
         back.give(value)
     }
 
-    pub fn act_read(
+    pub(crate) fn act_read(
         self,
         back: State,
         x: Value,
@@ -239,7 +245,7 @@ impl State {
         back.give(v)
     }
 
-    pub fn act_sum(
+    pub(crate) fn act_sum(
         self,
         back: State,
         sum: bool,
@@ -267,7 +273,7 @@ impl State {
         back.give(v)
     }
 
-    pub fn act_test(
+    pub(crate) fn act_test(
         self,
         back: State,
         yes: Expr,
@@ -293,7 +299,7 @@ impl State {
         }
     }
 
-    pub fn act_limit(
+    pub(crate) fn act_limit(
         self,
         back: State,
         body: Expr,
@@ -318,7 +324,13 @@ impl State {
         back.go(body, now.env, left)
     }
 
-    pub fn act_grant(self, back: State, body: Expr, x: Value, keys: &[u8; KEY_BYTES]) -> Acted
+    pub(crate) fn act_grant(
+        self,
+        back: State,
+        body: Expr,
+        x: Value,
+        keys: &[u8; KEY_BYTES],
+    ) -> Acted
         ensures { λ r. ⌜ ((w : Tables) → acted r (putKeys w (now (keys .entry))) ≡ tried self back (putKeys w (now (keys .entry))) (actGrant (body .0) (valueIn x))) ⌝ }
     {
         let k = x.kind;
@@ -335,7 +347,7 @@ impl State {
         back.go(body, now.env, more)
     }
 
-    pub fn act_new_key(
+    pub(crate) fn act_new_key(
         self,
         back: State,
         x: u8,
@@ -419,7 +431,7 @@ impl State {
         next.go(body, (nb + 2) as u16, on)
     }
 
-    pub fn act_associate(
+    pub(crate) fn act_associate(
         self,
         back: State,
         value: Value,
@@ -448,7 +460,7 @@ impl State {
     }
 
     // The first branch where the key that `key` stands for is enabled, the second where it is not.
-    pub fn act_access(
+    pub(crate) fn act_access(
         self,
         back: State,
         first: Expr,

@@ -1,5 +1,6 @@
-// What each act does with its operands in hand, on the state of a thread and the tables that are lent to it.
+// The acts: what each command does with its operands in hand, on the state of a thread and the tables that are lent to it.
 mod act;
+mod choose;
 
 use store::KEY_BYTES;
 use store::Keys;

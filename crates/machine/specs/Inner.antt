@@ -1,13 +1,9 @@
 -- What the contracts of the state's own functions say.
-use Prim.Native.Nat.{ℕ, zero, suc, _≤_}
-use mathlib.Core.Path.{_≡_}
+use Prim.Native.Nat.{ℕ, zero, suc}
 use mathlib.Core.Bool.{Bool, true, false, cond}
-use mathlib.Core.List.{[], _∷_}
 use mathlib.Core.Option.{Option, none, some}
 use lib.ListN.{take}
 use Rattle.syntax.specs.Commands.{Cmd}
-use Rattle.syntax.specs.Operands.{evaluated}
-use Rattle.syntax.specs.Words.{decode}
 use Rattle.semantics.specs.Machine.{Machine as Clean}
 use Rattle.semantics.specs.Step.{Out, step}
 use Rattle.semantics.specs.Calls.{Answer as SAnswer, taken, finished, spent, noroom, stuck, denied, Ran, ran, turn}
@@ -36,11 +32,6 @@ usedOf s = record { cells = s .cells; keys = s .keys; pairs = s .pairs; function
 abbrev pub orElse : {A : Type 0} → Option A → Option A → Option A
 orElse none b = b
 orElse (some a) b = some a
-
--- n operands are evaluated before the act of a command: those in the first n of its places
-pub record Works (op x n : ℕ) : Type 0 where
-  pub all : (a b c d e : ℕ) → evaluated (decode op x a b c d e) ≡ take n (a ∷ b ∷ c ∷ d ∷ [])
-  pub few : n ≤ 4
 
 abbrev pub isTaken : Answer → Bool
 isTaken Taken = true

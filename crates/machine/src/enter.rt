@@ -25,8 +25,10 @@ ghost use Rattle.store.specs.Tables.{listOf};
 ghost use Rattle.machine.specs.Meaning.{foundIn};
 ghost use Rattle.acts.specs.View.{Tables};
 ghost use Rattle.acts.specs.Inner.{acted, tried, putFrames, putFunctions, putBindings};
-ghost use Rattle.machine.specs.Inner.{orElse, Works};
-ghost use Rattle.machine.specs.Lent.{lentCode, beforeEnter, afterEnter};
+ghost use Rattle.machine.specs.Inner.{orElse};
+ghost use Rattle.acts.specs.Inner.{Works};
+ghost use Rattle.acts.specs.Lent.{lentCode};
+ghost use Rattle.machine.specs.Lent.{beforeEnter, afterEnter};
 
 // No chain of bindings is longer.
 const MOST_LINKS: u16 = MOST_BINDINGS as u16;

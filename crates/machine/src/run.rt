@@ -22,7 +22,8 @@ ghost use Rattle.acts.specs.Meaning.{answerIn};
 ghost use Rattle.acts.specs.View.{Tables, view};
 ghost use Rattle.machine.specs.View.{stateOf, seen, ranIn};
 ghost use Rattle.machine.specs.Inner.{isTaken, threadOf, usedOf, loopOf, ended, closing};
-ghost use Rattle.machine.specs.Lent.{lentCode, before, after};
+ghost use Rattle.acts.specs.Lent.{lentCode, before};
+ghost use Rattle.machine.specs.Lent.{after};
 
 fn is_taken(a: Answer) -> bool
     ensures { λ r. ⌜ r ≡ isTaken a ⌝ }

@@ -4,7 +4,7 @@ use Rattle.acts.specs.View.{view}
 use Rattle.store.specs.Meaning.{keysIn}
 use mathlib.Core.Path.{ap, refl, sym, _∙_}
 use Rattle.semantics.specs.Step.{bare, act, enterAt, enterCmd, settle, touchAll, room}
-use Rattle.machine.proofs.Codes.{code-push, code-bare, code-number}
+use Rattle.acts.proofs.Codes.{code-push, code-bare, code-number}
 use Rattle.acts.proofs.Acts.{gave-new, goes}
 use Rattle.acts.specs.Inner.{putFrames, putFunctions, putBindings, settled}
 use denote.Ref.{now}

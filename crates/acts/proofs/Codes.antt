@@ -16,9 +16,9 @@ use Rattle.semantics.specs.Machine.{Value, Machine}
 use Rattle.semantics.specs.Step.{o-stuck, room, touchAll, p-wrong, settle, push, act, enterAt, enterCmd, bare, one, two, limitKeys, keysOf, actLim, actTest, actAccess}
 use Rattle.semantics.specs.Enabled.{narrow-none}
 use Rattle.store.specs.Frames.{handOf}
 use Rattle.acts.specs.Inner.{go}
-use Rattle.machine.specs.Inner.{Works}
+use Rattle.acts.specs.Inner.{Works}
 use Rattle.acts.proofs.Limit.{padded}
 
 cons-nil : {x : ℕ} {t : List ℕ} → x ∷ t ≡ [] → ⊥
 cons-nil p = let z : _≡_ {A = ℕ} 0 1 = cc in omega arith

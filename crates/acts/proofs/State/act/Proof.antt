@@ -1,14 +1,14 @@
 use Rattle.store.specs.Frames.{heldIn}
 use Rattle.acts.specs.View.{view, tables}
 use Rattle.store.specs.Meaning.{valueIn}
 use mathlib.Core.Path.{ap, sym, _∙_}
 use denote.Ref.{now}
 use Rattle.acts.specs.Inner.{settled}
-use Rattle.machine.proofs.Codes.{code-more, code-limit}
+use Rattle.acts.proofs.Codes.{code-more, code-limit}
 use Rattle.acts.proofs.Acts.{is-stuck}
 use borrow.Author.Needs.{needs}
-use Rattle.machine.proofs.step.act.Statement.{statement}
-use Rattle.machine.proofs.step.act.Tie as tie
+use Rattle.acts.proofs.State.act.Statement.{statement}
+use Rattle.acts.proofs.State.act.Tie as tie
 
 cast-i : tie.Need-cast-i
 cast-i c = search needs
@@ -38,7 +38,7 @@ act-limit-requires : tie.Need-act-limit-requires
 act-limit-requires c κs = search needs
 
 returns : tie.Need-returns
-returns c = c .act-limit .ensures (tables (now (c .before .before .before .before .before .before .before .before .before .before .before .args .frames)) (now (c .before .before .before .before .before .before .before .before .before .before .before .args .cells)) (now (c .before .before .before .before .before .before .before .before .before .before .before .args .keys)) (now (c .before .before .before .before .before .before .before .before .before .before .before .args .pairs)) (now (c .before .before .before .before .before .before .before .before .before .before .before .args .functions)) (now (c .before .before .before .before .before .before .before .before .before .before .before .args .bindings))) ∙ ap (settled (view (c .before .before .before .before .before .before .before .before .before .before .before .args .state) (tables (now (c .before .before .before .before .before .before .before .before .before .before .before .args .frames)) (now (c .before .before .before .before .before .before .before .before .before .before .before .args .cells)) (now (c .before .before .before .before .before .before .before .before .before .before .before .args .keys)) (now (c .before .before .before .before .before .before .before .before .before .before .before .args .pairs)) (now (c .before .before .before .before .before .before .before .before .before .before .before .args .functions)) (now (c .before .before .before .before .before .before .before .before .before .before .before .args .bindings))))) (sym (code-limit (now (c .before .before .before .before .before .before .before .before .before .before .before .args .heads)) (now (c .before .before .before .before .before .before .before .before .before .before .before .args .slots)) (c .before .before .before .before .before .before .before .before .before .before .before .args .at .0) _ (c .before .before .before .before .before .before .before .at64 .ensures) (c .before .before .before .before .before .before .before .before .before .before .before .args .held) (heldIn (now (c .before .before .before .before .before .before .before .before .before .before .before .args .frames)) (c .before .before .before .before .before .before .before .before .before .before .before .args .top) 0) (heldIn (now (c .before .before .before .before .before .before .before .before .before .before .before .args .frames)) (c .before .before .before .before .before .before .before .before .before .before .before .args .top) 1) (heldIn (now (c .before .before .before .before .before .before .before .before .before .before .before .args .frames)) (c .before .before .before .before .before .before .before .before .before .before .before .args .top) 2) (valueIn (c .before .before .before .before .before .before .before .before .before .before .before .args .v)) (view (c .before .before .before .before .before .before .before .before .before .before .before .args .back) (tables (now (c .before .before .before .before .before .before .before .before .before .before .before .args .frames)) (now (c .before .before .before .before .before .before .before .before .before .before .before .args .cells)) (now (c .before .before .before .before .before .before .before .before .before .before .before .args .keys)) (now (c .before .before .before .before .before .before .before .before .before .before .before .args .pairs)) (now (c .before .before .before .before .before .before .before .before .before .before .before .args .functions)) (now (c .before .before .before .before .before .before .before .before .before .before .before .args .bindings)))) (c .before .before .before .before .before .before .if1 .taken) (c .before .before .at16 .ensures) (c .before .before .before .before .before .in-hand .ensures) (c .before .before .before .before .in-hand2 .ensures) (c .before .before .before .in-hand3 .ensures)))
+returns c = c .act-limit .ensures (tables (now (c .before .before .before .before .before .before .before .before .before .before .before .args .frames)) (now (c .before .before .before .before .before .before .before .before .before .before .before .args .cells)) (now (c .before .before .before .before .before .before .before .before .before .before .before .args .keys)) (now (c .before .before .before .before .before .before .before .before .before .before .before .args .pairs)) (now (c .before .before .before .before .before .before .before .before .before .before .before .args .functions)) (now (c .before .before .before .before .before .before .before .before .before .before .before .args .bindings))) ∙ ap (settled (view (c .before .before .before .before .before .before .before .before .before .before .before .args .self) (tables (now (c .before .before .before .before .before .before .before .before .before .before .before .args .frames)) (now (c .before .before .before .before .before .before .before .before .before .before .before .args .cells)) (now (c .before .before .before .before .before .before .before .before .before .before .before .args .keys)) (now (c .before .before .before .before .before .before .before .before .before .before .before .args .pairs)) (now (c .before .before .before .before .before .before .before .before .before .before .before .args .functions)) (now (c .before .before .before .before .before .before .before .before .before .before .before .args .bindings))))) (sym (code-limit (now (c .before .before .before .before .before .before .before .before .before .before .before .args .heads)) (now (c .before .before .before .before .before .before .before .before .before .before .before .args .slots)) (c .before .before .before .before .before .before .before .before .before .before .before .args .at .0) _ (c .before .before .before .before .before .before .before .at64 .ensures) (c .before .before .before .before .before .before .before .before .before .before .before .args .held) (heldIn (now (c .before .before .before .before .before .before .before .before .before .before .before .args .frames)) (c .before .before .before .before .before .before .before .before .before .before .before .args .top) 0) (heldIn (now (c .before .before .before .before .before .before .before .before .before .before .before .args .frames)) (c .before .before .before .before .before .before .before .before .before .before .before .args .top) 1) (heldIn (now (c .before .before .before .before .before .before .before .before .before .before .before .args .frames)) (c .before .before .before .before .before .before .before .before .before .before .before .args .top) 2) (valueIn (c .before .before .before .before .before .before .before .before .before .before .before .args .v)) (view (c .before .before .before .before .before .before .before .before .before .before .before .args .back) (tables (now (c .before .before .before .before .before .before .before .before .before .before .before .args .frames)) (now (c .before .before .before .before .before .before .before .before .before .before .before .args .cells)) (now (c .before .before .before .before .before .before .before .before .before .before .before .args .keys)) (now (c .before .before .before .before .before .before .before .before .before .before .before .args .pairs)) (now (c .before .before .before .before .before .before .before .before .before .before .before .args .functions)) (now (c .before .before .before .before .before .before .before .before .before .before .before .args .bindings)))) (c .before .before .before .before .before .before .if1 .taken) (c .before .before .at16 .ensures) (c .before .before .before .before .before .in-hand .ensures) (c .before .before .before .before .in-hand2 .ensures) (c .before .before .before .in-hand3 .ensures)))
 
 act-one-requires : tie.Need-act-one-requires
 act-one-requires c κs = search needs

@@ -1,14 +1,14 @@
 use Rattle.syntax.specs.Words.{codeIn, decode}
 use Rattle.acts.specs.View.{view}
 use Rattle.store.specs.Meaning.{valueIn}
 use Rattle.semantics.specs.Step.{act, two}
-use Rattle.machine.proofs.Codes.{code-two}
+use Rattle.acts.proofs.Codes.{code-two}
 use Rattle.acts.proofs.Acts.{is-stuck}
 use Rattle.acts.specs.Inner.{putCells, putKeys, putPairs, putFunctions, putBindings}
 use denote.Ref.{now}
 use borrow.Author.Needs.{needs}
-use Rattle.machine.proofs.step.act_two.Statement.{statement}
-use Rattle.machine.proofs.step.act_two.Tie as tie
+use Rattle.acts.proofs.State.act_two.Statement.{statement}
+use Rattle.acts.proofs.State.act_two.Tie as tie
 
 cast-i : tie.Need-cast-i
 cast-i c = search needs

@@ -1,15 +1,15 @@
 use Rattle.syntax.specs.Words.{codeIn, decode}
 use Rattle.acts.specs.View.{view}
 use Rattle.store.specs.Meaning.{valueIn}
 use mathlib.Core.Path.{ap, sym, _∙_}
 use Rattle.semantics.specs.Step.{act, one, settle}
-use Rattle.machine.proofs.Codes.{code-one, code-test, code-access}
+use Rattle.acts.proofs.Codes.{code-one, code-test, code-access}
 use Rattle.acts.proofs.Acts.{is-stuck}
 use Rattle.acts.specs.Inner.{putCells, putKeys, putPairs, putBindings, settled}
 use denote.Ref.{now}
 use borrow.Author.Needs.{needs}
-use Rattle.machine.proofs.step.act_one.Statement.{statement}
-use Rattle.machine.proofs.step.act_one.Tie as tie
+use Rattle.acts.proofs.State.act_one.Statement.{statement}
+use Rattle.acts.proofs.State.act_one.Tie as tie
 
 cast-i : tie.Need-cast-i
 cast-i c = search needs
@@ -87,7 +87,7 @@ unfolding codeIn decode act one
 returns-3 c = λ w. simp (← c .before .before .before .before .before .at64 .ensures, c .before .before .before .match .keys3) (c .act-read .ensures (putBindings (putPairs w (now (c .before .before .before .before .before .before .before .before .before .args .pairs))) (now (c .before .before .before .before .before .before .before .before .before .args .bindings))))
 
 returns-4 : tie.Need-returns-4
-returns-4 c = λ w. c .act-test .ensures (putBindings (putPairs (putCells w (now (c .before .before .before .before .before .before .before .before .before .args .cells))) (now (c .before .before .before .before .before .before .before .before .before .args .pairs))) (now (c .before .before .before .before .before .before .before .before .before .args .bindings))) ∙ ap (settled (view (c .before .before .before .before .before .before .before .before .before .args .state) (putBindings (putPairs (putKeys (putCells w (now (c .before .before .before .before .before .before .before .before .before .args .cells))) (now (c .before .before .before .before .before .before .before .before .before .args .keys))) (now (c .before .before .before .before .before .before .before .before .before .args .pairs))) (now (c .before .before .before .before .before .before .before .before .before .args .bindings))))) (ap settle (sym (code-test (now (c .before .before .before .before .before .before .before .before .before .args .heads)) (now (c .before .before .before .before .before .before .before .before .before .args .slots)) (c .before .before .before .before .before .before .before .before .before .args .at .0) _ (c .before .before .before .before .before .at64 .ensures) (valueIn (c .before .before .before .before .before .before .before .before .before .args .v)) (view (c .before .before .before .before .before .before .before .before .before .args .back) (putBindings (putPairs (putKeys (putCells w (now (c .before .before .before .before .before .before .before .before .before .args .cells))) (now (c .before .before .before .before .before .before .before .before .before .args .keys))) (now (c .before .before .before .before .before .before .before .before .before .args .pairs))) (now (c .before .before .before .before .before .before .before .before .before .args .bindings)))) (c .before .before .before .match .keys4) (c .before .before .before .before .at16 .ensures) (c .before .before .at162 .ensures))))
+returns-4 c = λ w. c .act-test .ensures (putBindings (putPairs (putCells w (now (c .before .before .before .before .before .before .before .before .before .args .cells))) (now (c .before .before .before .before .before .before .before .before .before .args .pairs))) (now (c .before .before .before .before .before .before .before .before .before .args .bindings))) ∙ ap (settled (view (c .before .before .before .before .before .before .before .before .before .args .self) (putBindings (putPairs (putKeys (putCells w (now (c .before .before .before .before .before .before .before .before .before .args .cells))) (now (c .before .before .before .before .before .before .before .before .before .args .keys))) (now (c .before .before .before .before .before .before .before .before .before .args .pairs))) (now (c .before .before .before .before .before .before .before .before .before .args .bindings))))) (ap settle (sym (code-test (now (c .before .before .before .before .before .before .before .before .before .args .heads)) (now (c .before .before .before .before .before .before .before .before .before .args .slots)) (c .before .before .before .before .before .before .before .before .before .args .at .0) _ (c .before .before .before .before .before .at64 .ensures) (valueIn (c .before .before .before .before .before .before .before .before .before .args .v)) (view (c .before .before .before .before .before .before .before .before .before .args .back) (putBindings (putPairs (putKeys (putCells w (now (c .before .before .before .before .before .before .before .before .before .args .cells))) (now (c .before .before .before .before .before .before .before .before .before .args .keys))) (now (c .before .before .before .before .before .before .before .before .before .args .pairs))) (now (c .before .before .before .before .before .before .before .before .before .args .bindings)))) (c .before .before .before .match .keys4) (c .before .before .before .before .at16 .ensures) (c .before .before .at162 .ensures))))
 
 returns-5 : tie.Need-returns-5
 unfolding codeIn decode act one
@@ -98,7 +98,7 @@ unfolding codeIn decode act one
 returns-6 c = λ w. simp (← c .before .before .before .before .before .before .at64 .ensures, c .before .before .before .before .match .keys6, ← c .before .before .before .before .before .at16 .ensures) (c .act-new-key .ensures (putCells w (now (c .before .before .before .before .before .before .before .before .before .before .args .cells))))
 
 returns-7 : tie.Need-returns-7
-returns-7 c = λ w. c .act-access .ensures (putBindings (putPairs (putCells w (now (c .before .before .before .before .before .before .before .before .before .args .cells))) (now (c .before .before .before .before .before .before .before .before .before .args .pairs))) (now (c .before .before .before .before .before .before .before .before .before .args .bindings))) ∙ ap (settled (view (c .before .before .before .before .before .before .before .before .before .args .state) (putBindings (putPairs (putKeys (putCells w (now (c .before .before .before .before .before .before .before .before .before .args .cells))) (now (c .before .before .before .before .before .before .before .before .before .args .keys))) (now (c .before .before .before .before .before .before .before .before .before .args .pairs))) (now (c .before .before .before .before .before .before .before .before .before .args .bindings))))) (ap settle (sym (code-access (now (c .before .before .before .before .before .before .before .before .before .args .heads)) (now (c .before .before .before .before .before .before .before .before .before .args .slots)) (c .before .before .before .before .before .before .before .before .before .args .at .0) _ (c .before .before .before .before .before .at64 .ensures) (valueIn (c .before .before .before .before .before .before .before .before .before .args .v)) (view (c .before .before .before .before .before .before .before .before .before .args .back) (putBindings (putPairs (putKeys (putCells w (now (c .before .before .before .before .before .before .before .before .before .args .cells))) (now (c .before .before .before .before .before .before .before .before .before .args .keys))) (now (c .before .before .before .before .before .before .before .before .before .args .pairs))) (now (c .before .before .before .before .before .before .before .before .before .args .bindings)))) (c .before .before .before .match .keys7) (c .before .before .before .before .at16 .ensures) (c .before .before .at163 .ensures))))
+returns-7 c = λ w. c .act-access .ensures (putBindings (putPairs (putCells w (now (c .before .before .before .before .before .before .before .before .before .args .cells))) (now (c .before .before .before .before .before .before .before .before .before .args .pairs))) (now (c .before .before .before .before .before .before .before .before .before .args .bindings))) ∙ ap (settled (view (c .before .before .before .before .before .before .before .before .before .args .self) (putBindings (putPairs (putKeys (putCells w (now (c .before .before .before .before .before .before .before .before .before .args .cells))) (now (c .before .before .before .before .before .before .before .before .before .args .keys))) (now (c .before .before .before .before .before .before .before .before .before .args .pairs))) (now (c .before .before .before .before .before .before .before .before .before .args .bindings))))) (ap settle (sym (code-access (now (c .before .before .before .before .before .before .before .before .before .args .heads)) (now (c .before .before .before .before .before .before .before .before .before .args .slots)) (c .before .before .before .before .before .before .before .before .before .args .at .0) _ (c .before .before .before .before .before .at64 .ensures) (valueIn (c .before .before .before .before .before .before .before .before .before .args .v)) (view (c .before .before .before .before .before .before .before .before .before .args .back) (putBindings (putPairs (putKeys (putCells w (now (c .before .before .before .before .before .before .before .before .before .args .cells))) (now (c .before .before .before .before .before .before .before .before .before .args .keys))) (now (c .before .before .before .before .before .before .before .before .before .args .pairs))) (now (c .before .before .before .before .before .before .before .before .before .args .bindings)))) (c .before .before .before .match .keys7) (c .before .before .before .before .at16 .ensures) (c .before .before .at163 .ensures))))
 
 returns-8 : tie.Need-returns-8
 returns-8 c = λ w. is-stuck _ _ _ (c .stop .ensures) (code-one (now (c .before .before .before .before .before .before .before .args .heads)) (now (c .before .before .before .before .before .before .before .args .slots)) (c .before .before .before .before .before .before .before .args .at .0) _ (c .before .before .before .at64 .ensures) (valueIn (c .before .before .before .before .before .before .before .args .v)) (view (c .before .before .before .before .before .before .before .args .back) (putBindings (putPairs (putKeys (putCells w (now (c .before .before .before .before .before .before .before .args .cells))) (now (c .before .before .before .before .before .before .before .args .keys))) (now (c .before .before .before .before .before .before .before .args .pairs))) (now (c .before .before .before .before .before .before .before .args .bindings)))) (c .before .before .before .before .before .before .before .pre) (c .before .match .rest .0 .0 .0 .0 .0 .0 .1) (c .before .match .rest .0 .0 .0 .0 .0 .1) (c .before .match .rest .0 .0 .0 .0 .1) (c .before .match .rest .0 .0 .0 .1) (c .before .match .rest .0 .0 .1) (c .before .match .rest .0 .1) (c .before .match .rest .1))
