@@ -6,7 +6,7 @@ use mathlib.Core.Bool.{Bool, true, false, false≢true}
 use mathlib.Core.List.{List, [], _∷_}
 use lib.ListN.{length, take, drop}
 use borrow.Author.Tests.{le-leb, lt-leb}
-use Rattle.job.proofs.Leaves.{take-rest, drop-past}
+use Rattle.entry.proofs.Leaves.{take-rest, drop-past}
 use Rattle.output.specs.Lines.{printed}
 use Rattle.cases.specs.Cases.{jobLength, answerLength, caseLength, jobOf, answerOf, same, agrees, atEnd, after, casesOf, trues, falses, tallyOf}
 use Rattle.cases.specs.Laws.{same-equal, equal-same, after-less, cases-next, cases-end}

@@ -19,8 +19,8 @@ use Rattle.typing.specs.Numbered.{Sofar, whole, numbering}
 use Rattle.typing.specs.NumberedLaws.{Inv}
 use Rattle.typing.specs.NumberedVerdict.{lastEntry, lastEffect, filledFrom}
 use Rattle.elaborate.specs.OpsLaws.{jobOps}
-use Rattle.job.specs.declared.Shape.{Shape}
-use Rattle.job.specs.Answer.{shapeOf, noShape}
+use Rattle.entry.specs.declared.Shape.{Shape}
+use Rattle.entry.specs.Shapes.{shapeOf, noShape}
 use Rattle.load.specs.Loads.{jobTables}
 use Rattle.checker.specs.declared.Verdict.{Verdict}
 use Rattle.checker.specs.declared.Verdict.the-variants.{Accepted, Refused}

@@ -36,10 +36,10 @@ use Rattle.elaborate.specs.Pass.{Out, Ended, numberedBy}
 use Rattle.elaborate.specs.OpsLaws.{jobOps, agree, names-held}
 use Rattle.elaborate.specs.Right.{Reached, r-whole, r-halted, numbered-right}
 use Rattle.table.specs.declared.Refusal.{Refusal as Refused-with}
-use Rattle.job.specs.declared.Shape.{Shape}
+use Rattle.entry.specs.declared.Shape.{Shape}
+use Rattle.entry.specs.Shapes.{shapeOf}
 use Rattle.job.specs.declared.Answer.{Answer}
 use Rattle.job.specs.declared.Answer.the-variants as answers
-use Rattle.job.specs.Answer.{shapeOf}
 use Rattle.load.specs.Loads.{LoadTo}
 use Rattle.load.specs.Cases.{refused-by, job-loaded}
 use Rattle.checker.specs.declared.Verdict.{Verdict}

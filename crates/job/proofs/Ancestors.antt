@@ -10,11 +10,12 @@ use borrow.Author.Tests.{lt-ltb}
 use Rattle.syntax.specs.Job.{Name}
 use Rattle.names.specs.Ancestors.{nameOf, namesIn, entered, ancestorsBy}
 use Rattle.names.specs.Pass.{pass-next}
-use Rattle.job.specs.Entries.{namesAfter, shapeAfter, ancestorsAfter, judgedBy, judgedIn}
-use Rattle.job.specs.Answer.{shapeOf}
-use Rattle.job.specs.declared.Shape.{Shape}
-use Rattle.job.specs.declared.Entry.{Entry}
-use Rattle.job.specs.declared.Entry.the-variants.{Refuse, Named, Typed, Valued, Rights, Formed, Last}
+use Rattle.entry.specs.Entries.{judgedBy, judgedIn}
+use Rattle.entry.specs.Shapes.{shapeOf}
+use Rattle.entry.specs.declared.Shape.{Shape}
+use Rattle.entry.specs.declared.Entry.{Entry}
+use Rattle.entry.specs.declared.Entry.the-variants.{Refuse, Named, Typed, Valued, Rights, Formed, Last}
+use Rattle.job.specs.After.{namesAfter, shapeAfter, ancestorsAfter}
 use Rattle.job.proofs.Going.{Loop}
 
 -- a word stored past the first k names leaves them

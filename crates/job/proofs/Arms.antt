@@ -3,12 +3,12 @@ use mathlib.Core.Path.{_≡_, refl, subst⁻¹}
 use Prim.Native.Nat.{ℕ, _+_, _*_}
 use mathlib.Core.List.{List}
 use lib.ListN.{set}
-use Rattle.job.specs.Entries.{namesAfter, typesAfter, setsAfter, depthsAfter, valuesAfter, headsAfter, slotsAfter, fiveAt}
+use Rattle.entry.specs.declared.Form.{Form}
+use Rattle.entry.specs.declared.Shape.{Shape}
+use Rattle.entry.specs.declared.Entry.{Entry}
+use Rattle.entry.specs.declared.Entry.the-variants.{Refuse, Named, Typed, Valued, Rights, Formed, Last}
+use Rattle.job.specs.After.{namesAfter, typesAfter, setsAfter, depthsAfter, valuesAfter, headsAfter, slotsAfter, fiveAt}
 use Rattle.job.specs.Answer.{Put}
-use Rattle.job.specs.declared.Form.{Form}
-use Rattle.job.specs.declared.Shape.{Shape}
-use Rattle.job.specs.declared.Entry.{Entry}
-use Rattle.job.specs.declared.Entry.the-variants.{Refuse, Named, Typed, Valued, Rights, Formed, Last}
 
 module _ (g : Shape) (d n t s v h p : List ℕ) (e : Entry) where
   pub put-refuse : (m : ℕ) → e ≡ Refuse m → Put e g d n t s v h p d n t s v h p

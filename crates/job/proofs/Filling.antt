@@ -7,8 +7,8 @@ use lib.ListN.{length, getD, set, replicate}
 use Rattle.order.specs.OrderLaws.{length-snoc}
 use Rattle.syntax.specs.Words.{filled}
 use Rattle.syntax.specs.WordLaws.{filled-set}
-use Rattle.job.specs.Entries.{fiveAt}
-use Rattle.job.specs.declared.Form.{Form}
+use Rattle.entry.specs.declared.Form.{Form}
+use Rattle.job.specs.After.{fiveAt}
 
 -- a table with the next entry stored is the table of the longer list
 pub stored : (n : ℕ) (l m : List ℕ) (i x : ℕ) {t u : List ℕ} → t ≡ filled n 0 l → u ≡ set t i x → length l < n → i ≡ length l → m ≡ l ++ (x ∷ []) → u ≡ filled n 0 m

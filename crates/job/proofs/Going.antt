@@ -23,19 +23,20 @@ use Rattle.syntax.specs.ReadFormed.{map-snoc, names-proper, types-earlier}
 use Rattle.syntax.specs.WordLaws.{filled-none, filled-length, word-at}
 use Rattle.names.specs.Ancestors.{namesIn}
 use Rattle.names.specs.Tables as tables
-use Rattle.job.specs.Bytes.{widthByte, restOf}
-use Rattle.job.specs.Entries.{namesAfter, typesAfter, setsAfter, depthsAfter, valuesAfter, headsAfter, slotsAfter, shapeAfter, judgedBy, judgedIn}
-use Rattle.job.specs.Answer.{shapeOf, noShape, refusedBy, answerOf, longEnough, longTables, Cleared, Holds, Filled, Put, Small, stopsOf, stoppedOf}
-use Rattle.job.specs.Told.{sortOf}
-use Rattle.job.specs.declared.Shape.{Shape}
+use Rattle.entry.specs.Bytes.{widthByte, restOf}
+use Rattle.entry.specs.Entries.{judgedBy, judgedIn, stopsOf, sortOf}
+use Rattle.entry.specs.Shapes.{shapeOf, noShape}
+use Rattle.entry.specs.declared.Shape.{Shape}
+use Rattle.entry.specs.declared.Entry.{Entry}
+use Rattle.entry.specs.declared.Entry.the-variants.{Refuse, Named, Typed, Valued, Rights, Formed}
+use Rattle.entry.proofs.Ops.{width-is, width-none}
+use Rattle.entry.proofs.Entered.{extended, wordsOf, newDepth, entryW}
+use Rattle.entry.proofs.Agree.{Kept, Adds, adds-name, adds-type, adds-value, adds-rights, adds-cmd, Agrees, ag-refuse, ag-last, ag-on, agrees, sort-on}
+use Rattle.job.specs.After.{namesAfter, typesAfter, setsAfter, depthsAfter, valuesAfter, headsAfter, slotsAfter, shapeAfter}
+use Rattle.job.specs.Answer.{refusedBy, answerOf, longEnough, longTables, Cleared, Holds, Filled, Put, Small, stoppedOf}
 use Rattle.job.specs.declared.Answer.{Answer}
 use Rattle.job.specs.declared.Answer.the-variants as answers
-use Rattle.job.specs.declared.Entry.{Entry}
-use Rattle.job.specs.declared.Entry.the-variants.{Refuse, Named, Typed, Valued, Rights, Formed}
-use Rattle.job.proofs.Ops.{width-is, width-none}
-use Rattle.job.proofs.Entered.{extended, wordsOf, newDepth, entryW}
 use Rattle.job.proofs.Filling.{stored, filled-two, filled-five, flat-snoc, five-entries}
-use Rattle.job.proofs.Agree.{Kept, Adds, adds-name, adds-type, adds-value, adds-rights, adds-cmd, Agrees, ag-refuse, ag-last, ag-on, agrees, sort-on}
 
 -- every table is as long as its limit
 pub record Long (kn kt ks kv kh kp : ℕ) : Type 0 where
@@ -262,7 +263,7 @@ module _ (J : Job) (g g' : Shape) (d n t s v h p d' n' t' s' v' h' p' : List ℕ
               values = q .values ∙ a .holds .values;
               heads = stored kh (headWords J) (headWords (extended (w-cmd x) J)) (g .cmds) (headWord x) (a .holds .heads) (q .heads) (omega (arith, long .heads)) (omega arith) (map-snoc headWord (J .cmds) x);
               slots =
-                  q .slots ∙ ap (λ (m : List ℕ). Rattle.job.specs.Entries.fiveAt m (g .cmds * 5) (wordsOf x)) (a .holds .slots)
+                  q .slots ∙ ap (λ (m : List ℕ). Rattle.job.specs.After.fiveAt m (g .cmds * 5) (wordsOf x)) (a .holds .slots)
                   ∙ filled-five kp (slotWords J) (g .cmds * 5) (wordsOf x) (omega (arith, long .slots, a .five)) (omega (arith, a .five))
                   ∙ ap (λ (m : List ℕ). filled kp 0 m) f;
             };

@@ -1,10 +1,3 @@
-pub mod Leaves
-pub mod Ops
-pub mod Entered
-pub mod ExprLaws
-pub mod TypeLaws
-pub mod ValueLaws
-pub mod Agree
 pub mod Filling
 pub mod Going
 pub mod Whole

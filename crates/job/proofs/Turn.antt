@@ -11,15 +11,16 @@ use denote.Ref.{now}
 use borrow.Author.Tests.{lt-ltb, le-ltb}
 use Rattle.table.specs.Lent.{Table}
 use Rattle.names.specs.Ancestors.{namesIn, ancestorsBy}
-use Rattle.job.specs.Bytes.{restOf}
-use Rattle.job.specs.Entries.{namesAfter, typesAfter, setsAfter, valuesAfter, headsAfter, slotsAfter, ancestorsAfter, shapeAfter, judgedBy, judgedIn}
-use Rattle.job.specs.Answer.{Filled, Put, stopsOf}
-use Rattle.job.specs.Told.{sortOf, numberOf, lentOf, countedBy, stoppedBy, counted-is, stopped-is, stops-is}
+use Rattle.entry.specs.Bytes.{restOf}
+use Rattle.entry.specs.Entries.{judgedBy, judgedIn, stopsOf, sortOf}
+use Rattle.entry.specs.declared.Shape.{Shape}
+use Rattle.entry.specs.declared.Entry.{Entry}
+use Rattle.entry.specs.declared.Entry.the-variants.{Refuse, Named, Typed, Valued, Rights, Formed, Last}
+use Rattle.job.specs.After.{namesAfter, typesAfter, setsAfter, valuesAfter, headsAfter, slotsAfter, ancestorsAfter, shapeAfter}
+use Rattle.job.specs.Answer.{Filled, Put}
+use Rattle.job.specs.Told.{numberOf, lentOf, countedBy, stoppedBy, counted-is, stopped-is, stops-is}
 use Rattle.job.specs.Lent.{PutLent, entryFor, Command}
-use Rattle.job.specs.declared.Shape.{Shape}
 use Rattle.job.specs.declared.Answer.{Answer}
-use Rattle.job.specs.declared.Entry.{Entry}
-use Rattle.job.specs.declared.Entry.the-variants.{Refuse, Named, Typed, Valued, Rights, Formed, Last}
 use Rattle.job.proofs.Going.{Loop, loop-turn, loop-stop}
 use Rattle.job.proofs.Ancestors.{ancestors-turn, judged-kept}
 

@@ -9,20 +9,13 @@ use Rattle.syntax.specs.Job.{Job}
 use Rattle.syntax.specs.Words.{filled, nameWords, typeWords, setWords, valueWords, headWords, slotWords}
 use Rattle.syntax.specs.Loading.{most-entries, most-slots}
 use Rattle.syntax.specs.Reading.{Read, refused, read, reading, most-names, most-variables, most-expressions}
-use Rattle.job.specs.Entries.{namesAfter, typesAfter, setsAfter, depthsAfter, valuesAfter, headsAfter, slotsAfter}
-use Rattle.job.specs.declared.Shape.{Shape}
+use Rattle.entry.specs.Shapes.{shapeOf}
+use Rattle.entry.specs.declared.Shape.{Shape}
+use Rattle.entry.specs.declared.Entry.{Entry}
+use Rattle.entry.specs.declared.Entry.the-variants.{Refuse, Named, Typed, Valued, Rights, Formed, Last}
+use Rattle.job.specs.After.{namesAfter, typesAfter, setsAfter, depthsAfter, valuesAfter, headsAfter, slotsAfter}
 use Rattle.job.specs.declared.Answer.{Answer}
 use Rattle.job.specs.declared.Answer.the-variants as answers
-use Rattle.job.specs.declared.Entry.{Entry}
-use Rattle.job.specs.declared.Entry.the-variants.{Refuse, Named, Typed, Valued, Rights, Formed, Last}
-
--- the counts of a job's entries, and its rights
-unfoldable pub shapeOf : Job → Shape
-shapeOf J = record { names = length (J .names); types = length (J .types); values = length (J .values); cmds = length (J .cmds); rights = J .rights .set }
-
--- those of no job
-abbrev pub noShape : Shape
-noShape = record { names = 0; types = 0; values = 0; cmds = 0; rights = 0 }
 
 abbrev pub refusedBy : ℕ → ℕ → Answer
 refusedBy n p = answers.Refused (record { number = n; place = p })
@@ -110,16 +103,6 @@ pub record Small (h : Shape) : Type 0 where
   pub types : h .types ≤ 65536
   pub values : h .values ≤ 65536
   pub cmds : h .cmds ≤ 4096
-
--- reading stops at a refusal and at the end
-unfoldable pub stopsOf : Entry → Bool
-stopsOf (Refuse n) = true
-stopsOf (Named w) = false
-stopsOf (Typed w s d) = false
-stopsOf (Valued w) = false
-stopsOf (Rights s) = false
-stopsOf (Formed f) = false
-stopsOf Last = true
 
 -- the answer there: the command stands at `place`, and `left` bytes are left with it
 unfoldable pub stoppedOf : Entry → Shape → ℕ → ℕ → Answer

@@ -5,13 +5,14 @@ use mathlib.Core.List.{List}
 use lib.ListN.{length, getD, set}
 use denote.Ref.{now}
 use Rattle.table.specs.Lent.{Table}
-use Rattle.job.specs.Bytes.{restOf}
-use Rattle.job.specs.Entries.{judgedBy, ancestorsAfter}
+use Rattle.entry.specs.Bytes.{restOf}
+use Rattle.entry.specs.Entries.{judgedBy, sortOf}
+use Rattle.entry.specs.declared.Shape.{Shape}
+use Rattle.entry.specs.declared.Entry.{Entry}
+use Rattle.job.specs.After.{ancestorsAfter}
 use Rattle.job.specs.Answer.{Put, Zeroed, Filled, ReadTo}
-use Rattle.job.specs.Told.{sortOf, numberOf, lentOf}
-use Rattle.job.specs.declared.Shape.{Shape}
+use Rattle.job.specs.Told.{numberOf, lentOf}
 use Rattle.job.specs.declared.Answer.{Answer}
-use Rattle.job.specs.declared.Entry.{Entry}
 
 abbrev pub PutLent : Entry → Shape → Table → Table → Table → Table → Table → Table → Table → Type 0
 PutLent e g d n t s v h p =

@@ -1,25 +1,16 @@
--- What came of a command, in words: its sort, the number of a refusal, the rights that it lends; and the counts and the answer by them.
+-- What came of a command, in words: the number of a refusal and the rights that it lends; the counts and the answer, by them and by its sort.
 use mathlib.Core.Path.{_≡_, refl, sym}
 use Prim.Native.Nat.{ℕ, _+_}
 use mathlib.Core.Bool.{true, false, cond, true≢false}
 use lib.Dec.{eqb, ltb}
-use Rattle.job.specs.Entries.{shapeAfter}
-use Rattle.job.specs.Answer.{refusedBy, shapeOver, stopsOf, stoppedOf}
-use Rattle.job.specs.declared.Shape.{Shape}
+use Rattle.entry.specs.Entries.{sortOf, stopsOf}
+use Rattle.entry.specs.declared.Shape.{Shape}
+use Rattle.entry.specs.declared.Entry.{Entry}
+use Rattle.entry.specs.declared.Entry.the-variants.{Refuse, Named, Typed, Valued, Rights, Formed, Last}
+use Rattle.job.specs.After.{shapeAfter}
+use Rattle.job.specs.Answer.{refusedBy, shapeOver, stoppedOf}
 use Rattle.job.specs.declared.Answer.{Answer}
 use Rattle.job.specs.declared.Answer.the-variants as answers
-use Rattle.job.specs.declared.Entry.{Entry}
-use Rattle.job.specs.declared.Entry.the-variants.{Refuse, Named, Typed, Valued, Rights, Formed, Last}
-
--- the section of an entry; 5 at the end of the job, 6 at a refusal
-unfoldable pub sortOf : Entry → ℕ
-sortOf (Refuse n) = 6
-sortOf (Named w) = 0
-sortOf (Typed w s d) = 1
-sortOf (Valued w) = 2
-sortOf (Rights s) = 3
-sortOf (Formed f) = 4
-sortOf Last = 5
 
 -- the number of a refusal; 0 for none
 unfoldable pub numberOf : Entry → ℕ

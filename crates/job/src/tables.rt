@@ -1,7 +1,7 @@
 // The lent tables and the counts, before and after an entry.
-use super::Entry;
-use super::Form;
-use super::Shape;
+use entry::Entry;
+use entry::Form;
+use entry::Shape;
 use table::MOST_EXPRESSIONS;
 use table::MOST_NAMES;
 use table::MOST_VARIABLES;
@@ -14,9 +14,10 @@ use table::put16;
 use table::put64;
 ghost use mathlib.Core.Path.{_≡_};
 ghost use Prim.Native.Nat.{_+_, _<_, _≤_};
-ghost use Rattle.job.specs.Entries.{fiveAt, ancestorsAfter};
+ghost use Rattle.entry.specs.Entries.{sortOf};
+ghost use Rattle.job.specs.After.{fiveAt, ancestorsAfter};
 ghost use Rattle.job.specs.Answer.{longEnough, Small, shapeOver};
-ghost use Rattle.job.specs.Told.{sortOf, numberOf, lentOf, countedBy};
+ghost use Rattle.job.specs.Told.{numberOf, lentOf, countedBy};
 ghost use Rattle.job.specs.Lent.{PutLent, ZeroedLent};
 
 // The five places of an expression, from i on.

@@ -16,10 +16,11 @@ use Rattle.syntax.specs.Tree.{treeRefusal}
 use Rattle.syntax.specs.Words.{filled, nameWords, typeWords, setWords, valueWords, headWords, slotWords}
 use Rattle.syntax.specs.Loading.{JobTables, most-entries, most-slots, short, zeros, cleared, filledWith, loading, loadWith, holding, tablesAfterLoad}
 use Rattle.syntax.specs.LoadLaws.{load-refused, load-whole, load-out, long-load, long-after, Lengths, cleared-same}
-use Rattle.job.specs.declared.Shape.{Shape}
+use Rattle.entry.specs.declared.Shape.{Shape}
+use Rattle.entry.specs.Shapes.{shapeOf}
 use Rattle.job.specs.declared.Answer.{Answer}
 use Rattle.job.specs.declared.Answer.the-variants as answers
-use Rattle.job.specs.Answer.{longEnough, longTables, shapeOf, answerOf, refusedBy, tableOf, afterOf, ReadTo, Zeroed}
+use Rattle.job.specs.Answer.{longEnough, longTables, answerOf, refusedBy, tableOf, afterOf, ReadTo, Zeroed}
 use Rattle.table.specs.declared.Refusal.{Refusal}
 use Rattle.table.specs.declared.Expr.{Expr}
 use Rattle.tree.specs.declared.Answer.{Answer as TreeAnswer}

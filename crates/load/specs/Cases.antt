@@ -9,10 +9,11 @@ use Rattle.syntax.specs.Reading.{Read, refused, read, refusedAt}
 use Rattle.syntax.specs.Loading.{JobTables, short, filledWith, loading, loadWith, holding}
 use Rattle.syntax.specs.LoadLaws.{long-load, long-after, short-load}
 use Rattle.table.specs.declared.Refusal.{Refusal}
-use Rattle.job.specs.declared.Shape.{Shape}
+use Rattle.entry.specs.declared.Shape.{Shape}
+use Rattle.entry.specs.Shapes.{shapeOf}
 use Rattle.job.specs.declared.Answer.{Answer}
 use Rattle.job.specs.declared.Answer.the-variants as answers
-use Rattle.job.specs.Answer.{shapeOf, answerOf}
+use Rattle.job.specs.Answer.{answerOf}
 use Rattle.load.specs.Loads.{LoadTo}
 
 refusal-is : (R : Read) (k : Refusal) → answers.Refused k ≡ answerOf R → R ≡ refusedAt (k .number) (k .place)

@@ -22,8 +22,8 @@ use Rattle.semantics.specs.Calls.{Call}
 use Rattle.semantics.specs.Demand3.{exprOf, callsOf, Allowed, demand3}
 use Rattle.initial.specs.Held.{Holds}
 use Rattle.initial.specs.Held as held
-use Rattle.job.specs.declared.Shape.{Shape}
-use Rattle.job.specs.Answer.{shapeOf}
+use Rattle.entry.specs.declared.Shape.{Shape}
+use Rattle.entry.specs.Shapes.{shapeOf}
 use Rattle.checker.specs.declared.Checked.{Checked}
 use Rattle.checker.specs.declared.Verdict.the-variants as verdicts
 use Rattle.checker.specs.Answer.{treeOf, verdictIn, shapeRead, shapeFor, CheckTo}

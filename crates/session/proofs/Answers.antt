@@ -28,8 +28,8 @@ use Rattle.checker.specs.declared.Checked.{Checked}
 use Rattle.checker.specs.declared.Verdict.{Verdict as Answer}
 use Rattle.checker.specs.declared.Verdict.the-variants as verdicts
 use Rattle.checker.specs.Answer.{verdictIn, lastIn, CheckTo}
-use Rattle.job.specs.declared.Shape.{Shape}
-use Rattle.job.specs.Answer.{shapeOf}
+use Rattle.entry.specs.declared.Shape.{Shape}
+use Rattle.entry.specs.Shapes.{shapeOf}
 use Rattle.start.specs.Starts.{builtFrom, ready-built}
 use Rattle.safety.specs.Accepting.{Accepting, accepting}
 use Rattle.session.specs.declared.Held.{Held}

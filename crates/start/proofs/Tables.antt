@@ -15,10 +15,10 @@ use Rattle.machine.specs.View.{seen}
 use Rattle.initial.specs.Empty.{emptyMachine, machineOf, empty-is}
 use Rattle.initial.specs.Begun.{isJob, sourceIn}
 use Rattle.initial.specs.Held.{filled-holds}
-use Rattle.job.specs.declared.Shape.{Shape}
+use Rattle.entry.specs.declared.Shape.{Shape}
+use Rattle.entry.specs.Shapes.{shapeOf, noShape}
 use Rattle.job.specs.declared.Answer.{Answer}
 use Rattle.job.specs.declared.Answer.the-variants as answers
-use Rattle.job.specs.Answer.{shapeOf, noShape}
 use Rattle.load.specs.Loads.{LoadTo}
 use Rattle.load.specs.Cases.{Loaded, refused-by, job-loaded}
 use Rattle.start.specs.declared.Told.{Told}

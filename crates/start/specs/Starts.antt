@@ -13,10 +13,10 @@ use Rattle.machine.specs.View.{seen}
 use Rattle.initial.specs.Empty.{machineOf}
 use Rattle.initial.specs.Begun.{sourceIn}
 use Rattle.initial.specs.Held.{Holds, held-start}
-use Rattle.job.specs.declared.Shape.{Shape}
+use Rattle.entry.specs.declared.Shape.{Shape}
+use Rattle.entry.specs.Shapes.{shapeOf, noShape}
 use Rattle.job.specs.declared.Answer.{Answer}
 use Rattle.job.specs.declared.Answer.the-variants as answers
-use Rattle.job.specs.Answer.{shapeOf, noShape}
 use Rattle.start.specs.declared.Told.{Told}
 use Rattle.start.specs.declared.Told.the-variants as told
 use Rattle.start.specs.declared.Opened.{Opened}

@@ -1,5 +1,5 @@
 use mathlib.Core.Path.{ap, _∙_}
-use Rattle.job.specs.declared.Shape.{Shape}
+use Rattle.entry.specs.declared.Shape.{Shape}
 use Rattle.start.specs.Starts.{builtFrom}
 use Rattle.start.proofs.Tables.{none-built}
 use borrow.Author.Needs.{needs}

@@ -1,4 +1,4 @@
-use Rattle.job.specs.Entries.{ancestorsAfter}
+use Rattle.job.specs.After.{ancestorsAfter}
 use borrow.Author.Needs.{needs}
 use Rattle.job.proofs.tables.enter.Statement.{statement}
 use Rattle.job.proofs.tables.enter.Tie as tie

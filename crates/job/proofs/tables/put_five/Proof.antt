@@ -1,7 +1,7 @@
 use native.Mathlib.Omega.{arith}
 use mathlib.Core.Path.{refl}
 use lib.ListN.{length-set}
-use Rattle.job.specs.Entries.{fiveAt}
+use Rattle.job.specs.After.{fiveAt}
 use borrow.Author.Needs.{needs}
 use Rattle.job.proofs.tables.put_five.Statement.{statement}
 use Rattle.job.proofs.tables.put_five.Tie as tie

@@ -1,4 +1,4 @@
-use Rattle.job.specs.Told.{sortOf}
+use Rattle.entry.specs.Entries.{sortOf}
 use borrow.Author.Needs.{needs}
 use Rattle.job.proofs.tables.sort.Statement.{statement}
 use Rattle.job.proofs.tables.sort.Tie as tie
