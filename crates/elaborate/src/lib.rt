@@ -18,7 +18,7 @@ ghost use Prim.Native.Nat.{_%_, _≤_};
 ghost use Rattle.syntax.specs.Words.{typeWord, setWord, codeIn};
 ghost use Rattle.types.specs.Entry.{entryOf};
 ghost use Rattle.types.specs.Known.{Known};
-ghost use Rattle.infer.specs.Answer.{made, resultIn};
+ghost use Rattle.rules.specs.Answer.{made, resultIn};
 ghost use Rattle.elaborate.specs.Binders.{binderOf, storeKey, bound, boundOne, boundFrom, hostsFrom};
 ghost use Rattle.elaborate.specs.Pass.{work, Settled, Kept, typedFrom, Ended};
 ghost use Rattle.elaborate.specs.Typed.{Typed};
