@@ -10,13 +10,13 @@ use Rattle.syntax.specs.Types.{e-num}
 use Rattle.syntax.specs.Words.{setWord, decode, codeIn}
 use Rattle.syntax.specs.DecodeLaws.{decode-cases}
 use Rattle.typing.specs.Numbered.{Result, makes, points, wrong}
-use Rattle.types.specs.declared.Entry.{Entry}
-use Rattle.types.specs.declared.Entry.the-variants.{Number, Pair, Cell, Limit, Grant}
-use Rattle.types.specs.declared.Entry.the-variants as entry
-use Rattle.types.specs.Entry.{entryOf}
-use Rattle.types.proofs.Entry.{the-type}
-use Rattle.types.specs.Known.{Known}
-use Rattle.types.proofs.Known.{known-none}
+use Rattle.equality.specs.declared.Entry.{Entry}
+use Rattle.equality.specs.declared.Entry.the-variants.{Number, Pair, Cell, Limit, Grant}
+use Rattle.equality.specs.declared.Entry.the-variants as entry
+use Rattle.equality.specs.Entry.{entryOf}
+use Rattle.equality.proofs.Entry.{the-type}
+use Rattle.equality.specs.Known.{Known}
+use Rattle.equality.proofs.Known.{known-none}
 use Rattle.elaborate.proofs.Binder.{the-type as binders}
 use Rattle.rules.specs.Answer.{made, resultIn}
 use Rattle.elaborate.specs.declared.Binder.{Binder}

@@ -33,7 +33,7 @@ ghost use lib.ListN.{getD};
 ghost use Rattle.order.specs.Effects.{ofWord};
 ghost use Rattle.syntax.specs.Words.{codeIn, entryIn};
 ghost use Rattle.typing.specs.Numbered.{resultAt};
-ghost use Rattle.types.specs.Known.{Known};
+ghost use Rattle.equality.specs.Known.{Known};
 ghost use Rattle.rules.specs.Answer.{resultIn};
 ghost use Rattle.rules.specs.Ops.{opsBy};
 ghost use Rattle.rules.specs.Commands as by;

@@ -18,10 +18,10 @@ use Rattle.syntax.specs.Words.{entryIn}
 use Rattle.typing.specs.Numbered.{Result, points, wrong, needLim, need, keysFrom}
 use Rattle.names.specs.Ancestors.{effBelowBy, touchBy, joinBy, reduceBy}
 use Rattle.table.specs.declared.Name.{Name}
-use Rattle.types.specs.declared.Entry.{Entry}
-use Rattle.types.specs.declared.Entry.the-variants.{Limit}
-use Rattle.types.specs.Entry.{entryOf}
-use Rattle.types.proofs.Entry.{the-type}
+use Rattle.equality.specs.declared.Entry.{Entry}
+use Rattle.equality.specs.declared.Entry.the-variants.{Limit}
+use Rattle.equality.specs.Entry.{entryOf}
+use Rattle.equality.proofs.Entry.{the-type}
 use Rattle.rules.specs.declared.Operand.{Operand}
 use Rattle.rules.specs.Commands.{operandAt, four, slotsFrom, keysBy, limitBy}
 use Rattle.rules.proofs.Sorts.{not-lim, is-lim}

@@ -11,10 +11,10 @@ use Rattle.typing.specs.Numbered.{Result, wrong, needNum, needPair, needCell, n
 use Rattle.typing.specs.Layout.{rekeyed}
 use Rattle.table.specs.declared.Name.{Name}
 use Rattle.rules.specs.Answer.{made}
-use Rattle.types.specs.declared.Entry.{Entry}
-use Rattle.types.specs.declared.Entry.the-variants.{Number, Pair, Cell, Function, Limit, Grant, Nothing}
-use Rattle.types.specs.Entry.{entryOf}
-use Rattle.types.proofs.Entry.{the-type}
+use Rattle.equality.specs.declared.Entry.{Entry}
+use Rattle.equality.specs.declared.Entry.the-variants.{Number, Pair, Cell, Function, Limit, Grant, Nothing}
+use Rattle.equality.specs.Entry.{entryOf}
+use Rattle.equality.proofs.Entry.{the-type}
 
 pub not-num : (e : Entry) {o : Option TypeEntry} → entryOf e ≡ o → OneOf (1 ∷ 2 ∷ 3 ∷ 4 ∷ 5 ∷ 6 ∷ []) (tagOf the-type e) → (f : ℕ → Result) → wrong 11 ≡ needNum o f
 unfolding entryOf needNum

@@ -4,7 +4,7 @@ use mathlib.Core.Option.{Option, none, some}
 use Rattle.order.specs.Effects.{ofWord}
 use Rattle.syntax.specs.Types.{TypeEntry, e-num}
 use Rattle.typing.specs.Numbered.{Result, makes, points, wrong}
-use Rattle.types.specs.Entry.{entryOf}
+use Rattle.equality.specs.Entry.{entryOf}
 use Rattle.rules.specs.declared.Typing.{Typing}
 use Rattle.rules.specs.declared.Typing.the-variants.{Makes, Points, Wrong}
 

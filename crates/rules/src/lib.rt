@@ -17,8 +17,8 @@ ghost use lib.Dec.{eqb};
 ghost use Rattle.typing.specs.Layout as layout;
 ghost use Rattle.typing.specs.Numbered.{keyIn};
 ghost use Rattle.names.specs.Ancestors.{reduceBy, touchBy};
-ghost use Rattle.types.specs.Entry.{entryOf};
-ghost use Rattle.types.specs.Known.{Known};
+ghost use Rattle.equality.specs.Entry.{entryOf};
+ghost use Rattle.equality.specs.Known.{Known};
 ghost use Rattle.rules.specs.Answer.{made, resultIn};
 ghost use Rattle.rules.specs.Commands as by;
 

@@ -1,6 +1,6 @@
 use borrow.Author.Needs.{needs}
 use Rattle.typing.specs.Numbered.{need}
-use Rattle.types.specs.Entry.{entryOf}
+use Rattle.equality.specs.Entry.{entryOf}
 use Rattle.rules.specs.Answer.{resultIn, made}
 use Rattle.rules.proofs.cell.Statement.{statement}
 use Rattle.rules.proofs.cell.Tie as tie

@@ -1,6 +1,6 @@
 use borrow.Author.Needs.{needs}
 use Rattle.typing.specs.Numbered.{keyIn}
-use Rattle.types.specs.Entry.{entryOf}
+use Rattle.equality.specs.Entry.{entryOf}
 use Rattle.rules.proofs.Sorts.{key-none}
 use Rattle.rules.proofs.key.Statement.{statement}
 use Rattle.rules.proofs.key.Tie as tie

@@ -1,6 +1,6 @@
 use borrow.Author.Needs.{needs}
 use Rattle.typing.specs.Layout.{rekeyed}
-use Rattle.types.specs.Entry.{entryOf}
+use Rattle.equality.specs.Entry.{entryOf}
 use Rattle.rules.specs.Answer.{made}
 use Rattle.rules.proofs.Sorts.{rekeyed-none, rekeyed-number}
 use Rattle.rules.proofs.rekeyed.Statement.{statement}

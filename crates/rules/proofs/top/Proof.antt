@@ -1,5 +1,5 @@
 use mathlib.Core.Path.{refl}
-use Rattle.types.specs.Entry.{entryOf}
+use Rattle.equality.specs.Entry.{entryOf}
 use Rattle.rules.specs.Answer.{resultIn, made}
 use Rattle.rules.proofs.top.Statement.{statement}
 use Rattle.rules.proofs.top.Tie as tie

@@ -14,8 +14,8 @@ use Rattle.syntax.specs.Words.{entryIn}
 use Rattle.syntax.specs.WordLaws.{zeros-at}
 use Rattle.typing.specs.Entries.{sameIn, subIn, superIn}
 use Rattle.names.specs.Ancestors.{belowBy, effBelowBy, effectsBy}
-use Rattle.types.specs.Known.{Known, pick, turnedOf, keysBy, headsBy, leavesOf, comparedIn, packOf}
-use Rattle.types.proofs.Words.{byKind, levelOf, firstOf, secondOf, of-words}
+use Rattle.equality.specs.Known.{Known, pick, turnedOf, keysBy, headsBy, leavesOf, comparedIn, packOf}
+use Rattle.equality.proofs.Words.{byKind, levelOf, firstOf, secondOf, of-words}
 
 -- one place of a table is written, if it is there
 set-at : (t : List ℕ) (i w j : ℕ) → (getD (set t i w) j 0 ≡ getD t j 0) ⊎ (getD (set t i w) j 0 ≡ w)

@@ -2,8 +2,8 @@
 use mathlib.Core.Option.{Option, none, some}
 use Rattle.order.specs.Effects.{ofWord}
 use Rattle.syntax.specs.Types.{TypeEntry, e-num, e-pair, e-cell, e-fn, e-lim, e-grant}
-use Rattle.types.specs.declared.Entry.{Entry}
-use Rattle.types.specs.declared.Entry.the-variants.{Number, Pair, Cell, Function, Limit, Grant, Nothing}
+use Rattle.equality.specs.declared.Entry.{Entry}
+use Rattle.equality.specs.declared.Entry.the-variants.{Number, Pair, Cell, Function, Limit, Grant, Nothing}
 
 unfoldable pub entryOf : Entry → Option TypeEntry
 entryOf (Number q) = some (e-num (q .0))

@@ -1,8 +1,8 @@
 use borrow.Author.Tests.{eq-eqb, ne-eqb}
-use Rattle.types.specs.Known.{pick, keysBy}
+use Rattle.equality.specs.Known.{pick, keysBy}
 use borrow.Author.Needs.{needs}
-use Rattle.types.proofs.effects.Statement.{statement}
-use Rattle.types.proofs.effects.Tie as tie
+use Rattle.equality.proofs.effects.Statement.{statement}
+use Rattle.equality.proofs.effects.Tie as tie
 
 eff-below-requires : tie.Need-eff-below-requires
 eff-below-requires c κs = search needs

@@ -1,10 +1,10 @@
 use mathlib.Core.Path.{sym, _∙_}
 use denote.Ref.{now}
 use borrow.Author.Needs.{needs}
-use Rattle.types.proofs.Known.{known-cleared}
-use Rattle.types.proofs.Stays.{known-stays}
-use Rattle.types.proofs.make_room.Statement.{statement}
-use Rattle.types.proofs.make_room.Tie as tie
+use Rattle.equality.proofs.Known.{known-cleared}
+use Rattle.equality.proofs.Stays.{known-stays}
+use Rattle.equality.proofs.make_room.Statement.{statement}
+use Rattle.equality.proofs.make_room.Tie as tie
 
 at64-requires : tie.Need-at64-requires
 at64-requires c κs = search needs

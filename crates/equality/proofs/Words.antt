@@ -11,7 +11,7 @@ use Rattle.order.specs.Bools.{_and_}
 use Rattle.order.specs.Effects.{Effect, ofWord}
 use Rattle.syntax.specs.Words.{entryBits}
 use Rattle.typing.specs.Entries.{ifNum, ifPair, ifCell, ifFn, ifLim, ifGrant, levelBy}
-use Rattle.types.specs.Known.{leafBy, leavesOf}
+use Rattle.equality.specs.Known.{leafBy, leavesOf}
 
 -- the kinds of entry
 data Kind : ℕ → Type 0 where

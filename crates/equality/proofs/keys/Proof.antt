@@ -1,8 +1,8 @@
 use borrow.Author.Needs.{needs}
 use borrow.Author.Tests.{eq-eqb, ne-eqb}
-use Rattle.types.specs.Known.{pick, keysBy}
-use Rattle.types.proofs.keys.Statement.{statement}
-use Rattle.types.proofs.keys.Tie as tie
+use Rattle.equality.specs.Known.{pick, keysBy}
+use Rattle.equality.proofs.keys.Statement.{statement}
+use Rattle.equality.proofs.keys.Tie as tie
 
 below-requires : tie.Need-below-requires
 below-requires c κs = search needs

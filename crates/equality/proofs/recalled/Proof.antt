@@ -1,6 +1,6 @@
 use borrow.Author.Needs.{needs}
-use Rattle.types.proofs.recalled.Statement.{statement}
-use Rattle.types.proofs.recalled.Tie as tie
+use Rattle.equality.proofs.recalled.Statement.{statement}
+use Rattle.equality.proofs.recalled.Tie as tie
 
 slot-requires : tie.Need-slot-requires
 slot-requires c κs = search needs

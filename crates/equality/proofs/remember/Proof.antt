@@ -1,7 +1,7 @@
 use mathlib.Core.Path.{refl}
 use borrow.Author.Needs.{needs}
-use Rattle.types.proofs.remember.Statement.{statement}
-use Rattle.types.proofs.remember.Tie as tie
+use Rattle.equality.proofs.remember.Statement.{statement}
+use Rattle.equality.proofs.remember.Tie as tie
 
 slot-requires : tie.Need-slot-requires
 slot-requires c κs = search needs

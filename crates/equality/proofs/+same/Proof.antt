@@ -6,23 +6,23 @@ use denote.Ref.{now}
 use borrow.Author.Needs.{needs}
 use borrow.Fn.Kinds.{In}
 use borrow.Fn.PlainCycle.{Measures, is, falls, and}
-use Rattle.types.specs.Known.{comparedIn, pick, turnedOf}
-use Rattle.types.proofs.Known.{known-found, known-kept, same-none, other-heads, leaves, cells, pairs-first, pairs, other-effects, functions-first, functions}
-use Rattle.types.proofs.same.Reads as same
-use Rattle.types.proofs.same.Kinds as same-kinds
-use Rattle.types.proofs.+same.Lts-same as same-lts
+use Rattle.equality.specs.Known.{comparedIn, pick, turnedOf}
+use Rattle.equality.proofs.Known.{known-found, known-kept, same-none, other-heads, leaves, cells, pairs-first, pairs, other-effects, functions-first, functions}
+use Rattle.equality.proofs.same.Reads as same
+use Rattle.equality.proofs.same.Kinds as same-kinds
+use Rattle.equality.proofs.+same.Lts-same as same-lts
 use Rattle.table.proofs.at64.Reads as at64-reads
 use Rattle.table.proofs.byte_of.Reads as byte-of-reads
 use Rattle.table.proofs.first_of.Reads as first-of-reads
 use Rattle.table.proofs.second_of.Reads as second-of-reads
-use Rattle.types.proofs.effects.Reads as effects-reads
-use Rattle.types.proofs.heads.Reads as heads-reads
-use Rattle.types.proofs.leaves.Reads as leaves-reads
-use Rattle.types.proofs.packed.Reads as packed-reads
-use Rattle.types.proofs.recalled.Reads as recalled-reads
-use Rattle.types.proofs.remember.Reads as remember-reads
-use Rattle.types.proofs.+same.{statement}
-use Rattle.types.proofs.+same.Tie.{close}
+use Rattle.equality.proofs.effects.Reads as effects-reads
+use Rattle.equality.proofs.heads.Reads as heads-reads
+use Rattle.equality.proofs.leaves.Reads as leaves-reads
+use Rattle.equality.proofs.packed.Reads as packed-reads
+use Rattle.equality.proofs.recalled.Reads as recalled-reads
+use Rattle.equality.proofs.remember.Reads as remember-reads
+use Rattle.equality.proofs.+same.{statement}
+use Rattle.equality.proofs.+same.Tie.{close}
 
 abbrev μ-same : Measures 2 same-kinds.ps ℕ
 μ-same κs a = a .0

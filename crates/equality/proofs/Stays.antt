@@ -10,9 +10,9 @@ use lib.Dec.{eqb}
 use borrow.Author.Tests.{eqb-true}
 use Rattle.typing.specs.Entries.{sameIn, subIn}
 use Rattle.names.specs.Ancestors.{belowBy, effBelowBy}
-use Rattle.types.specs.Known.{Known, pick, keysBy, leafBy, leavesOf, turnedOf, comparedIn}
-use Rattle.types.proofs.Words.{byKind, levelOf, firstOf, secondOf, never}
-use Rattle.types.proofs.Known.{level-at}
+use Rattle.equality.specs.Known.{Known, pick, keysBy, leafBy, leavesOf, turnedOf, comparedIn}
+use Rattle.equality.proofs.Words.{byKind, levelOf, firstOf, secondOf, never}
+use Rattle.equality.proofs.Known.{level-at}
 
 and-true : (p q : Bool) → cond p q false ≡ true → (p ≡ true) × (q ≡ true)
 and-true true q h = (refl, h)

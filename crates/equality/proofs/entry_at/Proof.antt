@@ -1,10 +1,10 @@
 use borrow.Author.Needs.{needs}
 use borrow.Author.Tests.{ne-eqb}
 use Rattle.syntax.specs.Words.{entryIn, entryBits}
-use Rattle.types.specs.Entry.{entryOf}
-use Rattle.types.proofs.Words.{name-in-first}
-use Rattle.types.proofs.entry_at.Statement.{statement}
-use Rattle.types.proofs.entry_at.Tie as tie
+use Rattle.equality.specs.Entry.{entryOf}
+use Rattle.equality.proofs.Words.{name-in-first}
+use Rattle.equality.proofs.entry_at.Statement.{statement}
+use Rattle.equality.proofs.entry_at.Tie as tie
 
 at64-requires : tie.Need-at64-requires
 at64-requires c κs = search needs

@@ -1,8 +1,8 @@
 use borrow.Author.Needs.{needs}
 use borrow.Author.Tests.{ne-eqb}
-use Rattle.types.specs.Known.{leafBy}
-use Rattle.types.proofs.leaves.Statement.{statement}
-use Rattle.types.proofs.leaves.Tie as tie
+use Rattle.equality.specs.Known.{leafBy}
+use Rattle.equality.proofs.leaves.Statement.{statement}
+use Rattle.equality.proofs.leaves.Tie as tie
 
 byte-of-requires : tie.Need-byte-of-requires
 byte-of-requires c κs = search needs

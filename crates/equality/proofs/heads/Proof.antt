@@ -1,8 +1,8 @@
 use borrow.Author.Needs.{needs}
 use borrow.Author.Tests.{eq-eqb, ne-eqb}
-use Rattle.types.specs.Known.{headsBy}
-use Rattle.types.proofs.heads.Statement.{statement}
-use Rattle.types.proofs.heads.Tie as tie
+use Rattle.equality.specs.Known.{headsBy}
+use Rattle.equality.proofs.heads.Statement.{statement}
+use Rattle.equality.proofs.heads.Tie as tie
 
 byte-of-requires : tie.Need-byte-of-requires
 byte-of-requires c κs = search needs
