@@ -10,15 +10,15 @@ use Rattle.syntax.specs.Types.{e-num}
 use Rattle.syntax.specs.Words.{setWord, decode, codeIn}
 use Rattle.syntax.specs.DecodeLaws.{decode-cases}
 use Rattle.typing.specs.Numbered.{Result, makes, points, wrong}
-use Rattle.types.specs.declared.Entry.{Entry}
-use Rattle.types.specs.declared.Entry.the-variants.{Number, Pair, Cell, Limit, Grant}
-use Rattle.types.specs.declared.Entry.the-variants as entry
-use Rattle.types.specs.Entry.{entryOf}
-use Rattle.types.proofs.Entry.{the-type}
-use Rattle.types.specs.Known.{Known}
-use Rattle.types.proofs.Known.{known-none}
+use Rattle.equality.specs.declared.Entry.{Entry}
+use Rattle.equality.specs.declared.Entry.the-variants.{Number, Pair, Cell, Limit, Grant}
+use Rattle.equality.specs.declared.Entry.the-variants as entry
+use Rattle.equality.specs.Entry.{entryOf}
+use Rattle.equality.proofs.Entry.{the-type}
+use Rattle.equality.specs.Known.{Known}
+use Rattle.equality.proofs.Known.{known-none}
 use Rattle.elaborate.proofs.Binder.{the-type as binders}
-use Rattle.infer.specs.Answer.{made, resultIn}
+use Rattle.rules.specs.Answer.{made, resultIn}
 use Rattle.elaborate.specs.declared.Binder.{Binder}
 use Rattle.elaborate.specs.declared.Binder.the-variants.{Nothing, Function, NewKey}
 use Rattle.elaborate.specs.declared.Next.{Next}
@@ -26,8 +26,8 @@ use Rattle.elaborate.specs.declared.Next.the-variants.{Count, Stop}
 use Rattle.elaborate.specs.declared.Passed.the-variants as passed
 use Rattle.elaborate.specs.Binders.{binderOf, Bound, bound, boundOne, boundFrom, hostsFrom}
 use Rattle.elaborate.specs.declared.Passed.{Passed}
-use Rattle.infer.specs.declared.Typing.{Typing}
-use Rattle.infer.specs.declared.Typing.the-variants.{Makes, Points, Wrong}
+use Rattle.rules.specs.declared.Typing.{Typing}
+use Rattle.rules.specs.declared.Typing.the-variants.{Makes, Points, Wrong}
 use Rattle.elaborate.specs.Pass.{Work, work, nextOf, settled, Settled, Out, out, turn, resultBy, typedFrom, Ended, bindersBy, afterBinders, numberedBy, after}
 
 -- Kinds

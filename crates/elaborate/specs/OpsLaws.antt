@@ -23,7 +23,7 @@ use Rattle.names.specs.Ancestors.{nameOf, namesIn, ancestorsBy, ancestorsOf}
 use Rattle.names.specs.Tables.{namesIn-at, names-proper, upper-at, uppers-length}
 use Rattle.names.specs.Pass.{ancestors-by}
 use Rattle.names.specs.Laws.{below-by, eff-below-by, reduce-by, drop-by, touch-by, raise-by}
-use Rattle.infer.specs.Ops.{opsBy}
+use Rattle.rules.specs.Ops.{opsBy}
 
 -- the operations of a job by its own tables, of which that of names has k entries
 unfoldable pub jobOps : ℕ → Job → Ops

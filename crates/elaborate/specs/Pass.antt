@@ -7,8 +7,8 @@ use Rattle.order.specs.Effects.{ofWord}
 use Rattle.syntax.specs.Types.{TypeEntry}
 use Rattle.syntax.specs.Words.{typeWords, setWords, codeIn, entryIn}
 use Rattle.typing.specs.Numbered.{Result, makes, points, wrong, resultAt}
-use Rattle.types.specs.Known.{Known}
-use Rattle.infer.specs.Ops.{opsBy}
+use Rattle.equality.specs.Known.{Known}
+use Rattle.rules.specs.Ops.{opsBy}
 use Rattle.elaborate.specs.declared.Next.{Next}
 use Rattle.elaborate.specs.declared.Next.the-variants.{Count, Stop}
 use Rattle.elaborate.specs.declared.Passed.{Passed}

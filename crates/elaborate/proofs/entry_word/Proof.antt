@@ -1,7 +1,7 @@
 use borrow.Author.Needs.{needs}
 use Rattle.syntax.specs.Words.{typeWord}
-use Rattle.types.specs.Entry.{entryOf}
-use Rattle.infer.specs.Answer.{made}
+use Rattle.equality.specs.Entry.{entryOf}
+use Rattle.rules.specs.Answer.{made}
 use Rattle.elaborate.proofs.Laws.{no-entry}
 use Rattle.elaborate.proofs.entry_word.Statement.{statement}
 use Rattle.elaborate.proofs.entry_word.Tie as tie

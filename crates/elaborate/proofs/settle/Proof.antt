@@ -1,6 +1,6 @@
 use mathlib.Core.Path.{refl}
 use borrow.Author.Needs.{needs}
-use Rattle.infer.specs.Answer.{resultIn}
+use Rattle.rules.specs.Answer.{resultIn}
 use Rattle.elaborate.specs.Pass.{after, stored, nextOf, settled}
 use Rattle.elaborate.proofs.settle.Statement.{statement}
 use Rattle.elaborate.proofs.settle.Tie as tie

@@ -1,4 +1,4 @@
-use Rattle.types.specs.Known.{Known}
+use Rattle.equality.specs.Known.{Known}
 use mathlib.Core.Path.{_∙_, refl, _≡_}
 use Prim.Native.Nat.{_≤_, _+_, _-_}
 use native.Mathlib.Omega.{arith}

@@ -5,7 +5,7 @@ use Rattle.order.specs.Effects.{ofWord}
 use Rattle.typing.specs.Numbered.{resultAt, fits}
 use Rattle.syntax.specs.Words.{codeIn, decode, entryIn}
 use Rattle.syntax.specs.DecodeLaws.{decodeBy, decode-is}
-use Rattle.infer.proofs.Keys.{keys-any}
+use Rattle.rules.proofs.Keys.{keys-any}
 use lib.ListN.{getD}
 use Rattle.infer.proofs.result.Statement.{statement}
 use Rattle.infer.proofs.result.Tie as tie

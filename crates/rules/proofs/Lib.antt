@@ -1,0 +1,3 @@
+pub mod Sorts
+pub mod Branches
+pub mod Keys
