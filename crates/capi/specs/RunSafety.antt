@@ -19,7 +19,7 @@ use Rattle.semantics.specs.Calls.{stepsOf, calls}
 use Rattle.semantics.specs.Demand3.{exprOf, callsOf, Allowed}
 use Rattle.calls.specs.Words.{callsIn, resultWords}
 use Rattle.checker.specs.declared.Checked.{Checked}
-use Rattle.checker.specs.declared.Verdict.the-variants as verdicts
+use Rattle.judge.specs.declared.Verdict.the-variants as verdicts
 use Rattle.checker.specs.Answer.{CheckTo}
 use Rattle.safety.specs.Accepting.{accepting}
 use Rattle.safety.specs.FromContracts.{accepted-loads, start-is, loaded-code}

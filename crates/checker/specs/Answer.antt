@@ -1,33 +1,23 @@
 -- What the answers of the check stand for: the verdict by number and place, or by the tree of the job's type and its effect, and the tables afterwards.
 use mathlib.Core.Path.{_≡_}
 use Prim.Native.Nat.{ℕ, suc}
-use mathlib.Core.Bool.{false, cond}
+use mathlib.Core.Bool.{cond}
 use mathlib.Core.List.{List}
-use lib.ListN.{length, getD}
+use lib.ListN.{getD}
 use lib.Dec.{eqb}
 use Rattle.order.specs.Effects.{ofWord}
-use Rattle.syntax.specs.Types.{Ty, treeIn, tree}
-use Rattle.syntax.specs.Job.{Job}
+use Rattle.syntax.specs.Types.{Ty, treeIn}
 use Rattle.syntax.specs.Reading.{Read, refused, read, reading}
 use Rattle.syntax.specs.Tree.{predecessor}
 use Rattle.syntax.specs.Words.{entryIn}
-use Rattle.syntax.specs.Loading.{zeros, filledWith, loading}
-use Rattle.syntax.specs.WordLaws.{Bytes}
+use Rattle.syntax.specs.Loading.{zeros}
 use Rattle.typing.specs.Verdict as rules
-use Rattle.typing.specs.Tables.{Tables, short, tablesAfter, verdictWith}
-use Rattle.typing.specs.Numbered.{Sofar, whole, numbering}
-use Rattle.typing.specs.NumberedLaws.{Inv}
-use Rattle.typing.specs.NumberedVerdict.{lastEntry, lastEffect, filledFrom}
-use Rattle.elaborate.specs.OpsLaws.{jobOps}
+use Rattle.typing.specs.Tables.{Tables, tablesAfter, verdictWith}
 use Rattle.entry.specs.declared.Shape.{Shape}
 use Rattle.entry.specs.Shapes.{shapeOf, noShape}
-use Rattle.load.specs.Loads.{jobTables}
-use Rattle.checker.specs.declared.Verdict.{Verdict}
-use Rattle.checker.specs.declared.Verdict.the-variants.{Accepted, Refused}
+use Rattle.judge.specs.declared.Verdict.{Verdict}
+use Rattle.judge.specs.declared.Verdict.the-variants.{Accepted, Refused}
 use Rattle.checker.specs.declared.Checked.{Checked}
-
-abbrev pub tables : List ℕ → List ℕ → List ℕ → List ℕ → List ℕ → List ℕ → List ℕ → List ℕ → Tables
-tables n t s v h p o e = record { job = jobTables n t s v h p; entries = o; effects = e }
 
 -- the tree of entry i of the type table and its sets
 unfoldable pub treeOf : List ℕ → List ℕ → ℕ → Ty
@@ -61,25 +51,6 @@ pub record CheckTo (bytes : List ℕ) (r : Checked) (w x : Tables) : Type 0 wher
   pub shape : r .shape ≡ shapeFor (verdictWith w bytes) (reading bytes)
   pub entry : (i s : ℕ) → r .verdict ≡ Accepted i s → i ≡ lastIn (x .entries) (r .shape .cmds)
 
--- the tables as loading leaves them for the job J
-pub record Given (bytes : List ℕ) (J : Job) (g : Shape) (w : Tables) : Type 0 where
-  pub bytes-are : Bytes bytes
-  pub is-loaded : loading bytes ≡ read J
-  pub shape : g ≡ shapeOf J
-  pub job : w .job ≡ filledWith (J .types) J (w .job)
-  pub long : short w ≡ false
-
--- no expression has an entry or an effect yet
-pub record Untyped (w : Tables) : Type 0 where
-  pub entries : w .entries ≡ zeros (w .entries)
-  pub effects : w .effects ≡ zeros (w .effects)
-
 -- what a table of expressions holds after the load is refused with the number n: 1 writes nothing
 unfoldable pub unlessOne : ℕ → List ℕ → List ℕ
 unlessOne n l = cond (eqb n 1) l (zeros l)
-
--- the answer on such tables, and where it is an acceptance the tables afterwards
-pub data Judged (bytes : List ℕ) (J : Job) : Verdict → Tables → Type 0 where
-  accepted : (k : ℕ) (σ : Sofar) (x : Tables) (i s : ℕ) → numbering (jobOps k J) J ≡ whole σ → Inv J (length (J .cmds)) σ → x ≡ filledFrom J σ x → i ≡ lastEntry J σ → ofWord s ≡ lastEffect J σ
-      → rules.verdictOf bytes ≡ rules.accept (tree (σ .entries) i) (ofWord s) → Judged bytes J (Accepted i s) x
-  refused-by : (n p : ℕ) (x : Tables) → rules.verdictOf bytes ≡ rules.refuse (record { number = n; place = p }) → Judged bytes J (Refused n p) x

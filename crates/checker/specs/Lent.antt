@@ -1,17 +1,8 @@
--- The eight lent tables of a contract, before a call and after it.
+-- The eight lent tables of a contract after a call.
 use denote.Ref.{now}
 use Rattle.typing.specs.Tables.{Tables}
 use Rattle.table.specs.Lent.{Table}
-use Rattle.load.specs.Lent.{jobBefore, jobAfter}
-use Rattle.checker.specs.Answer.{tables}
-
-abbrev pub before : Table → Table → Table → Table → Table → Table → Table → Table → Tables
-before n t s v h p o e = record { job = jobBefore n t s v h p; entries = now (o .entry); effects = now (e .entry) }
+use Rattle.load.specs.Lent.{jobAfter}
 
 abbrev pub after : Table → Table → Table → Table → Table → Table → Table → Table → Tables
 after n t s v h p o e = record { job = jobAfter n t s v h p; entries = now (o .exit); effects = now (e .exit) }
-
--- after typing, which writes types, sets, entries and effects
-abbrev pub typedAfter : Table → Table → Table → Table → Table → Table → Table → Table → Tables
-typedAfter n t s v h p o e =
-    tables (now (n .entry)) (now (t .exit)) (now (s .exit)) (now (v .entry)) (now (h .entry)) (now (p .entry)) (now (o .exit)) (now (e .exit))

@@ -43,7 +43,7 @@ use Rattle.output.specs.Lines.{refusedLine, acceptedLine, ranLine, ranOf, runLi
 use Rattle.format.specs.Text.{joined, typeSort, kindSort, kindNumber, acceptedAs, doneAs, spentAs, noRoomAs}
 use Rattle.format.specs.Laws.{accepted-line, accepted-done, accepted-spent, accepted-no-room}
 use Rattle.checker.specs.declared.Checked.{Checked}
-use Rattle.checker.specs.declared.Verdict.the-variants as verdicts
+use Rattle.judge.specs.declared.Verdict.the-variants as verdicts
 use Rattle.checker.specs.Answer.{treeOf, verdictIn, CheckTo}
 use Rattle.safety.specs.Accepting.{Accepting, accepting}
 use Rattle.start.specs.Starts.{Ready}

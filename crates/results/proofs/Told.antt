@@ -20,8 +20,8 @@ use Rattle.acts.specs.View.{view}
 use Rattle.machine.specs.View.{seen}
 use Rattle.calls.specs.Words.{over}
 use Rattle.calls.specs.Laws.{sets-over}
-use Rattle.checker.specs.declared.Verdict.{Verdict}
-use Rattle.checker.specs.declared.Verdict.the-variants as verdict
+use Rattle.judge.specs.declared.Verdict.{Verdict}
+use Rattle.judge.specs.declared.Verdict.the-variants as verdict
 use Rattle.results.specs.Told.{Refuses, numberFor, outWords, roomWords, countWords, cell-words, lentShort}
 
 two : (l : List ℕ) (a b : ℕ) {m k : List ℕ} → m ≡ set l 0 a → k ≡ set m 1 b → k ≡ over l (a ∷ b ∷ [])

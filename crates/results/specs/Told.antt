@@ -10,8 +10,8 @@ use Rattle.semantics.specs.Machine.{Machine as Clean, most-cells, most-keys, mo
 use Rattle.store.specs.Tables.{capped}
 use Rattle.store.specs.declared.Used.{Used}
 use Rattle.machine.specs.declared.Thread.{Thread}
-use Rattle.checker.specs.declared.Verdict.{Verdict}
-use Rattle.checker.specs.declared.Verdict.the-variants.{Accepted, Refused}
+use Rattle.judge.specs.declared.Verdict.{Verdict}
+use Rattle.judge.specs.declared.Verdict.the-variants.{Accepted, Refused}
 
 -- the number of a verdict: 0 is an acceptance
 unfoldable pub numberFor : Verdict → ℕ

@@ -25,7 +25,7 @@ use Rattle.initial.specs.Held as held
 use Rattle.entry.specs.declared.Shape.{Shape}
 use Rattle.entry.specs.Shapes.{shapeOf}
 use Rattle.checker.specs.declared.Checked.{Checked}
-use Rattle.checker.specs.declared.Verdict.the-variants as verdicts
+use Rattle.judge.specs.declared.Verdict.the-variants as verdicts
 use Rattle.checker.specs.Answer.{treeOf, verdictIn, shapeRead, shapeFor, CheckTo}
 use Rattle.start.specs.Starts.{Ready}
 

@@ -30,7 +30,7 @@ use Rattle.machine.specs.declared.Machine.{Machine}
 use Rattle.machine.specs.declared.Outcome.{Outcome}
 use Rattle.machine.specs.View.{seen, ranIn}
 use Rattle.checker.specs.declared.Checked.{Checked}
-use Rattle.checker.specs.declared.Verdict.the-variants as verdicts
+use Rattle.judge.specs.declared.Verdict.the-variants as verdicts
 use Rattle.checker.specs.Answer.{treeOf, verdictIn, CheckTo}
 use Rattle.start.specs.declared.Told.{Told}
 use Rattle.start.specs.declared.Told.the-variants as told

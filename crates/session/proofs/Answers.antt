@@ -25,8 +25,8 @@ use Rattle.calls.specs.Words.{callsIn, resultWords, lastOf, over}
 use Rattle.calls.specs.Laws.{over-fits, result-length}
 use Rattle.calls.specs.Made.{Made}
 use Rattle.checker.specs.declared.Checked.{Checked}
-use Rattle.checker.specs.declared.Verdict.{Verdict as Answer}
-use Rattle.checker.specs.declared.Verdict.the-variants as verdicts
+use Rattle.judge.specs.declared.Verdict.{Verdict as Answer}
+use Rattle.judge.specs.declared.Verdict.the-variants as verdicts
 use Rattle.checker.specs.Answer.{verdictIn, lastIn, CheckTo}
 use Rattle.entry.specs.declared.Shape.{Shape}
 use Rattle.entry.specs.Shapes.{shapeOf}

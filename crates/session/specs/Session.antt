@@ -18,7 +18,7 @@ use Rattle.semantics.specs.Demand3.{stepsIn, callsOf, Allowed}
 use Rattle.machine.specs.View.{seen}
 use Rattle.calls.specs.Words.{callsIn, resultWords, lastOf}
 use Rattle.initial.specs.Empty.{emptyMachine}
-use Rattle.checker.specs.declared.Verdict.the-variants.{Accepted, Refused}
+use Rattle.judge.specs.declared.Verdict.the-variants.{Accepted, Refused}
 use Rattle.checker.specs.Answer.{verdictIn, lastIn}
 use Rattle.session.specs.declared.Held.{Held}
 

@@ -6,7 +6,8 @@ ghost use Rattle.syntax.specs.Words.{codeIn};
 ghost use Rattle.semantics.specs.Calls.{stepsOf};
 ghost use Rattle.machine.specs.View.{seen};
 ghost use Rattle.calls.specs.Made.{Made};
-ghost use Rattle.checker.specs.Lent.{before, after};
+ghost use Rattle.judge.specs.Lent.{before};
+ghost use Rattle.checker.specs.Lent.{after};
 ghost use Rattle.start.specs.Starts.{builtFrom};
 ghost use Rattle.session.specs.Session.{RefusedWith, SessionTo};
 

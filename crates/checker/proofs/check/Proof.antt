@@ -1,6 +1,6 @@
 use mathlib.Core.Path.{sym, _∙_}
 use native.Mathlib.Omega.{arith}
-use Rattle.checker.specs.Judging.{short-told, short-entries, short-effects, load-refused, load-settled}
+use Rattle.checker.specs.Checking.{short-told, short-entries, short-effects, load-refused, load-settled}
 use borrow.Author.Needs.{needs}
 use Rattle.checker.proofs.check.Statement.{statement}
 use Rattle.checker.proofs.check.Tie as tie

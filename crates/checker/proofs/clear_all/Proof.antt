@@ -1,7 +1,7 @@
 use Rattle.syntax.specs.Loading as loads
 use Rattle.syntax.specs.Loading.{zeros}
 use Rattle.typing.specs.Tables.{cleared}
-use Rattle.checker.specs.Answer.{tables}
+use Rattle.judge.specs.Answer.{tables}
 use borrow.Author.Needs.{needs}
 use Rattle.checker.proofs.clear_all.Statement.{statement}
 use Rattle.checker.proofs.clear_all.Tie as tie

@@ -1,5 +1,5 @@
 use mathlib.Core.Path.{refl, sym, _∙_}
-use Rattle.checker.specs.Judging.{settled, settled-refused}
+use Rattle.checker.specs.Checking.{settled, settled-refused}
 use borrow.Author.Needs.{needs}
 use Rattle.checker.proofs.settle.Statement.{statement}
 use Rattle.checker.proofs.settle.Tie as tie

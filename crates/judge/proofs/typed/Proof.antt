@@ -1,8 +1,8 @@
 use borrow.Author.Needs.{needs}
-use Rattle.checker.specs.Judging.{typed-halted, typed-within, typed-beyond}
-use Rattle.checker.proofs.Laws.{is-whole}
-use Rattle.checker.proofs.typed.Statement.{statement}
-use Rattle.checker.proofs.typed.Tie as tie
+use Rattle.judge.specs.Judging.{typed-halted, typed-within, typed-beyond}
+use Rattle.judge.proofs.Laws.{is-whole}
+use Rattle.judge.proofs.typed.Statement.{statement}
+use Rattle.judge.proofs.typed.Tie as tie
 
 ancestors-requires : tie.Need-ancestors-requires
 ancestors-requires c κs = search needs
@@ -22,8 +22,8 @@ number-all-requires c κs = search needs
 enum-known-n : tie.Need-enum-known-n
 enum-known-n c = search needs
 
-cast-t29 : tie.Need-cast-t29
-cast-t29 c = search needs
+cast-t30 : tie.Need-cast-t30
+cast-t30 c = search needs
 
 same-length : tie.Need-same-length
 same-length c = search needs
@@ -95,7 +95,7 @@ typed-spec =
     narrow-requires-3
     number-all-requires
     enum-known-n
-    cast-t29
+    cast-t30
     same-length
     same-length-2
     same-length-3

@@ -1,8 +1,8 @@
 use borrow.Author.Needs.{needs}
 use Rattle.syntax.specs.Context.{predecessor-minus}
-use Rattle.checker.proofs.Laws.{predecessor-none}
-use Rattle.checker.proofs.last.Statement.{statement}
-use Rattle.checker.proofs.last.Tie as tie
+use Rattle.judge.proofs.Laws.{predecessor-none}
+use Rattle.judge.proofs.last.Statement.{statement}
+use Rattle.judge.proofs.last.Tie as tie
 
 returns : tie.Need-returns
 returns c = predecessor-none _ (c .if1 .taken)
