@@ -73,7 +73,7 @@ extern "C" {
 /* The kinds of values: the first word of a value. Its second word is the number itself; the number
  * of the pair, cell or function; or the key that a limit key or a grant key stands for. A number is at
  * most 4294967295: a job's difference below zero is 0 and its sum above 4294967295 is 4294967295, and
- * nothing tells such an end from a true result. */
+ * nothing tells such an end, or a number that comes of one, from a true result. */
 #define JOBDESK_NO_VALUE 0
 #define JOBDESK_NUMBER 1
 #define JOBDESK_PAIR 2

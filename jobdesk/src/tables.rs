@@ -246,7 +246,7 @@ pub struct Value {
     pub kind: Kind,
     /// The number itself; the number of the pair, cell or function; or the key that a limit key or
     /// a grant key stands for. The numbers 0 and 4294967295 may be ends at which a difference or a
-    /// sum has stopped: nothing tells these from true results.
+    /// sum has stopped: nothing tells these, or a number that comes of one, from true results.
     pub data: u32,
 }
 

@@ -28,6 +28,11 @@ unfoldable pub asking : ℕ → List ℕ
 unfolding askingWith
 asking s = askingWith 0x14 0x00 s 2 3 0
 
+-- two numbers of a low byte and a byte that stands three times above it, and 0x3A of them, in this order: op 0 or 1
+unfoldable pub reckoning : ℕ → ℕ → ℕ → ℕ → ℕ → List ℕ
+reckoning op a x b y =
+    0x21 ∷ 0x00 ∷ 0x00 ∷ 0x00 ∷ 0x00 ∷ 0x00 ∷ 0x00 ∷ 0x00 ∷ 0x00 ∷ 0x30 ∷ a ∷ x ∷ x ∷ x ∷ 0x30 ∷ b ∷ y ∷ y ∷ y ∷ 0x3A ∷ op ∷ 0x00 ∷ 0x00 ∷ 0x01 ∷ 0x00 ∷ 0xFF ∷ []
+
 -- an unkeyed host cell, starting at 5, read with no rights
 unfoldable pub unkeyedRead : List ℕ
 unkeyedRead =
