@@ -3,9 +3,9 @@ use mathlib.Core.Path.{_≡_, refl}
 use mathlib.Core.List.{[], _∷_}
 use types.Run.{OneOf, miss}
 use denote.Enum.Declared.{tagOf}
-use Rattle.tree.specs.declared.Answer.{Answer}
-use Rattle.tree.specs.declared.Answer.the-variants as answers
-use Rattle.tree.proofs.Answer.{the-type}
+use Rattle.uses.specs.declared.Answer.{Answer}
+use Rattle.uses.specs.declared.Answer.the-variants as answers
+use Rattle.uses.proofs.Answer.{the-type}
 
 pub is-tree : (a : Answer) → OneOf (0 ∷ []) (tagOf the-type a) → a ≡ answers.Tree
 is-tree answers.Tree h = refl

@@ -23,9 +23,9 @@ use Rattle.job.specs.declared.Answer.the-variants as answers
 use Rattle.job.specs.Answer.{longEnough, longTables, answerOf, refusedBy, tableOf, afterOf, ReadTo, Zeroed}
 use Rattle.table.specs.declared.Refusal.{Refusal}
 use Rattle.table.specs.declared.Expr.{Expr}
-use Rattle.tree.specs.declared.Answer.{Answer as TreeAnswer}
-use Rattle.tree.specs.declared.Answer.the-variants as trees
-use Rattle.tree.specs.Answer.{refusalOf}
+use Rattle.uses.specs.declared.Answer.{Answer as TreeAnswer}
+use Rattle.uses.specs.declared.Answer.the-variants as trees
+use Rattle.uses.specs.Answer.{refusalOf}
 use Rattle.tree.specs.Holds.{Holds}
 use Rattle.tree.specs.Filled.{filled-holds}
 use Rattle.load.specs.Loads.{jobTables, LoadTo}

@@ -22,8 +22,8 @@ use Rattle.syntax.specs.ReadLaws.{NamesOk, built-at}
 use Rattle.syntax.specs.ReadFormed.{upper-ok}
 use Rattle.names.specs.Ancestors.{oneOf}
 use Rattle.tree.specs.Passes.{hostVars, hostName, hostNames}
-use Rattle.tree.specs.Heads.{pow-fits, one-bit}
-use Rattle.tree.specs.Binders.{memB-cons}
+use Rattle.uses.specs.Heads.{pow-fits, one-bit}
+use Rattle.uses.specs.Binders.{memB-cons}
 
 -- variables
 

@@ -1,10 +1,6 @@
-pub mod Answer
 pub mod Passes
 pub mod Places
 pub mod Holds
-pub mod Heads
-pub mod Uses
-pub mod Binders
 pub mod Masks
 pub mod Host
 pub mod Scopes

@@ -27,7 +27,7 @@ use Rattle.syntax.specs.ReadFormed.{entry-parts, tree-at}
 use Rattle.names.specs.Ancestors.{oneOf}
 use Rattle.tree.specs.Passes.{typeNames, masksFrom, masksBy}
 use Rattle.names.specs.Bits.{one-of}
-use Rattle.tree.specs.Binders.{memB-cons, memB-app}
+use Rattle.uses.specs.Binders.{memB-cons, memB-app}
 
 one-all : (q n : ℕ) → q < 64 → bit (oneOf q) n ≡ eqb n q
 one-all q n h = ap (λ (x : ℕ). bit x n) (one-of q h) ∙ bit-pow q n

@@ -1,6 +1,6 @@
--- The passes over a job's tables for numbers 8, 9 and 10, step by step. `Holds` says which tables hold a job, and `Right` that the passes then find the job's refusal.
+-- The pass over a job's tables for number 10, step by step, and the passes for 8, 9 and 10 together. `Holds` says which tables hold a job, and `Right` that the passes then find the job's refusal.
 use Prim.Native.Nat.{ℕ, zero, suc, _+_, _-_, _*_, _/_, _%_, _^_}
-use mathlib.Core.Bool.{Bool, true, false, cond, not}
+use mathlib.Core.Bool.{Bool, true, false, cond}
 use mathlib.Core.List.{List}
 use mathlib.Core.Option.{Option, some}
 use lib.ListN.{getD, set, replicate}
@@ -10,71 +10,7 @@ use Rattle.order.specs.Sets.{bit}
 use Rattle.syntax.specs.Reading.{Refusal, most-names, most-types, most-variables, most-expressions}
 use Rattle.syntax.specs.Tree.{firstBad, orElse, numbered}
 use Rattle.names.specs.Ancestors.{oneOf}
-
--- how many of the first places of a command's operands are expressions; 0x3C has its own rule
-unfoldable pub arityOf : ℕ → ℕ
-arityOf b =
-    cond (eqb b 0x33) 2
-    (cond (eqb b 0x34) 1
-    (cond (eqb b 0x35) 1
-    (cond (eqb b 0x36) 2
-    (cond (eqb b 0x37) 1
-    (cond (eqb b 0x38) 2
-    (cond (eqb b 0x39) 1
-    (cond (eqb b 0x3A) 2
-    (cond (eqb b 0x3B) 3
-    (cond (eqb b 0x3D) 2
-    (cond (eqb b 0x3E) 2
-    (cond (eqb b 0x3F) 2
-    (cond (eqb b 0x40) 3
-    0))))))))))))
-
--- place i of the command with this head is an expression; of 0x3C the keys that are used, and the body
-unfoldable pub isOperand : ℕ → ℕ → Bool
-isOperand w i = cond (eqb (w % 256) 0x3C) (cond (ltb i (w / 256)) true (eqb i 4)) (ltb i (arityOf (w % 256)))
-
--- place i is the body of a binder: of 0x35 and 0x3E
-unfoldable pub isBody : ℕ → ℕ → Bool
-isBody w i = cond (eqb (w % 256) 0x35) (eqb i 0) (cond (eqb (w % 256) 0x3E) (eqb i 1) false)
-
--- the variable or the local name that the command binds; 64 for none
-unfoldable pub boundVar : ℕ → ℕ
-boundVar w = cond (eqb (w % 256) 0x35) (w / 256 % 256) (cond (eqb (w % 256) 0x3E) (w / 256 % 256) 64)
-
-unfoldable pub boundName : ℕ → ℕ
-boundName w = cond (eqb (w % 256) 0x3E) (w / 65536 % 256) 64
-
-unfoldable pub boundOf : Bool → ℕ → ℕ
-boundOf isName w = cond isName (boundName w) (boundVar w)
-
--- refusal 8: the uses of each expression, no more than 2 told apart; the places from the last down
-unfoldable pub oneMore : ℕ → ℕ
-oneMore x = cond (ltb x 2) (x + 1) 2
-
-unfoldable pub tallied : List ℕ → ℕ → List ℕ
-tallied l c = cond (ltb c most-expressions) (set l c (oneMore (getD l c 0))) l
-
-unfoldable pub countStep : List ℕ → ℕ → ℕ → ℕ → List ℕ
-countStep l w i c = cond (isOperand w i) (tallied l c) l
-
-unfoldable pub counted : List ℕ → List ℕ → ℕ → List ℕ → List ℕ
-counted heads slots zero l = l
-counted heads slots (suc j) l = counted heads slots j (countStep l (getD heads (j / 5) 0) (j % 5) (getD slots j 0))
-
-unfoldable pub countsBy : List ℕ → List ℕ → ℕ → List ℕ
-countsBy heads slots n = counted heads slots (n * 5) (replicate most-expressions 0)
-
--- once, and the last not at all
-unfoldable pub rightCount : List ℕ → ℕ → ℕ → Bool
-rightCount counts n e = eqb (getD counts e 0) (cond (eqb (e + 1) n) 0 1)
-
--- refusal 9: what the expressions before e bind
-unfoldable pub before : Bool → List ℕ → ℕ → ℕ
-before isName heads zero = 0
-before isName heads (suc e) = bitOr (before isName heads e) (oneOf (boundOf isName (getD heads e 0)))
-
-unfoldable pub isNew : List ℕ → ℕ → Bool
-isNew heads e = cond (bit (before false heads e) (boundVar (getD heads e 0))) false (not (bit (before true heads e) (boundName (getD heads e 0))))
+use Rattle.uses.specs.Passes.{isOperand, isBody, boundOf, typePlace, countsBy, rightCount, isNew}
 
 -- refusal 10: the host's variables; its names with 0 and 1
 unfoldable pub hostVars : ℕ → ℕ
@@ -122,10 +58,6 @@ inheritedDown isName heads slots (suc j) sc = inheritedDown isName heads slots j
 -- the last expression stands in the host's scope
 unfoldable pub scopesBy : Bool → List ℕ → List ℕ → ℕ → ℕ → List ℕ
 scopesBy isName heads slots n host = inheritedDown isName heads slots (n * 5) (putIn (replicate most-expressions 0) (n - 1) host)
-
--- the place of a command's type operand; 5 for none
-unfoldable pub typePlace : ℕ → ℕ
-typePlace b = cond (eqb b 0x35) 1 (cond (eqb b 0x37) 1 (cond (eqb b 0x3B) 3 (cond (eqb b 0x3E) 2 (cond (eqb b 0x40) 3 5))))
 
 -- the names in the type operand of the expression with this head
 unfoldable pub operandNames : List ℕ → List ℕ → ℕ → ℕ → ℕ

@@ -24,11 +24,12 @@ use Rattle.syntax.specs.Scope.{memB→, →memB}
 use Rattle.syntax.specs.ReadLaws.{JobOk}
 use Rattle.syntax.specs.RowLaws.{usesVar-map}
 use Rattle.syntax.specs.ReadFormed.{typesOf-map, nth-map, tree-declared, cmds-formed}
-use Rattle.tree.specs.Passes.{isNew, countsBy, rightCount, hostVars, hostNames, masksBy, scopesBy, typePlace, operandNames, varFits, isScoped, scopeRefusal, tableRefusal}
+use Rattle.uses.specs.Passes.{isNew, countsBy, rightCount, typePlace}
+use Rattle.tree.specs.Passes.{hostVars, hostNames, masksBy, scopesBy, operandNames, varFits, isScoped, scopeRefusal, tableRefusal}
 use Rattle.tree.specs.Holds.{Holds}
-use Rattle.tree.specs.Heads.{byteOf, byte-is, TypeAt, t-none, t-one, Sort, is-variable, is-function, is-key, is-plain, asked}
-use Rattle.tree.specs.Uses.{bad-cong, right-is}
-use Rattle.tree.specs.Binders.{new-right}
+use Rattle.uses.specs.Heads.{byteOf, byte-is, TypeAt, t-none, t-one, Sort, is-variable, is-function, is-key, is-plain, asked}
+use Rattle.uses.specs.Uses.{bad-cong, right-is}
+use Rattle.uses.specs.Binders.{new-right}
 use Rattle.tree.specs.Masks.{masks-are}
 use Rattle.tree.specs.Host.{host-vars-bit, host-vars-are, host-names-bit}
 use Rattle.tree.specs.Scopes.{inKind, scopes-are}

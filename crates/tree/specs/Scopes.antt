@@ -21,9 +21,10 @@ use Rattle.syntax.specs.Tree.{Entry, binds, varsOf, namesOf, memB, count, hostC
 use Rattle.syntax.specs.Scope.{count-mem, uses-mem, mem-uses, parent-is}
 use Rattle.syntax.specs.ReadFormed.{children-map, nth-map}
 use Rattle.names.specs.Ancestors.{oneOf}
-use Rattle.tree.specs.Passes.{arityOf, isOperand, isBody, boundOf, inheritedBy, putIn, inheritStep, inheritedDown, scopesBy}
-use Rattle.tree.specs.Heads.{byteOf, byte-is, keysOf, opAt, operand-is, useAt, uses5, children-count, one-bit, Sort, is-variable, is-function, is-key, is-plain, asked}
-use Rattle.tree.specs.Binders.{kindOf, kind-app, memB-app, Own, own, own-mem}
+use Rattle.uses.specs.Passes.{arityOf, isOperand, isBody, boundOf}
+use Rattle.tree.specs.Passes.{inheritedBy, putIn, inheritStep, inheritedDown, scopesBy}
+use Rattle.uses.specs.Heads.{byteOf, byte-is, keysOf, opAt, operand-is, useAt, uses5, children-count, one-bit, Sort, is-variable, is-function, is-key, is-plain, asked}
+use Rattle.uses.specs.Binders.{kindOf, kind-app, memB-app, Own, own, own-mem}
 
 -- Operands by place
 

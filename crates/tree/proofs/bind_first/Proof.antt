@@ -3,8 +3,10 @@ use Prim.Native.Nat.{_≤_}
 use mathlib.Core.Path.{_≡_, refl}
 use native.Mathlib.Omega.{arith}
 use mathlib.Core.Bool.{true, false}
-use Rattle.tree.specs.Places.{atFirst, inheritAt}
-use Rattle.tree.proofs.Places.{inherit-next, first-end}
+use Rattle.uses.specs.Places.{atFirst}
+use Rattle.tree.specs.Places.{inheritAt}
+use Rattle.uses.proofs.Places.{first-end}
+use Rattle.tree.proofs.Places.{inherit-next}
 use Rattle.tree.proofs.bind_first.Statement.{statement}
 use Rattle.tree.proofs.bind_first.Tie as tie
 

@@ -1,4 +1,4 @@
-use Rattle.tree.specs.Heads.{some-pow}
+use Rattle.uses.specs.Heads.{some-pow}
 use Rattle.tree.specs.Passes.{hostVars}
 use borrow.Author.Tests.{le-ltb, lt-ltb}
 use borrow.Author.Needs.{needs}

@@ -1,5 +1,6 @@
 use Rattle.tree.specs.Places.{inheritTo}
-use Rattle.tree.specs.Passes.{inheritedBy, putIn, boundOf}
+use Rattle.uses.specs.Passes.{boundOf}
+use Rattle.tree.specs.Passes.{inheritedBy, putIn}
 use borrow.Author.Tests.{lt-ltb, le-ltb}
 use borrow.Author.Needs.{needs}
 use Rattle.tree.proofs.inherit.Statement.{statement}

@@ -1,4 +1,5 @@
-use Rattle.tree.specs.Places.{atLast, inheritAt}
+use Rattle.uses.specs.Places.{atLast}
+use Rattle.tree.specs.Places.{inheritAt}
 use borrow.Author.Needs.{needs}
 use Rattle.tree.proofs.inherit_last.Statement.{statement}
 use Rattle.tree.proofs.inherit_last.Tie as tie

@@ -2,8 +2,10 @@ use borrow.Author.Needs.{needs}
 use Prim.Native.Nat.{_≤_}
 use mathlib.Core.Path.{_≡_, refl}
 use native.Mathlib.Omega.{arith}
-use Rattle.tree.specs.Places.{atFirst, passAt}
-use Rattle.tree.proofs.Places.{pass-next, first-end}
+use Rattle.uses.specs.Places.{atFirst}
+use Rattle.tree.specs.Places.{passAt}
+use Rattle.uses.proofs.Places.{first-end}
+use Rattle.tree.proofs.Places.{pass-next}
 use Rattle.tree.proofs.pass_first.Statement.{statement}
 use Rattle.tree.proofs.pass_first.Tie as tie
 

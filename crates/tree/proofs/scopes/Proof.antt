@@ -4,7 +4,8 @@ use mathlib.Core.Path.{_≡_, refl}
 use native.Mathlib.Omega.{arith}
 use mathlib.Core.Bool.{true, false}
 use Rattle.tree.specs.Passes.{inheritedDown}
-use Rattle.tree.proofs.Places.{inherit-on, inherit-end, operands-few}
+use Rattle.uses.proofs.Places.{operands-few}
+use Rattle.tree.proofs.Places.{inherit-on, inherit-end}
 use Rattle.tree.proofs.scopes.Statement.{statement}
 use Rattle.tree.proofs.scopes.Tie as tie
 

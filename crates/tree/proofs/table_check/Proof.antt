@@ -1,6 +1,6 @@
 use mathlib.Core.Path.{sym, ap, _∙_}
-use Rattle.tree.specs.Answer.{refusalOf}
-use Rattle.tree.specs.Passes.{countsBy}
+use Rattle.uses.specs.Answer.{refusalOf}
+use Rattle.uses.specs.Passes.{countsBy}
 use Rattle.tree.proofs.Loops.{found-8, found-9, past-9}
 use borrow.Author.Needs.{needs}
 use Rattle.tree.proofs.table_check.Statement.{statement}

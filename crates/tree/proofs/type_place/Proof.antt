@@ -1,4 +1,4 @@
-use Rattle.tree.specs.Passes.{typePlace}
+use Rattle.uses.specs.Passes.{typePlace}
 use borrow.Author.Tests.{ne-eqb}
 use Rattle.tree.proofs.type_place.Statement.{statement}
 use Rattle.tree.proofs.type_place.Tie as tie

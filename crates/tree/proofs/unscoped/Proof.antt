@@ -5,7 +5,8 @@ use mathlib.Core.Path.{_≡_, _∙_}
 use native.Mathlib.Omega.{arith}
 use Rattle.syntax.specs.Tree.{firstBad}
 use Rattle.tree.specs.Passes.{isScoped}
-use Rattle.tree.proofs.Loops.{search-start, search-on, search-hit, search-end, scoped-not, scoped-is}
+use Rattle.uses.proofs.Loops.{search-start, search-on, search-hit, search-end}
+use Rattle.tree.proofs.Loops.{scoped-not, scoped-is}
 use Rattle.tree.proofs.unscoped.Statement.{statement}
 use Rattle.tree.proofs.unscoped.Tie as tie
 
