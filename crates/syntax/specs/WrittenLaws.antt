@@ -92,7 +92,7 @@ pub record Raw (op : Op) (o : List ℕ) (k : Cmd ℕ) : Type 0 where
   pub numbers-are : numbersOf k ≡ o
 
 -- the first n numbers that f gives; those of a list
-firsts : ℕ → (ℕ → ℕ) → List ℕ
+unfoldable pub firsts : ℕ → (ℕ → ℕ) → List ℕ
 firsts zero f = []
 firsts (suc n) f = f 0 ∷ firsts n (λ i. f (suc i))
 
@@ -101,7 +101,7 @@ unfolding firsts
 firsts-of [] = refl
 firsts-of (x ∷ o) = ap (λ l. x ∷ l) (firsts-of o)
 
-firsts-are : (n : ℕ) (o : List ℕ) → length o ≡ n → firsts n (λ i. getD o i 0) ≡ o
+pub firsts-are : (n : ℕ) (o : List ℕ) → length o ≡ n → firsts n (λ i. getD o i 0) ≡ o
 firsts-are n o h = ap (λ (m : ℕ). firsts m (λ i. getD o i 0)) (sym h) ∙ firsts-of o
 
 same-cmd : {j k : Cmd ℕ} → w-cmd j ≡ w-cmd k → j ≡ k

@@ -1,4 +1,5 @@
--- 0x40 (F-1 of document 02), said apart from its rule and from the checker's function: which effects its own is below, exactly; that its type is the type operand; and the number of each refusal.
+-- The two commands whose effect says which access to cells a job gains or asks for, 0x3F and 0x40 (F-1 of document 02), said apart from their rules and from the checker's function: which effects
+-- their own is below, exactly; their types; and of 0x40 the number of each refusal.
 use mathlib.Core.Path.{_≡_, refl, sym, _∙_, subst}
 use Prim.Native.Nat.{ℕ}
 use mathlib.Core.Bool.{Bool, true, false, cond, false≢true}
@@ -10,18 +11,86 @@ use Rattle.order.specs.Order.{Below, below}
 use Rattle.order.specs.OrderLaws.{Proper, →below}
 use Rattle.order.specs.Effects.{Effect, names, touch, join, drop, reduce, EffBelow}
 use Rattle.order.specs.EffectLaws.{touch-name, touch-old, touch-cases, join-left, join-right, join-cases, drop-in, drop-or, eff-each, eff-trans, reduce-below, below-reduce, name-not-zero}
-use Rattle.syntax.specs.Types.{Ty, num, pair, cell, fn, lim, grant, byType, onLim}
-use Rattle.syntax.specs.Commands.{c-access}
+use Rattle.syntax.specs.Types.{Ty, num, pair, cell, fn, lim, grant, byType, onLim, keyOf, rekey}
+use Rattle.syntax.specs.Commands.{c-assoc, c-access}
 use Rattle.syntax.specs.Job.{Src, upOf}
 use Rattle.syntax.specs.Tree.{Entry}
 use Rattle.syntax.specs.WellScoped.{ScopedType}
 use Rattle.typing.specs.Subtype.{Sub, subTy}
-use Rattle.typing.specs.Rules.{codeOf, Has, h-access}
+use Rattle.typing.specs.Rules.{codeOf, Has, h-assoc, h-access}
 use Rattle.typing.specs.Least.{Typed, typed, untyped, with, wantLim, require, typeAt}
 
 -- the name is 0, or below a name of the effect
 abbrev pub Under : List ℕ → ℕ → Effect → Type 0
 Under up n v = (n ≡ 0) ⊎ ((m : ℕ) × List·Memᴰ m (names v) × Below up n m)
+
+each-below : {up : List ℕ} {s v : Effect} → ((n : ℕ) → List·Memᴰ n (names s) → (m : ℕ) × List·Memᴰ m (names v) × Below up n m) → EffBelow up s v
+unfolding names
+each-below f = record { sets = record { each = f } }
+
+-- a reduced effect is below the same effects
+reduced-same : {up : List ℕ} → Proper up → (x v : Effect) {X : Type 0} → EffBelow up x v ↔ X → EffBelow up (reduce up x) v ↔ X
+reduced-same {up} ok x v i = (λ h. i .0 (eff-trans (below-reduce ok x) h), λ a. eff-trans (reduce-below up x) (i .1 a))
+
+-- 0x3F
+
+-- what it asks of an effect (or of the rights) v: the effects s of the value and t of the limit key, the name p of the value's key (a new key would else open what was closed) and the name q of
+-- the key that the limit key itself carries
+pub record Opens (up : List ℕ) (p q : ℕ) (s t v : Effect) : Type 0 where
+  pub value : EffBelow up s v
+  pub key : EffBelow up t v
+  pub value-touched : Under up p v
+  pub key-touched : Under up q v
+
+opens-exactly : {up : List ℕ} (p q : ℕ) (s t v : Effect) → EffBelow up (touch p (touch q (join s t))) v ↔ Opens up p q s t v
+opens-exactly {up} p q s t v = (λ h. to (eff-each h), λ a. each-below (from a))
+  where
+    Met : ℕ → Type 0
+    Met n = (m : ℕ) × List·Memᴰ m (names v) × Below up n m
+
+    to : ((n : ℕ) → List·Memᴰ n (names (touch p (touch q (join s t)))) → Met n) → Opens up p q s t v
+    to f = record {
+      value = each-below (λ n m. f n (touch-old p _ (touch-old q _ (join-left s t m))));
+      key = each-below (λ n m. f n (touch-old p _ (touch-old q _ (join-right s t m))));
+      value-touched = zero-or p (λ z. touch-name p _ z) (eqb p 0) refl;
+      key-touched = zero-or q (λ z. touch-old p _ (touch-name q _ z)) (eqb q 0) refl;
+    }
+      where
+        zero-or : (k : ℕ) → ((k ≡ 0 → ⊥) → List·Memᴰ k (names (touch p (touch q (join s t))))) → (b : Bool) → eqb k 0 ≡ b → Under up k v
+        zero-or k g true e = inl (eqb-true k 0 e)
+        zero-or k g false e = inr (f k (g (eqb-false k 0 e)))
+
+    from : Opens up p q s t v → (n : ℕ) → List·Memᴰ n (names (touch p (touch q (join s t)))) → Met n
+    from a n m = at (touch-cases p _ m)
+      where
+        met : Under up n v → Met n
+        met (inl z) = absurd (name-not-zero (touch p (touch q (join s t))) m z)
+        met (inr z) = z
+
+        body : List·Memᴰ n (names s) ⊎ List·Memᴰ n (names t) → Met n
+        body (inl i) = eff-each (a .value) n i
+        body (inr i) = eff-each (a .key) n i
+
+        inside : (n ≡ q) ⊎ List·Memᴰ n (names (join s t)) → Met n
+        inside (inl e) = met (subst (λ k. Under up k v) (sym e) (a .key-touched))
+        inside (inr i) = body (join-cases s t i)
+
+        at : (n ≡ p) ⊎ List·Memᴰ n (names (touch q (join s t))) → Met n
+        at (inl e) = met (subst (λ k. Under up k v) (sym e) (a .value-touched))
+        at (inr i) = inside (touch-cases q _ i)
+
+-- the rule: the value's type with the new key, and an effect that is below those that have what it asks for, and no others
+pub associate-rule : (S : Src) {Γ : List Entry} {e a b q r : ℕ} {A : Ty} {s t : Effect} → codeOf S e ≡ c-assoc a b → Has S Γ a A s → Has S Γ b (lim q r) t
+    → (w : Effect) × Has S Γ e (rekey r A) w × ((v : Effect) → EffBelow (upOf S) w v ↔ Opens (upOf S) (keyOf A) q s t v)
+associate-rule S {q = q} {A = A} {s = s} {t = t} k x y = (touch (keyOf A) (touch q (join s t)), h-assoc k x y, λ v. opens-exactly (keyOf A) q s t v)
+
+-- the checker's function, when the operands' types and effects are known
+module _ (S : Src) (tab : ℕ → Typed) {a b q r : ℕ} {A : Ty} {s t : Effect} (ha : tab a ≡ typed A s) (hb : tab b ≡ typed (lim q r) t) where
+  pub associate-typed : Proper (upOf S) → (w : Effect) × (typeAt S tab (c-assoc a b) ≡ typed (rekey r A) w) × ((v : Effect) → EffBelow (upOf S) w v ↔ Opens (upOf S) (keyOf A) q s t v)
+  unfolding typeAt with wantLim onLim byType
+  associate-typed ok = (reduce (upOf S) (touch (keyOf A) (touch q (join s t))), rw (ha, hb), λ v. reduced-same ok _ v (opens-exactly (keyOf A) q s t v))
+
+-- 0x40
 
 -- what 0x40 asks of an effect (or of the rights) v: the key operand's effect s, the name q of the key's own key ("The key is touched"), each name of the first branch's effect t that is not below
 -- the name r that the key stands for, and the second branch's effect u
@@ -30,10 +99,6 @@ pub record Asks (up : List ℕ) (q r : ℕ) (s t u v : Effect) : Type 0 where
   pub touched : Under up q v
   pub first : (n : ℕ) → List·Memᴰ n (names t) → Below up n r ⊎ Under up n v
   pub second : EffBelow up u v
-
-each-below : {up : List ℕ} {s v : Effect} → ((n : ℕ) → List·Memᴰ n (names s) → (m : ℕ) × List·Memᴰ m (names v) × Below up n m) → EffBelow up s v
-unfolding names
-each-below f = record { sets = record { each = f } }
 
 asks-exactly : {up : List ℕ} → Proper up → (q r : ℕ) (s t u v : Effect) → EffBelow up (touch q (join s (join (drop up r t) u))) v ↔ Asks up q r s t u v
 asks-exactly {up} ok q r s t u v = (λ h. to (eff-each h), λ a. each-below (from a))
@@ -116,7 +181,4 @@ module _ (S : Src) (tab : ℕ → Typed) {a b c : ℕ} {A B C : Ty} {s t u : Eff
   pub access-typed : {q r : ℕ} → Proper (upOf S) → A ≡ lim q r → subTy (upOf S) B T ≡ true → subTy (upOf S) C T ≡ true
       → (w : Effect) × (typeAt S tab (c-access a b c T) ≡ typed T w) × ((v : Effect) → EffBelow (upOf S) w v ↔ Asks (upOf S) q r s t u v)
   unfolding typeAt with wantLim onLim byType require
-  access-typed {q} {r} ok e x y = (reduce (upOf S) (touch q (join s (join (drop (upOf S) r t) u))), rw (ha, hb, hc, e, x, y), λ v. reduced v (asks-exactly ok q r s t u v))
-    where
-      reduced : (v : Effect) → EffBelow (upOf S) (touch q (join s (join (drop (upOf S) r t) u))) v ↔ Asks (upOf S) q r s t u v → EffBelow (upOf S) (reduce (upOf S) (touch q (join s (join (drop (upOf S) r t) u)))) v ↔ Asks (upOf S) q r s t u v
-      reduced v i = (λ h. i .0 (eff-trans (below-reduce ok _) h), λ a. eff-trans (reduce-below (upOf S) _) (i .1 a))
+  access-typed {q} {r} ok e x y = (reduce (upOf S) (touch q (join s (join (drop (upOf S) r t) u))), rw (ha, hb, hc, e, x, y), λ v. reduced-same ok _ v (asks-exactly ok q r s t u v))
