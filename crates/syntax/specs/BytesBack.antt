@@ -5,8 +5,8 @@ use native.Mathlib.Omega.{arith}
 use mathlib.Core.Bool.{Bool, true, false, cond}
 use mathlib.Core.List.{List, [], _∷_, _++_, flatMap, append-assoc, append-nil}
 use mathlib.Core.Option.{Option, none, some}
-use lib.ListN.{length, getD, take, drop, length-drop, take-append-drop}
-use lib.Dec.{eqb, ltb, leb}
+use lib.ListN.{length, take, drop, length-drop, take-append-drop}
+use lib.Dec.{eqb, ltb}
 use borrow.Author.Tests.{eqb-true, ltb-false, le-leb, lt-leb}
 use Rattle.order.specs.Effects.{Effect}
 use Rattle.syntax.specs.Types.{TypeEntry}
@@ -14,7 +14,7 @@ use Rattle.syntax.specs.Commands.{Cmd, Op, o-host, o-local, o-number, o-
 use Rattle.syntax.specs.Commands.{x-number, x-top, x-variable, x-pair, x-part, x-function, x-apply, x-cell, x-assign, x-read, x-sum, x-test, x-limit, x-grant, x-newkey, x-associate, x-access}
 use Rattle.syntax.specs.Job.{Name, HostValue, Job}
 use Rattle.syntax.specs.Reading.{State, Written, w-name, w-type, w-value, w-rights, w-cmd, w-end, unwritten, written, given, enter, misplaced, full, nameOk, typeOk, hostValueOk, rightsOk, cmdOk}
-use Rattle.syntax.specs.Reading.{Refusal, Step, refuse, proceed, finish, settle, command, Read, refused, read, ended, onward, onOp, readFrom, noJob, reading}
+use Rattle.syntax.specs.Reading.{Refusal, Step, refuse, proceed, finish, settle, command, refused, read, ended, onward, onOp, readFrom, noJob, reading}
 use Rattle.syntax.specs.ReadLaws.{Sofar, Placed, placed, Wrote, wrote-name, wrote-type, wrote-value, wrote-rights, wrote-cmd, wrote-end, wrote-none, wrote, StepOk, step-refuse, step-proceed, step-finish, step-ok, at-start}
 use Rattle.syntax.specs.WrittenLaws.{firsts, firsts-are, numbers-back}
 use Rattle.syntax.specs.WordLaws.{Bytes, bytes-drop}
