@@ -1,4 +1,4 @@
--- What the machine's declared types stand for in the semantics.
+-- What control and answers stand for in the semantics.
 use Rattle.semantics.specs.Machine.{Control as SControl, enter, hand}
 use Rattle.semantics.specs.Calls.{Answer as SAnswer, taken, finished, spent, noroom, stuck, denied}
 use Rattle.store.specs.Meaning.{valueIn}

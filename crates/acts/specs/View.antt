@@ -1,4 +1,4 @@
--- The machine in words, seen as the machine of the semantics.
+-- A state and its tables in words, seen as the machine of the semantics.
 use Prim.Native.Nat.{ℕ}
 use mathlib.Core.List.{List}
 use Rattle.semantics.specs.Machine.{Machine as Clean, most-frames, most-cells, most-keys, most-pairs, most-functions, most-bindings}

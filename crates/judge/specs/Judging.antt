@@ -1,4 +1,4 @@
--- From what the parts of the check answer to the verdict of the rules and the tables.
+-- From the pass over all expressions, and the test of the rights, to the verdict of the rules.
 use mathlib.Core.Path.{_≡_, refl, sym, ap, _∙_, subst}
 use Prim.Native.Nat.{ℕ, _%_, _≤_}
 use native.Mathlib.Omega.{arith}

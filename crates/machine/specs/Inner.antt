@@ -1,4 +1,4 @@
--- What the contracts of the state's own functions say.
+-- What the contracts of steps and runs say.
 use Prim.Native.Nat.{ℕ, zero, suc}
 use mathlib.Core.Bool.{Bool, true, false, cond}
 use mathlib.Core.Option.{Option, none, some}

@@ -1,4 +1,4 @@
--- The machine in words, seen as the machine of the semantics.
+-- The whole machine in words, seen as the machine of the semantics, and what a call gave.
 use Rattle.semantics.specs.Machine.{Machine as Clean}
 use Rattle.semantics.specs.Calls.{Ran, ran}
 use Rattle.store.specs.declared.Used.{Used}
