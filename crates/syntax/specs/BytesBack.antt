@@ -6,6 +6,7 @@ use mathlib.Core.Bool.{Bool, true, false, cond}
 use mathlib.Core.List.{List, [], _∷_, _++_, flatMap, append-assoc, append-nil}
 use mathlib.Core.Option.{Option, none, some}
 use lib.ListN.{length, take, drop, length-drop, take-append-drop}
+use lib.Seq.{take-nil, take-add}
 use lib.Dec.{eqb, ltb}
 use borrow.Author.Tests.{eqb-true, ltb-false, le-leb, lt-leb}
 use Rattle.order.specs.Effects.{Effect}
@@ -33,20 +34,11 @@ operand-back (suc w) (b ∷ s) h l =
     let high : (b + 256 * n) / 256 ≡ n = omega (arith, h 0) in
     ap₂ (λ (x : ℕ) y. x ∷ y) low (ap (bytesOf w) high ∙ operand-back w s (λ i. h (suc i)) (omega arith))
 
-take-none : (k : ℕ) → take {A = ℕ} k [] ≡ []
-take-none zero = refl
-take-none (suc k) = refl
-
-take-more : (w n : ℕ) (s : List ℕ) → take w s ++ take n (drop w s) ≡ take (w + n) s
-take-more zero n s = let z : n ≡ 0 + n = omega arith in ap (λ (k : ℕ). take k s) z
-take-more (suc w) n [] = take-none n ∙ sym (take-none (suc w + n))
-take-more (suc w) n (b ∷ s) = let z : suc (w + n) ≡ suc w + n = omega arith in ap (λ l. b ∷ l) (take-more w n s) ∙ ap (λ (k : ℕ). take k (b ∷ s)) z
-
 pub operands-back : (ws s : List ℕ) → Bytes s → total ws ≤ length s → operandBytes ws (fields ws s) ≡ take (total ws) s
 unfolding operandBytes fields total
 operands-back [] s h l = refl
 operands-back (w ∷ ws) s h l =
-    ap₂ (λ x y. x ++ y) (operand-back w s h (omega arith)) (operands-back ws (drop w s) (bytes-drop w s h) (omega (arith, length-drop w s))) ∙ take-more w (total ws) s
+    ap₂ (λ x y. x ++ y) (operand-back w s h (omega arith)) (operands-back ws (drop w s) (bytes-drop w s h) (omega (arith, length-drop w s))) ∙ sym (take-add w (total ws) s)
 
 fields-length : (ws s : List ℕ) → length (fields ws s) ≡ length ws
 unfolding fields
@@ -266,7 +258,7 @@ back-from (suc f) pos st (b ∷ s) h i J e = at (opOf b) refl e (λ op next g j.
         ∙ ap (λ x. x ++ drop (width op) s) (sym z) ∙ g next j r
     went op q t (step-finish K j) (tells-finish L z) g r =
         let n = nothing-left (suc pos) s J K r in
-        let none-left : take (width op) s ≡ s = ap (take (width op)) (n .0) ∙ take-none (width op) ∙ sym (n .0) in
+        let none-left : take (width op) s ≡ s = ap (take (width op)) (n .0) ∙ take-nil (width op) ∙ sym (n .0) in
         ap (λ x. p ++ (x ∷ s)) (sym q) ∙ ap (λ x. p ++ (form op .byte ∷ x)) (sym none-left) ∙ sym z ∙ ap jobBytes (n .1)
 
     at : (o : Option Op) → opOf b ≡ o → onOp o pos (λ op. onward (command op s st) pos s (λ next. readFrom f (pos + 1 + width op) next (drop (width op) s))) ≡ read J

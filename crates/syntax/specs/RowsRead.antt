@@ -8,11 +8,12 @@ use mathlib.Core.List.{List, [], _∷_, _++_, flatMap, append-assoc}
 use mathlib.Core.Option.{Option, none, some}
 use lib.ListN.{length, take, drop, length-append}
 use lib.Dec.{eqb}
+use lib.Seq.{drop-drop}
 use native.Mathlib.Nat.{pow-succ'}
 use borrow.Author.Tests.{le-ltb, eqb-true}
 use Rattle.syntax.specs.Commands.{Op, operands, total, width, sectionOf, little, fields}
 use Rattle.syntax.specs.Job.{Job}
-use Rattle.syntax.specs.Reading.{State, written, enter, misplaced, full, Step, refuse, proceed, finish, settle, command, Read, read, refusedAt, ended, onward, onOp, readFrom, noJob, reading}
+use Rattle.syntax.specs.Reading.{State, written, enter, misplaced, full, Step, refuse, proceed, finish, settle, command, Read, refusedAt, ended, onward, onOp, readFrom, noJob, reading}
 use Rattle.syntax.specs.ReadPlaces.{op-found, widest, width-most}
 use Rattle.syntax.specs.JobBytes.{bytesOf, operandBytes, commandBytes}
 
@@ -23,20 +24,13 @@ commandOn r st =
     (cond (full (st .job) (sectionOf (r .0))) (refuse 5)
     (settle (sectionOf (r .0)) (enter (written (r .0) (r .1)) (st .job))))
 
--- after 0xFF: 7 where a command follows
-unfoldable pub endedRows : ℕ → List (Op × List ℕ) → Job → Read
-endedRows pos [] J = read J
-endedRows pos (r ∷ rs) J = refusedAt 7 pos
-
-unfoldable pub onwardRows : Step → ℕ → List (Op × List ℕ) → (State → Read) → Read
-onwardRows (refuse n) pos rs next = refusedAt n pos
-onwardRows (proceed st) pos rs next = next st
-onwardRows (finish J) pos rs next = endedRows (suc pos) rs J
+abbrev pub rowsBytes : List (Op × List ℕ) → List ℕ
+rowsBytes rs = flatMap commandBytes rs
 
 -- from the command at offset `pos` on
 unfoldable pub rowsFrom : ℕ → State → List (Op × List ℕ) → Read
 rowsFrom pos st [] = refusedAt 4 pos
-rowsFrom pos st (r ∷ rs) = onwardRows (commandOn r st) pos rs (λ next. rowsFrom (pos + 1 + width (r .0)) next rs)
+rowsFrom pos st (r ∷ rs) = onward (commandOn r st) pos (rowsBytes rs) (λ next. rowsFrom (pos + 1 + width (r .0)) next rs)
 
 unfoldable pub readingRows : List (Op × List ℕ) → Read
 readingRows rs = rowsFrom 0 (record { section = 0; job = noJob }) rs
@@ -71,20 +65,11 @@ fields-of (narrow-more {w} {n} {ws} {o} h k) s =
     ap₂ (λ (x : ℕ) y. x ∷ y) (ap (λ l. little (take w l)) z ∙ little-of w n (operandBytes ws o ++ s) h)
     (ap (λ l. fields ws (drop w l)) z ∙ ap (fields ws) (past-of w n (operandBytes ws o ++ s)) ∙ fields-of k s)
 
-drop-none : (k : ℕ) → drop {A = ℕ} k [] ≡ []
-drop-none zero = refl
-drop-none (suc k) = refl
-
-drop-more : (a b : ℕ) (l : List ℕ) → drop (a + b) l ≡ drop b (drop a l)
-drop-more zero b l = let z : 0 + b ≡ b = omega arith in ap (λ (k : ℕ). drop k l) z
-drop-more (suc a) b [] = drop-none (suc a + b) ∙ sym (drop-none b)
-drop-more (suc a) b (x ∷ l) = let z : suc a + b ≡ suc (a + b) = omega arith in ap (λ (k : ℕ). drop k (x ∷ l)) z ∙ drop-more a b l
-
 past-all : {ws o : List ℕ} → Narrow ws o → (s : List ℕ) → drop (total ws) (operandBytes ws o ++ s) ≡ s
 unfolding total operandBytes
 past-all narrow-none s = refl
 past-all (narrow-more {w} {n} {ws} {o} h k) s =
-    drop-more w (total ws) _ ∙ ap (λ l. drop (total ws) (drop w l)) (append-assoc (bytesOf w n) (operandBytes ws o) s)
+    sym (drop-drop (total ws) w _) ∙ ap (λ l. drop (total ws) (drop w l)) (append-assoc (bytesOf w n) (operandBytes ws o) s)
     ∙ ap (drop (total ws)) (past-of w n (operandBytes ws o ++ s)) ∙ past-all k s
 
 all-length : {ws o : List ℕ} → Narrow ws o → length (operandBytes ws o) ≡ total ws
@@ -128,21 +113,12 @@ no-operand op o h e = none-of (operandBytes (operands op) o) (omega (arith, all-
 
 -- Jobs
 
-abbrev pub rowsBytes : List (Op × List ℕ) → List ℕ
-rowsBytes rs = flatMap commandBytes rs
-
 pub data AllNarrow : List (Op × List ℕ) → Type 0 where
   all-none : AllNarrow []
   all-more : {r : Op × List ℕ} {rs : List (Op × List ℕ)} → Narrow (operands (r .0)) (r .1) → AllNarrow rs → AllNarrow (r ∷ rs)
 
--- the end of the bytes is the end of the rows
-same-end : (pos : ℕ) (rs : List (Op × List ℕ)) (J : Job) → ended pos (rowsBytes rs) J ≡ endedRows pos rs J
-unfolding ended endedRows flatMap commandBytes
-same-end pos [] J = refl
-same-end pos (r ∷ rs) J = refl
-
 rows-from : (f pos : ℕ) (st : State) (rs : List (Op × List ℕ)) → AllNarrow rs → length (rowsBytes rs) < f → readFrom f pos st (rowsBytes rs) ≡ rowsFrom pos st rs
-unfolding readFrom rowsFrom flatMap commandBytes onOp onward onwardRows width
+unfolding readFrom rowsFrom flatMap commandBytes onOp onward width
 rows-from zero pos st rs h l = absurd (omega arith)
 rows-from (suc f) pos st [] h l = refl
 rows-from (suc f) pos st (r ∷ rs) (all-more k h) l =
@@ -153,10 +129,10 @@ rows-from (suc f) pos st (r ∷ rs) (all-more k h) l =
     o = operandBytes (operands (r .0)) (r .1)
 
     by : (t : Step) → commandOn r st ≡ t → ((next : State) → readFrom f (pos + 1 + width (r .0)) next (rowsBytes rs) ≡ rowsFrom (pos + 1 + width (r .0)) next rs)
-        → onward t pos (o ++ rowsBytes rs) (λ next. readFrom f (pos + 1 + width (r .0)) next (drop (width (r .0)) (o ++ rowsBytes rs))) ≡ onwardRows t pos rs (λ next. rowsFrom (pos + 1 + width (r .0)) next rs)
+        → onward t pos (o ++ rowsBytes rs) (λ next. readFrom f (pos + 1 + width (r .0)) next (drop (width (r .0)) (o ++ rowsBytes rs))) ≡ onward t pos (rowsBytes rs) (λ next. rowsFrom (pos + 1 + width (r .0)) next rs)
     by (refuse n) e g = refl
     by (proceed next) e g = ap (readFrom f (pos + 1 + width (r .0)) next) (past-all k (rowsBytes rs)) ∙ g next
-    by (finish J) e g = ap (λ x. ended (suc pos) (x ++ rowsBytes rs) J) (no-operand (r .0) (r .1) k (ends-last r st J e)) ∙ same-end (suc pos) rs J
+    by (finish J) e g = ap (λ x. ended (suc pos) (x ++ rowsBytes rs) J) (no-operand (r .0) (r .1) k (ends-last r st J e))
 
 -- rows whose numbers fit are read as their bytes are
 pub rows-read : (rs : List (Op × List ℕ)) → AllNarrow rs → reading (rowsBytes rs) ≡ readingRows rs
