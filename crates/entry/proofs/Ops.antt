@@ -4,16 +4,17 @@ use Prim.Native.Nat.{ℕ, zero, suc, _+_, _≤_, _<_}
 use native.Mathlib.Omega.{arith}
 use mathlib.Core.Bool.{Bool, true, false, cond}
 use mathlib.Core.List.{List, [], _∷_}
-use mathlib.Core.Option.{none, some, Option·none-ne-some, Option·some-injective}
+use mathlib.Core.Option.{none, some}
 use lib.ListN.{length, take, drop}
 use lib.Seq.{drop-drop}
 use lib.Dec.{eqb, ltb, leb}
-use borrow.Author.Tests.{eqb-true, le-leb, leb-true, leb-false, lt-leb}
+use borrow.Author.Tests.{le-leb, leb-true, leb-false, lt-leb}
 use Rattle.order.specs.Bools.{_and_, _or_}
-use Rattle.syntax.specs.Commands.{Op, o-host, o-local, o-number, o-pair, o-cell, o-function, o-limit, o-grant, o-value, o-rights, o-end, form, commands, findOp, opOf, total, width, sectionOf, little, fields}
+use Rattle.syntax.specs.Commands.{Op, o-host, o-local, o-number, o-pair, o-cell, o-function, o-limit, o-grant, o-value, o-rights, o-end, form, opOf, total, width, sectionOf, little, fields}
 use Rattle.syntax.specs.Commands.{x-number, x-top, x-variable, x-pair, x-part, x-function, x-apply, x-cell, x-assign, x-read, x-sum, x-test, x-limit, x-grant, x-newkey, x-associate, x-access}
 use Rattle.syntax.specs.Job.{Job}
 use Rattle.syntax.specs.Reading.{State, misplaced, full}
+use Rattle.syntax.specs.ReadPlaces as places
 use Rattle.syntax.specs.ReadPlaces.{width-most, widest-few}
 use Rattle.entry.specs.Bytes.{fieldAt, widthOn, widthByte, sectionByte, misplacedBy, fullBy}
 
@@ -21,19 +22,10 @@ unfoldable pub byteOf : Op → ℕ
 unfolding form
 byteOf o = form o .byte
 
-found : (l : List Op) (b : ℕ) (o : Op) → findOp l b ≡ some o → b ≡ byteOf o
-unfolding findOp byteOf
-found [] b o e = absurd (Option·none-ne-some o e)
-found (p ∷ l) b o e = at (eqb b (byteOf p)) refl e (λ k. found l b o k)
-  where
-    at : (y : Bool) → eqb b (byteOf p) ≡ y → cond y (some p) (findOp l b) ≡ some o → (findOp l b ≡ some o → b ≡ byteOf o) → b ≡ byteOf o
-    at true q k g = eqb-true b (byteOf p) q ∙ ap byteOf (Option·some-injective p o k)
-    at false q k g = g k
-
 -- the byte of a command
 pub op-byte : (b : ℕ) (o : Op) → opOf b ≡ some o → b ≡ byteOf o
-unfolding opOf
-op-byte b o e = found commands b o e
+unfolding byteOf
+op-byte b o e = places.op-byte b o e
 
 -- the section of a command, by its byte and by its number
 sections : (o : Op) → (sectionByte (byteOf o) ≡ sectionOf o) × (sectionOf o < 6)

@@ -11,12 +11,13 @@ use lib.Dec.{eqb, ltb}
 use borrow.Author.Tests.{eqb-true, ltb-false, le-leb, lt-leb}
 use Rattle.order.specs.Effects.{Effect}
 use Rattle.syntax.specs.Types.{TypeEntry}
-use Rattle.syntax.specs.Commands.{Cmd, Op, o-host, o-local, o-number, o-pair, o-cell, o-function, o-limit, o-grant, o-value, o-rights, o-end, form, commands, findOp, opOf, operands, total, width, sectionOf, little, fields}
+use Rattle.syntax.specs.Commands.{Cmd, Op, o-host, o-local, o-number, o-pair, o-cell, o-function, o-limit, o-grant, o-value, o-rights, o-end, form, opOf, operands, total, width, sectionOf, little, fields}
 use Rattle.syntax.specs.Commands.{x-number, x-top, x-variable, x-pair, x-part, x-function, x-apply, x-cell, x-assign, x-read, x-sum, x-test, x-limit, x-grant, x-newkey, x-associate, x-access}
 use Rattle.syntax.specs.Job.{Name, HostValue, Job}
 use Rattle.syntax.specs.Reading.{State, Written, w-name, w-type, w-value, w-rights, w-cmd, w-end, unwritten, written, given, enter, misplaced, full, nameOk, typeOk, hostValueOk, rightsOk, cmdOk}
 use Rattle.syntax.specs.Reading.{Refusal, Step, refuse, proceed, finish, settle, command, refused, read, ended, onward, onOp, readFrom, noJob, reading}
 use Rattle.syntax.specs.ReadLaws.{Sofar, Placed, placed, Wrote, wrote-name, wrote-type, wrote-value, wrote-rights, wrote-cmd, wrote-end, wrote-none, wrote, StepOk, step-refuse, step-proceed, step-finish, step-ok, at-start}
+use Rattle.syntax.specs.ReadPlaces.{op-byte}
 use Rattle.syntax.specs.WrittenLaws.{firsts, firsts-are, numbers-back}
 use Rattle.syntax.specs.WordLaws.{Bytes, bytes-drop}
 use Rattle.syntax.specs.JobBytes.{bytesOf, operandBytes, commandBytes, rowOf, entryBytes, bytesTo, jobBytes}
@@ -46,16 +47,6 @@ fields-length [] s = refl
 fields-length (w ∷ ws) s = ap suc (fields-length ws (drop w s))
 
 -- Commands
-
--- a command is found by its own byte
-found-byte : (l : List Op) (b : ℕ) (op : Op) → findOp l b ≡ some op → form op .byte ≡ b
-unfolding findOp
-found-byte [] b op e = absurd (let z : _≡_ {A = ℕ} 0 1 = cc in omega arith)
-found-byte (o ∷ l) b op e = at (eqb b (form o .byte)) refl e (found-byte l b op)
-  where
-    at : (c : Bool) → eqb b (form o .byte) ≡ c → cond c (some o) (findOp l b) ≡ some op → (findOp l b ≡ some op → form op .byte ≡ b) → form op .byte ≡ b
-    at true h q f = let z : o ≡ op = cc in ap (λ (x : Op). form x .byte) (sym z) ∙ sym (eqb-true b (form o .byte) h)
-    at false h q f = f q
 
 -- what a command writes is written by it and its operands
 data Back (op : Op) (o : List ℕ) : Written → Type 0 where
@@ -265,7 +256,7 @@ back-from (suc f) pos st (b ∷ s) h i J e = at (opOf b) refl e (λ op next g j.
         → ((op : Op) (next : State) → Sofar (next .section) (next .job) → readFrom f (pos + 1 + width op) next (drop (width op) s) ≡ read J → bytesTo (next .section) (next .job) ++ drop (width op) s ≡ jobBytes J)
         → p ++ (b ∷ s) ≡ jobBytes J
     at none q r g = no-read r
-    at (some op) q r g = went op (found-byte commands b op q) (command op s st) (step-ok op s st i) (command-tells op s (λ n. h (suc n)) st i) (g op) r
+    at (some op) q r g = went op (sym (op-byte b op q)) (command op s st) (step-ok op s st i) (command-tells op s (λ n. h (suc n)) st i) (g op) r
 
 -- the bytes of a job that is read are those that it was read from
 pub bytes-back : (s : List ℕ) (J : Job) → Bytes s → reading s ≡ read J → jobBytes J ≡ s

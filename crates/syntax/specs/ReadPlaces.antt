@@ -1,10 +1,10 @@
 -- Where reading stops: the number and place of a refusal, and how long a job can be.
-use mathlib.Core.Path.{_≡_, refl, subst}
+use mathlib.Core.Path.{_≡_, refl, ap, _∙_, subst}
 use Prim.Native.Nat.{ℕ, zero, suc, _+_, _*_, _≤_, _<_}
 use native.Mathlib.Omega.{arith}
 use mathlib.Core.Bool.{Bool, true, false, cond}
 use mathlib.Core.List.{List, [], _∷_}
-use mathlib.Core.Option.{Option, none, some}
+use mathlib.Core.Option.{Option, none, some, Option·none-ne-some, Option·some-injective}
 use lib.ListN.{length, length-drop, drop}
 use lib.Dec.{eqb, ltb}
 use borrow.Author.Tests.{ltb-false, eqb-true}
@@ -80,6 +80,20 @@ byte-low op = in-bounds op .low
 -- every command is found by its byte
 pub op-found : (op : Op) → opOf (form op .byte) ≡ some op
 op-found op = in-bounds op .found
+
+-- and a command that is found has that byte
+found : (l : List Op) (b : ℕ) (op : Op) → findOp l b ≡ some op → b ≡ form op .byte
+unfolding findOp
+found [] b op e = absurd (Option·none-ne-some op e)
+found (o ∷ l) b op e = at (eqb b (form o .byte)) refl e (λ k. found l b op k)
+  where
+    at : (y : Bool) → eqb b (form o .byte) ≡ y → cond y (some o) (findOp l b) ≡ some op → (findOp l b ≡ some op → b ≡ form op .byte) → b ≡ form op .byte
+    at true q k g = eqb-true b (form o .byte) q ∙ ap (λ (x : Op). form x .byte) (Option·some-injective o op k)
+    at false q k g = g k
+
+pub op-byte : (b : ℕ) (op : Op) → opOf b ≡ some op → b ≡ form op .byte
+unfolding opOf
+op-byte b op e = found commands b op e
 
 -- the most bytes that write the entries of a job
 unfoldable pub weight : Job → ℕ
