@@ -32,6 +32,42 @@ each-below f = record { sets = record { each = f } }
 reduced-same : {up : List ℕ} → Proper up → (x v : Effect) {X : Type 0} → EffBelow up x v ↔ X → EffBelow up (reduce up x) v ↔ X
 reduced-same {up} ok x v i = (λ h. i .0 (eff-trans (below-reduce ok x) h), λ a. eff-trans (reduce-below up x) (i .1 a))
 
+-- Which effects a touched, a joined and a dropped effect are below, exactly
+
+touch-exactly : {up : List ℕ} (q : ℕ) (x v : Effect) → EffBelow up (touch q x) v ↔ (Under up q v × EffBelow up x v)
+touch-exactly {up} q x v = (λ h. (zero-or h (eqb q 0) refl, each-below (λ n m. eff-each h n (touch-old q x m))), λ a. each-below (λ n m. from a n m (touch-cases q x m)))
+  where
+    zero-or : EffBelow up (touch q x) v → (b : Bool) → eqb q 0 ≡ b → Under up q v
+    zero-or h true e = inl (eqb-true q 0 e)
+    zero-or h false e = inr (eff-each h q (touch-name q x (eqb-false q 0 e)))
+
+    met : (n : ℕ) → List·Memᴰ n (names (touch q x)) → Under up n v → (k : ℕ) × List·Memᴰ k (names v) × Below up n k
+    met n m (inl z) = absurd (name-not-zero (touch q x) m z)
+    met n m (inr z) = z
+
+    from : Under up q v × EffBelow up x v → (n : ℕ) → List·Memᴰ n (names (touch q x)) → (n ≡ q) ⊎ List·Memᴰ n (names x) → (k : ℕ) × List·Memᴰ k (names v) × Below up n k
+    from a n m (inl e) = met n m (subst (λ k. Under up k v) (sym e) (a .0))
+    from a n m (inr i) = eff-each (a .1) n i
+
+join-exactly : {up : List ℕ} (s t v : Effect) → EffBelow up (join s t) v ↔ (EffBelow up s v × EffBelow up t v)
+join-exactly {up} s t v = (λ h. (each-below (λ n m. eff-each h n (join-left s t m)), each-below (λ n m. eff-each h n (join-right s t m))), λ a. each-below (λ n m. from a n (join-cases s t m)))
+  where
+    from : EffBelow up s v × EffBelow up t v → (n : ℕ) → List·Memᴰ n (names s) ⊎ List·Memᴰ n (names t) → (k : ℕ) × List·Memᴰ k (names v) × Below up n k
+    from a n (inl i) = eff-each (a .0) n i
+    from a n (inr i) = eff-each (a .1) n i
+
+drop-exactly : {up : List ℕ} → Proper up → (r : ℕ) (t v : Effect) → EffBelow up (drop up r t) v ↔ ((n : ℕ) → List·Memᴰ n (names t) → Below up n r ⊎ Under up n v)
+drop-exactly {up} ok r t v = (λ h n m. to h n (drop-or up r t m), λ f. each-below (λ n m. let d = drop-in up r t m in from n m (d .1) (f n (d .0))))
+  where
+    to : EffBelow up (drop up r t) v → (n : ℕ) → List·Memᴰ n (names (drop up r t)) ⊎ Below up n r → Below up n r ⊎ Under up n v
+    to h n (inl m) = inr (inr (eff-each h n m))
+    to h n (inr b) = inl b
+
+    from : (n : ℕ) → List·Memᴰ n (names (drop up r t)) → below up n r ≡ false → Below up n r ⊎ Under up n v → (k : ℕ) × List·Memᴰ k (names v) × Below up n k
+    from n m d (inl b) = absurd (false≢true (sym d ∙ →below ok b))
+    from n m d (inr (inl z)) = absurd (name-not-zero (drop up r t) m z)
+    from n m d (inr (inr z)) = z
+
 -- 0x3F
 
 -- what it asks of an effect (or of the rights) v: the effects s of the value and t of the limit key, the name p of the value's key (a new key would else open what was closed) and the name q of
@@ -43,41 +79,14 @@ pub record Opens (up : List ℕ) (p q : ℕ) (s t v : Effect) : Type 0 where
   pub key-touched : Under up q v
 
 opens-exactly : {up : List ℕ} (p q : ℕ) (s t v : Effect) → EffBelow up (touch p (touch q (join s t))) v ↔ Opens up p q s t v
-opens-exactly {up} p q s t v = (λ h. to (eff-each h), λ a. each-below (from a))
+opens-exactly {up} p q s t v = (to, λ a. touch-exactly p _ v .1 (a .value-touched, touch-exactly q _ v .1 (a .key-touched, join-exactly s t v .1 (a .value, a .key))))
   where
-    Met : ℕ → Type 0
-    Met n = (m : ℕ) × List·Memᴰ m (names v) × Below up n m
-
-    to : ((n : ℕ) → List·Memᴰ n (names (touch p (touch q (join s t)))) → Met n) → Opens up p q s t v
-    to f = record {
-      value = each-below (λ n m. f n (touch-old p _ (touch-old q _ (join-left s t m))));
-      key = each-below (λ n m. f n (touch-old p _ (touch-old q _ (join-right s t m))));
-      value-touched = zero-or p (λ z. touch-name p _ z) (eqb p 0) refl;
-      key-touched = zero-or q (λ z. touch-old p _ (touch-name q _ z)) (eqb q 0) refl;
-    }
-      where
-        zero-or : (k : ℕ) → ((k ≡ 0 → ⊥) → List·Memᴰ k (names (touch p (touch q (join s t))))) → (b : Bool) → eqb k 0 ≡ b → Under up k v
-        zero-or k g true e = inl (eqb-true k 0 e)
-        zero-or k g false e = inr (f k (g (eqb-false k 0 e)))
-
-    from : Opens up p q s t v → (n : ℕ) → List·Memᴰ n (names (touch p (touch q (join s t)))) → Met n
-    from a n m = at (touch-cases p _ m)
-      where
-        met : Under up n v → Met n
-        met (inl z) = absurd (name-not-zero (touch p (touch q (join s t))) m z)
-        met (inr z) = z
-
-        body : List·Memᴰ n (names s) ⊎ List·Memᴰ n (names t) → Met n
-        body (inl i) = eff-each (a .value) n i
-        body (inr i) = eff-each (a .key) n i
-
-        inside : (n ≡ q) ⊎ List·Memᴰ n (names (join s t)) → Met n
-        inside (inl e) = met (subst (λ k. Under up k v) (sym e) (a .key-touched))
-        inside (inr i) = body (join-cases s t i)
-
-        at : (n ≡ p) ⊎ List·Memᴰ n (names (touch q (join s t))) → Met n
-        at (inl e) = met (subst (λ k. Under up k v) (sym e) (a .value-touched))
-        at (inr i) = inside (touch-cases q _ i)
+    to : EffBelow up (touch p (touch q (join s t))) v → Opens up p q s t v
+    to h =
+        let x = touch-exactly p _ v .0 h in
+        let y = touch-exactly q _ v .0 (x .1) in
+        let z = join-exactly s t v .0 (y .1) in
+        record { value = z .0; key = z .1; value-touched = x .0; key-touched = y .0 }
 
 -- the rule: the value's type with the new key, and an effect that is below those that have what it asks for, and no others
 pub associate-rule : (S : Src) {Γ : List Entry} {e a b q r : ℕ} {A : Ty} {s t : Effect} → codeOf S e ≡ c-assoc a b → Has S Γ a A s → Has S Γ b (lim q r) t
@@ -101,49 +110,17 @@ pub record Asks (up : List ℕ) (q r : ℕ) (s t u v : Effect) : Type 0 where
   pub second : EffBelow up u v
 
 asks-exactly : {up : List ℕ} → Proper up → (q r : ℕ) (s t u v : Effect) → EffBelow up (touch q (join s (join (drop up r t) u))) v ↔ Asks up q r s t u v
-asks-exactly {up} ok q r s t u v = (λ h. to (eff-each h), λ a. each-below (from a))
+asks-exactly {up} ok q r s t u v = (to, from)
   where
-    Met : ℕ → Type 0
-    Met n = (m : ℕ) × List·Memᴰ m (names v) × Below up n m
+    to : EffBelow up (touch q (join s (join (drop up r t) u))) v → Asks up q r s t u v
+    to h =
+        let x = touch-exactly q _ v .0 h in
+        let y = join-exactly s _ v .0 (x .1) in
+        let z = join-exactly (drop up r t) u v .0 (y .1) in
+        record { key = y .0; touched = x .0; first = drop-exactly ok r t v .0 (z .0); second = z .1 }
 
-    to : ((n : ℕ) → List·Memᴰ n (names (touch q (join s (join (drop up r t) u)))) → Met n) → Asks up q r s t u v
-    to f = record {
-      key = each-below (λ n m. f n (touch-old q _ (join-left s _ m)));
-      touched = zero-or (eqb q 0) refl;
-      first = λ n m. first n (drop-or up r t m);
-      second = each-below (λ n m. f n (touch-old q _ (join-right s _ (join-right (drop up r t) u m))));
-    }
-      where
-        zero-or : (b : Bool) → eqb q 0 ≡ b → Under up q v
-        zero-or true e = inl (eqb-true q 0 e)
-        zero-or false e = inr (f q (touch-name q _ (eqb-false q 0 e)))
-
-        first : (n : ℕ) → List·Memᴰ n (names (drop up r t)) ⊎ Below up n r → Below up n r ⊎ Under up n v
-        first n (inl m) = inr (inr (f n (touch-old q _ (join-right s _ (join-left (drop up r t) u m)))))
-        first n (inr b) = inl b
-
-    from : Asks up q r s t u v → (n : ℕ) → List·Memᴰ n (names (touch q (join s (join (drop up r t) u)))) → Met n
-    from a n m = at (touch-cases q _ m)
-      where
-        met : Under up n v → Met n
-        met (inl z) = absurd (name-not-zero (touch q (join s (join (drop up r t) u))) m z)
-        met (inr z) = z
-
-        kept : List·Memᴰ n (names t) × (below up n r ≡ false) → Below up n r ⊎ Under up n v → Met n
-        kept d (inl b) = absurd (false≢true (sym (d .1) ∙ →below ok b))
-        kept d (inr z) = met z
-
-        inside : List·Memᴰ n (names (drop up r t)) ⊎ List·Memᴰ n (names u) → Met n
-        inside (inl i) = let d = drop-in up r t i in kept d (a .first n (d .0))
-        inside (inr i) = eff-each (a .second) n i
-
-        body : List·Memᴰ n (names s) ⊎ List·Memᴰ n (names (join (drop up r t) u)) → Met n
-        body (inl i) = eff-each (a .key) n i
-        body (inr i) = inside (join-cases (drop up r t) u i)
-
-        at : (n ≡ q) ⊎ List·Memᴰ n (names (join s (join (drop up r t) u))) → Met n
-        at (inl e) = met (subst (λ k. Under up k v) (sym e) (a .touched))
-        at (inr i) = body (join-cases s _ i)
+    from : Asks up q r s t u v → EffBelow up (touch q (join s (join (drop up r t) u))) v
+    from a = touch-exactly q _ v .1 (a .touched, join-exactly s _ v .1 (a .key, join-exactly (drop up r t) u v .1 (drop-exactly ok r t v .1 (a .first), a .second)))
 
 -- the rule: from what its operands have, the type operand, and an effect that is below those that have what it asks for, and no others
 pub access-rule : (S : Src) {Γ : List Entry} {e a b c q r : ℕ} {B C T : Ty} {s t u : Effect} → Proper (upOf S) → codeOf S e ≡ c-access a b c T → ScopedType Γ T
