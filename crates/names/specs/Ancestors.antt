@@ -1,6 +1,6 @@
 -- Names by a table of ancestors: entry a is the set of the names at or above a, so that one word answers what is above a name. The tests and operations on
 -- effects by that table; `Laws` shows that they are those of the order.
-use Prim.Native.Nat.{ℕ, zero, suc, _+_, _-_, _/_, _%_, _^_}
+use Prim.Native.Nat.{ℕ, zero, suc, _+_, _-_, _%_, _^_}
 use mathlib.Core.Bool.{Bool, false, cond, not}
 use mathlib.Core.List.{List, [], _∷_, _++_, map}
 use lib.ListN.{length, getD, set, replicate}
@@ -13,10 +13,7 @@ use Rattle.order.specs.Sets.{bit, members, setOf, keep, all-of}
 use Rattle.order.specs.Effects.{Effect, ofWord, setNames, join}
 use Rattle.syntax.specs.Job.{Name}
 use Rattle.syntax.specs.Reading.{most-names, hostName}
-
--- the declared name that a word of the names table stands for
-unfoldable pub nameOf : ℕ → Name
-nameOf w = record { host = eqb (w / 256) 1; upper = w % 256 }
+unfoldable pub use Rattle.syntax.specs.Words.{nameOf}
 
 -- the first n declared names of a names table; the first stands at 2
 unfoldable pub namesIn : List ℕ → ℕ → List Name

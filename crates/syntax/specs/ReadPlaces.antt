@@ -1,19 +1,20 @@
 -- Where reading stops: the number and place of a refusal, and how long a job can be.
-use mathlib.Core.Path.{_≡_, refl, ap, _∙_, subst}
+use mathlib.Core.Path.{_≡_, refl, sym, ap, ap₂, _∙_, subst, subst⁻¹}
 use Prim.Native.Nat.{ℕ, zero, suc, _+_, _*_, _≤_, _<_}
 use native.Mathlib.Omega.{arith}
 use mathlib.Core.Bool.{Bool, true, false, cond}
-use mathlib.Core.List.{List, [], _∷_}
+use mathlib.Core.List.{List, [], _∷_, _++_}
 use mathlib.Core.Option.{Option, none, some, Option·none-ne-some, Option·some-injective}
-use lib.ListN.{length, length-drop, drop}
+use lib.ListN.{length, length-append, length-drop, drop}
+use lib.Seq.{take-append-le, drop-append-le}
 use lib.Dec.{eqb, ltb}
-use borrow.Author.Tests.{ltb-false, eqb-true}
+use borrow.Author.Tests.{ltb-false, le-ltb, eqb-true}
 use Rattle.order.specs.OrderLaws.{length-snoc}
 use Rattle.syntax.specs.Commands.{Op, form, o-host, o-local, o-number, o-pair, o-cell, o-function, o-limit, o-grant, o-value, o-rights, o-end, commands, findOp, opOf, operands, total, width, sectionOf, fields}
-use Rattle.syntax.specs.Commands.{x-number, x-top, x-variable, x-pair, x-part, x-function, x-apply, x-cell, x-assign, x-read, x-sum, x-test, x-limit, x-grant, x-newkey, x-associate, x-access}
+use Rattle.syntax.specs.Commands.{x-number, x-top, x-variable, x-pair, x-part, x-function, x-apply, x-cell, x-assign, x-read, x-sum, x-test, x-limit, x-grant, x-newkey, x-associate, x-access, little}
 use Rattle.syntax.specs.Job.{Job}
 use Rattle.syntax.specs.Reading.{Refusal, State, nameOk, typeOk, hostValueOk, rightsOk, cmdOk, Written, written, given, enter, misplaced, full}
-use Rattle.syntax.specs.Reading.{Step, refuse, proceed, finish, settle, command, Read, refused, read, ended, onward, onOp, readFrom, noJob, reading}
+use Rattle.syntax.specs.Reading.{Step, refuse, proceed, finish, settle, command, Read, refused, read, refusedAt, ended, onward, onOp, readFrom, noJob, reading}
 use Rattle.syntax.specs.ReadLaws.{Placed, placed, Wrote, wrote-name, wrote-type, wrote-value, wrote-rights, wrote-cmd, wrote-end, wrote-none, wrote, read-ok}
 
 -- the most bytes that follow a command byte, by section
@@ -207,3 +208,84 @@ read-length s J e = at (reading-comes s) e
 pub read-short : (s : List ℕ) (J : Job) → reading s ≡ read J → length s ≤ 10310
 unfolding weight
 read-short s J e = let j = read-ok s J e in omega (arith, read-length s J e, j .few-names, j .few-types, j .few-values, j .few-cmds)
+
+-- Bytes that reading refuses for nothing but their end
+
+-- what follows the bytes is read on from where they end, in the state that they lead to
+pub record ReadOn (end : ℕ) (t : List ℕ) (r : Read) : Type 0 where
+  pub steps : ℕ
+  pub state : State
+  pub enough : length t < steps
+  pub is-on : r ≡ readFrom steps end state t
+
+fields-front : (ws s t : List ℕ) → total ws ≤ length s → fields ws (s ++ t) ≡ fields ws s
+unfolding fields total
+fields-front [] s t h = refl
+fields-front (w ∷ ws) s t h =
+    ap₂ (λ (x : ℕ) y. x ∷ y) (ap little (take-append-le w s t (omega arith)))
+    (ap (fields ws) (drop-append-le w s t (omega arith)) ∙ fields-front ws (drop w s) t (omega (arith, length-drop w s)))
+
+command-front : (op : Op) (s t : List ℕ) (st : State) → ltb (length s) (width op) ≡ false → command op (s ++ t) st ≡ command op s st
+unfolding command width
+command-front op s t st h =
+    let l = ltb-false (length s) (width op) h in
+    rw (fields-front (operands op) s t l, le-ltb (length (s ++ t)) (width op) (omega (arith, length-append s t)), h) refl
+
+same-refused : {r q : Refusal} → refused r ≡ refused q → r ≡ q
+same-refused e = cc
+
+not-here : {X : Type 0} {n m pos end : ℕ} → pos < end → refusedAt n pos ≡ refusedAt m end → X
+not-here l e = absurd (omega (arith, l, ap (λ (r : Refusal). r .place) (same-refused e)))
+
+-- a command whose operands are not all there is refused
+command-short : (op : Op) (s : List ℕ) (st : State) → ltb (length s) (width op) ≡ true → (n : ℕ) × (command op s st ≡ refuse n)
+unfolding command
+command-short op s st h = rw h (at (misplaced st (sectionOf op)))
+  where
+    at : (a : Bool) → (n : ℕ) × (cond a (refuse 3) (refuse 4) ≡ refuse n)
+    at true = (3, refl)
+    at false = (4, refl)
+
+at-once : (g pos end : ℕ) (st : State) (t : List ℕ) → pos ≡ end → length t < g → ReadOn end t (readFrom g pos st t)
+at-once g pos end st t z l = record { steps = g; state = st; enough = l; is-on = ap (λ (p : ℕ). readFrom g p st t) z }
+
+from-on : (f g pos end : ℕ) (st : State) (s t : List ℕ) → end ≡ pos + length s → readFrom f pos st s ≡ refusedAt 4 end → length s + length t < g → ReadOn end t (readFrom g pos st (s ++ t))
+unfolding readFrom onOp onward ended
+from-on zero g pos end st [] t z e l = at-once g pos end st t (omega arith) (omega arith)
+from-on zero g pos end st (b ∷ s) t z e l = not-here (omega arith) e
+from-on (suc f) g pos end st [] t z e l = at-once g pos end st t (omega arith) (omega arith)
+from-on (suc f) zero pos end st (b ∷ s) t z e l = absurd (omega arith)
+from-on (suc f) (suc g) pos end st (b ∷ s) t z e l =
+    of (opOf b) e
+    (λ op next h k.
+    subst⁻¹ (λ (r : List ℕ). ReadOn end t (readFrom g (pos + 1 + width op) next r)) (drop-append-le (width op) s t h)
+    (from-on f g (pos + 1 + width op) end next (drop (width op) s) t (omega (arith, h, length-drop (width op) s)) k (omega (arith, length-drop (width op) s))))
+  where
+    next-of : ℕ → List ℕ → Op → State → Read
+    next-of n r op next = readFrom n (pos + 1 + width op) next (drop (width op) r)
+
+    over : {X : Type 0} (r : List ℕ) (K : Job) → ended (suc pos) r K ≡ refusedAt 4 end → X
+    over [] K e = absurd (let y : _≡_ {A = ℕ} 0 1 = cc in omega arith)
+    over (c ∷ r) K e = absurd (omega (arith, ap (λ (r : Refusal). r .number) (same-refused e)))
+
+    on : (op : Op) (x : Step) → onward x pos s (next-of f s op) ≡ refusedAt 4 end → ((next : State) → next-of f s op next ≡ refusedAt 4 end → ReadOn end t (next-of g (s ++ t) op next))
+        → ReadOn end t (onward x pos (s ++ t) (next-of g (s ++ t) op))
+    on op (refuse n) e r = not-here (omega arith) e
+    on op (finish K) e r = over s K e
+    on op (proceed next) e r = r next e
+
+    by : (op : Op) (a : Bool) → ltb (length s) (width op) ≡ a → onward (command op s st) pos s (next-of f s op) ≡ refusedAt 4 end
+        → ((next : State) → width op ≤ length s → next-of f s op next ≡ refusedAt 4 end → ReadOn end t (next-of g (s ++ t) op next))
+        → ReadOn end t (onward (command op (s ++ t) st) pos (s ++ t) (next-of g (s ++ t) op))
+    by op true h e r = let c = command-short op s st h in not-here (omega arith) (ap (λ (x : Step). onward x pos s (next-of f s op)) (sym (c .1)) ∙ e)
+    by op false h e r = let k = ltb-false (length s) (width op) h in rw (command-front op s t st h) (on op (command op s st) e (λ next. r next k))
+
+    of : (o : Option Op) → onOp o pos (λ op. onward (command op s st) pos s (next-of f s op)) ≡ refusedAt 4 end
+        → ((op : Op) (next : State) → width op ≤ length s → next-of f s op next ≡ refusedAt 4 end → ReadOn end t (next-of g (s ++ t) op next))
+        → ReadOn end t (onOp o pos (λ op. onward (command op (s ++ t) st) pos (s ++ t) (next-of g (s ++ t) op)))
+    of none e r = not-here (omega arith) e
+    of (some op) e r = by op (ltb (length s) (width op)) refl e (r op)
+
+pub read-on : (s t : List ℕ) → reading s ≡ refusedAt 4 (length s) → ReadOn (length s) t (reading (s ++ t))
+unfolding reading
+read-on s t e = from-on (suc (length s)) (suc (length (s ++ t))) 0 (length s) (record { section = 0; job = noJob }) s t (omega arith) e (omega (arith, length-append s t))

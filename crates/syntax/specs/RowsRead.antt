@@ -6,7 +6,7 @@ use native.Mathlib.Omega.{arith}
 use mathlib.Core.Bool.{Bool, true, false, cond}
 use mathlib.Core.List.{List, [], _∷_, _++_, flatMap, append-assoc}
 use mathlib.Core.Option.{Option, none, some}
-use lib.ListN.{length, take, drop, length-append}
+use lib.ListN.{length, getD, take, drop, length-append}
 use lib.Dec.{eqb}
 use lib.Seq.{drop-drop}
 use native.Mathlib.Nat.{pow-succ'}
@@ -42,7 +42,7 @@ pub data Narrow : List ℕ → List ℕ → Type 0 where
 
 -- Operands
 
-bytes-length : (w n : ℕ) → length (bytesOf w n) ≡ w
+pub bytes-length : (w n : ℕ) → length (bytesOf w n) ≡ w
 unfolding bytesOf
 bytes-length zero n = refl
 bytes-length (suc w) n = ap suc (bytes-length w (n / 256))
@@ -72,17 +72,17 @@ past-all (narrow-more {w} {n} {ws} {o} h k) s =
     sym (drop-drop (total ws) w _) ∙ ap (λ l. drop (total ws) (drop w l)) (append-assoc (bytesOf w n) (operandBytes ws o) s)
     ∙ ap (drop (total ws)) (past-of w n (operandBytes ws o ++ s)) ∙ past-all k s
 
-all-length : {ws o : List ℕ} → Narrow ws o → length (operandBytes ws o) ≡ total ws
+pub all-length : (ws o : List ℕ) → length (operandBytes ws o) ≡ total ws
 unfolding total operandBytes
-all-length narrow-none = refl
-all-length (narrow-more {w} {n} {ws} {o} h k) = omega (arith, length-append (bytesOf w n) (operandBytes ws o), bytes-length w n, all-length k)
+all-length [] o = refl
+all-length (w ∷ ws) o = omega (arith, length-append (bytesOf w (getD o 0 0)) (operandBytes ws (drop 1 o)), bytes-length w (getD o 0 0), all-length ws (drop 1 o))
 
 -- Commands
 
 pub command-of : (op : Op) (o s : List ℕ) (st : State) → Narrow (operands op) o → command op (operandBytes (operands op) o ++ s) st ≡ commandOn (op, o) st
 unfolding command commandOn width
 command-of op o s st h =
-    let l : length (operandBytes (operands op) o ++ s) ≡ total (operands op) + length s = omega (arith, length-append (operandBytes (operands op) o) s, all-length h) in
+    let l : length (operandBytes (operands op) o ++ s) ≡ total (operands op) + length s = omega (arith, length-append (operandBytes (operands op) o) s, all-length (operands op) o) in
     rw (le-ltb (length (operandBytes (operands op) o ++ s)) (total (operands op)) (omega (arith, l)), fields-of h s)
 
 -- a command ends the job only in section 5, and has no operand there
@@ -105,7 +105,7 @@ ends-last r st J e = at (misplaced st (sectionOf (r .0))) (full (st .job) (secti
 
 no-operand : (op : Op) (o : List ℕ) → Narrow (operands op) o → sectionOf op ≡ 5 → operandBytes (operands op) o ≡ []
 unfolding width widest
-no-operand op o h e = none-of (operandBytes (operands op) o) (omega (arith, all-length h, width-most op, ap widest e))
+no-operand op o h e = none-of (operandBytes (operands op) o) (omega (arith, all-length (operands op) o, width-most op, ap widest e))
   where
     none-of : (l : List ℕ) → length l ≤ 0 → l ≡ []
     none-of [] h = refl
@@ -129,7 +129,8 @@ rows-from (suc f) pos st (r ∷ rs) (all-more k h) l =
     o = operandBytes (operands (r .0)) (r .1)
 
     by : (t : Step) → commandOn r st ≡ t → ((next : State) → readFrom f (pos + 1 + width (r .0)) next (rowsBytes rs) ≡ rowsFrom (pos + 1 + width (r .0)) next rs)
-        → onward t pos (o ++ rowsBytes rs) (λ next. readFrom f (pos + 1 + width (r .0)) next (drop (width (r .0)) (o ++ rowsBytes rs))) ≡ onward t pos (rowsBytes rs) (λ next. rowsFrom (pos + 1 + width (r .0)) next rs)
+        → onward t pos (o ++ rowsBytes rs) (λ next. readFrom f (pos + 1 + width (r .0)) next (drop (width (r .0)) (o ++ rowsBytes rs)))
+        ≡ onward t pos (rowsBytes rs) (λ next. rowsFrom (pos + 1 + width (r .0)) next rs)
     by (refuse n) e g = refl
     by (proceed next) e g = ap (readFrom f (pos + 1 + width (r .0)) next) (past-all k (rowsBytes rs)) ∙ g next
     by (finish J) e g = ap (λ x. ended (suc pos) (x ++ rowsBytes rs) J) (no-operand (r .0) (r .1) k (ends-last r st J e))

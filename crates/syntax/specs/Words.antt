@@ -17,6 +17,10 @@ use Rattle.syntax.specs.Reading.{Written, w-name, w-type, w-value, w-rig
 unfoldable pub nameWord : Name → ℕ
 nameWord d = d .upper + 256 * cond (d .host) 1 2
 
+-- the declared name that a word of the names table stands for
+unfoldable pub nameOf : ℕ → Name
+nameOf w = record { host = eqb (w / 256) 1; upper = w % 256 }
+
 -- a type entry's command, and its operands in order
 unfoldable pub entryRow : TypeEntry → Op × List ℕ
 entryRow (e-num q) = (o-number, q ∷ [])
@@ -42,6 +46,10 @@ setWord e = getD (entryRow e .1) 3 0
 -- command byte, type, starting number
 unfoldable pub valueWord : HostValue ℕ → ℕ
 valueWord h = 0x20 + 256 * (h .ty) + 16777216 * (h .init)
+
+-- the host value that a word stands for
+unfoldable pub valueIn : ℕ → HostValue ℕ
+valueIn w = record { ty = w / 256 % 65536; init = w / 16777216 % 4294967296 }
 
 -- an expression's command byte, and its operands of one byte or four, the first one lowest
 abbrev pub headBits : ℕ → ℕ → ℕ
