@@ -27,7 +27,8 @@ use Rattle.entry.specs.Entries.{namedOf, nameEntry, valueEntry, rightsEn
 use Rattle.entry.specs.Shapes.{shapeOf}
 use Rattle.entry.specs.declared.Entry.{Entry}
 use Rattle.entry.specs.declared.Entry.the-variants.{Refuse, Named, Rights, Last}
-use Rattle.entry.proofs.Ops.{byteOf, op-byte, width-narrow, width-is, misplaced-is, full-is, fieldsFrom, fields-from}
+use Rattle.entry.specs.OpBytes.{byteOf, op-byte, width-narrow, width-is}
+use Rattle.entry.proofs.Ops.{misplaced-is, full-is, fieldsFrom, fields-from}
 use Rattle.entry.proofs.Entered.{okW, extended, enter-is, entryW, judgedW}
 use Rattle.entry.proofs.ExprLaws as exprs
 use Rattle.entry.proofs.TypeLaws as typed

@@ -21,7 +21,8 @@ use Rattle.entry.specs.Bytes.{fieldAt, digitOf, offsetsOf, kindsOf, slot
 use Rattle.entry.specs.Entries.{eitherOf, bindsOk, newKeyOk, leadOk, placesOk, formEntry}
 use Rattle.entry.specs.declared.Entry.{Entry}
 use Rattle.entry.specs.declared.Entry.the-variants.{Refuse, Formed}
-use Rattle.entry.proofs.Ops.{byteOf, fieldsFrom}
+use Rattle.entry.specs.OpBytes.{byteOf}
+use Rattle.entry.proofs.Ops.{fieldsFrom}
 use Rattle.entry.proofs.Entered.{okW, wordsOf, entryW, judgedW}
 use Rattle.entry.specs.Shapes.{shapeOf}
 

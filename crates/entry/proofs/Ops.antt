@@ -1,77 +1,19 @@
--- The commands by their bytes: sections, widths, places and limits are those of reading; operands by their offsets.
+-- Places and limits are those of reading; operands by their offsets.
 use mathlib.Core.Path.{_≡_, refl, sym, ap, ap₂, _∙_}
 use Prim.Native.Nat.{ℕ, zero, suc, _+_, _≤_, _<_}
 use native.Mathlib.Omega.{arith}
 use mathlib.Core.Bool.{Bool, true, false, cond}
 use mathlib.Core.List.{List, [], _∷_}
-use mathlib.Core.Option.{none, some}
 use lib.ListN.{length, take, drop}
 use lib.Seq.{drop-drop}
 use lib.Dec.{eqb, ltb, leb}
 use borrow.Author.Tests.{le-leb, leb-true, leb-false, lt-leb}
 use Rattle.order.specs.Bools.{_and_, _or_}
-use Rattle.syntax.specs.Commands.{Op, o-host, o-local, o-number, o-pair, o-cell, o-function, o-limit, o-grant, o-value, o-rights, o-end, form, opOf, total, width, sectionOf, little, fields}
-use Rattle.syntax.specs.Commands.{x-number, x-top, x-variable, x-pair, x-part, x-function, x-apply, x-cell, x-assign, x-read, x-sum, x-test, x-limit, x-grant, x-newkey, x-associate, x-access}
+use Rattle.syntax.specs.Commands.{Op, total, sectionOf, little, fields}
 use Rattle.syntax.specs.Job.{Job}
 use Rattle.syntax.specs.Reading.{State, misplaced, full}
-use Rattle.syntax.specs.ReadPlaces as places
-use Rattle.syntax.specs.ReadPlaces.{width-most, widest-few}
-use Rattle.entry.specs.Bytes.{fieldAt, widthOn, widthByte, sectionByte, misplacedBy, fullBy}
-
-unfoldable pub byteOf : Op → ℕ
-unfolding form
-byteOf o = form o .byte
-
--- the byte of a command
-pub op-byte : (b : ℕ) (o : Op) → opOf b ≡ some o → b ≡ byteOf o
-unfolding byteOf
-op-byte b o e = places.op-byte b o e
-
--- the section of a command, by its byte and by its number
-sections : (o : Op) → (sectionByte (byteOf o) ≡ sectionOf o) × (sectionOf o < 6)
-unfolding sectionByte sectionOf byteOf
-sections o-host = (refl, omega arith)
-sections o-local = (refl, omega arith)
-sections o-number = (refl, omega arith)
-sections o-pair = (refl, omega arith)
-sections o-cell = (refl, omega arith)
-sections o-function = (refl, omega arith)
-sections o-limit = (refl, omega arith)
-sections o-grant = (refl, omega arith)
-sections o-value = (refl, omega arith)
-sections o-rights = (refl, omega arith)
-sections x-number = (refl, omega arith)
-sections x-top = (refl, omega arith)
-sections x-variable = (refl, omega arith)
-sections x-pair = (refl, omega arith)
-sections x-part = (refl, omega arith)
-sections x-function = (refl, omega arith)
-sections x-apply = (refl, omega arith)
-sections x-cell = (refl, omega arith)
-sections x-assign = (refl, omega arith)
-sections x-read = (refl, omega arith)
-sections x-sum = (refl, omega arith)
-sections x-test = (refl, omega arith)
-sections x-limit = (refl, omega arith)
-sections x-grant = (refl, omega arith)
-sections x-newkey = (refl, omega arith)
-sections x-associate = (refl, omega arith)
-sections x-access = (refl, omega arith)
-sections o-end = (refl, omega arith)
-
-pub section-is : (o : Op) → sectionByte (byteOf o) ≡ sectionOf o
-section-is o = sections o .0
-
-pub width-narrow : (o : Op) → width o < 255
-width-narrow o = omega (arith, width-most o, widest-few (sectionOf o))
-
-pub width-is : (b : ℕ) (o : Op) → opOf b ≡ some o → widthByte b ≡ width o
-unfolding widthByte widthOn
-width-is b o e = rw e
-
-pub width-none : (b : ℕ) → opOf b ≡ none → widthByte b ≡ 255
-unfolding widthByte widthOn
-width-none b e = rw e
+use Rattle.entry.specs.Bytes.{fieldAt, sectionByte, misplacedBy, fullBy}
+use Rattle.entry.specs.OpBytes.{byteOf, sections, section-is}
 
 -- number 3 and number 5 by section
 or-none : (a : Bool) → (((a or false) or false) or false) ≡ cond a true false

@@ -24,7 +24,8 @@ use Rattle.entry.specs.Bytes.{fieldAt}
 use Rattle.entry.specs.Entries.{partDepth, deeperOf, twoDepths, typedOf, keyTypeOf, functionOf, typeBy, typeEntry}
 use Rattle.entry.specs.declared.Entry.{Entry}
 use Rattle.entry.specs.declared.Entry.the-variants.{Refuse, Typed}
-use Rattle.entry.proofs.Ops.{byteOf, fieldsFrom}
+use Rattle.entry.specs.OpBytes.{byteOf}
+use Rattle.entry.proofs.Ops.{fieldsFrom}
 use Rattle.entry.proofs.Entered.{okW, newDepth, entryW, judgedW}
 
 -- Depths

@@ -5,8 +5,8 @@ mod exprs;
 
 use bytes::first;
 pub use bytes::rest;
-use bytes::section;
-use bytes::width;
+pub use bytes::section;
+pub use bytes::width;
 use declared::name_entry;
 use declared::rights_entry;
 use declared::type_entry;

@@ -29,7 +29,7 @@ use Rattle.entry.specs.Shapes.{shapeOf, noShape}
 use Rattle.entry.specs.declared.Shape.{Shape}
 use Rattle.entry.specs.declared.Entry.{Entry}
 use Rattle.entry.specs.declared.Entry.the-variants.{Refuse, Named, Typed, Valued, Rights, Formed}
-use Rattle.entry.proofs.Ops.{width-is, width-none}
+use Rattle.entry.specs.OpBytes.{width-is, width-none}
 use Rattle.entry.proofs.Entered.{extended, wordsOf, newDepth, entryW}
 use Rattle.entry.proofs.Agree.{Kept, Adds, adds-name, adds-type, adds-value, adds-rights, adds-cmd, Agrees, ag-refuse, ag-last, ag-on, agrees, sort-on}
 use Rattle.job.specs.After.{namesAfter, typesAfter, setsAfter, depthsAfter, valuesAfter, headsAfter, slotsAfter, shapeAfter}

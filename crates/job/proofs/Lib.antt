@@ -4,3 +4,4 @@ pub mod Whole
 pub mod Arms
 pub mod Ancestors
 pub mod Turn
+pub mod Zeros

@@ -5,23 +5,28 @@ pub use entry::Shape;
 use entry::judged;
 pub use entry::no_shape;
 use entry::rest;
+use table::MOST_EXPRESSIONS;
 use table::MOST_NAMES;
 use table::MOST_TYPES;
+use table::MOST_VARIABLES;
+use table::PLACES;
 pub use table::Refusal;
+use table::TYPE_ENTRIES;
 pub use table::clear16;
 pub use table::clear64;
 pub use tables::clear_all;
 use tables::counted;
 use tables::enter;
 use tables::lent;
-use tables::long_enough;
+pub use tables::long_enough;
 use tables::number;
 use tables::put;
 use tables::sort;
 ghost use mathlib.Core.Path.{_≡_};
 ghost use Prim.Native.Nat.{_<_};
 ghost use mathlib.Core.Bool.{true};
-ghost use Rattle.job.specs.Answer.{refusedBy, isJob, longTables, Small, Cleared};
+ghost use Rattle.syntax.specs.Reading.{reading};
+ghost use Rattle.job.specs.Answer.{refusedBy, answerOf, isJob, longTables, Small, Cleared};
 ghost use Rattle.job.specs.Told.{stoppedBy};
 ghost use Rattle.job.specs.Lent.{FilledLent, ReadLent, Command};
 
@@ -138,6 +143,27 @@ fn fill(
         left = next;
     }
     refused(4, job.len())
+}
+
+// What reading the bytes answers, without a lent table: the counts of their job, or the first refusal.
+pub fn would_read(job: &[u8]) -> Answer
+    ensures { λ r. ⌜ r ≡ answerOf (reading (now (job .entry))) ⌝ }
+{
+    let mut names = [0u16; MOST_NAMES];
+    let mut types = [0u64; TYPE_ENTRIES];
+    let mut sets = [0u64; TYPE_ENTRIES];
+    let mut values = [0u64; MOST_VARIABLES];
+    let mut heads = [0u64; MOST_EXPRESSIONS];
+    let mut slots = [0u16; PLACES];
+    fill(
+        job,
+        &mut names,
+        &mut types,
+        &mut sets,
+        &mut values,
+        &mut heads,
+        &mut slots,
+    )
 }
 
 // The job that the bytes write, into the lent tables, or the first refusal. Number 1 writes nothing; after every other refusal all tables are zero.

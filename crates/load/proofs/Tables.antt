@@ -5,22 +5,21 @@ use native.Mathlib.Omega.{arith}
 use mathlib.Core.Bool.{Bool, true, false, cond, not}
 use mathlib.Core.List.{List}
 use lib.ListN.{length}
-use lib.Dec.{ltb, leb}
-use borrow.Author.Tests.{lt-ltb, le-ltb, leb-true, leb-false}
 use Rattle.order.specs.Bools.{_or_}
 use Rattle.syntax.specs.Job.{Job, sourceOf}
-use Rattle.syntax.specs.Reading.{Read, refused, read, refusedAt, reading, most-names, most-variables, most-expressions}
+use Rattle.syntax.specs.Reading.{Read, refused, read, refusedAt, reading}
 use Rattle.syntax.specs.ReadLaws.{JobOk, read-ok}
 use Rattle.syntax.specs.WordLaws.{Bytes, JobFits, job-fits}
 use Rattle.syntax.specs.Tree.{treeRefusal}
-use Rattle.syntax.specs.Words.{filled, nameWords, typeWords, setWords, valueWords, headWords, slotWords}
-use Rattle.syntax.specs.Loading.{JobTables, most-entries, most-slots, short, zeros, cleared, filledWith, loading, loadWith, holding, tablesAfterLoad}
+use Rattle.syntax.specs.Words.{filled, nameWords, typeWords, setWords, headWords, slotWords}
+use Rattle.syntax.specs.Loading.{JobTables, short, zeros, cleared, filledWith, loading, loadWith, holding, tablesAfterLoad}
 use Rattle.syntax.specs.LoadLaws.{load-refused, load-whole, load-out, long-load, long-after, Lengths, cleared-same}
 use Rattle.entry.specs.declared.Shape.{Shape}
 use Rattle.entry.specs.Shapes.{shapeOf}
 use Rattle.job.specs.declared.Answer.{Answer}
 use Rattle.job.specs.declared.Answer.the-variants as answers
-use Rattle.job.specs.Answer.{longEnough, longTables, answerOf, refusedBy, tableOf, afterOf, ReadTo, Zeroed}
+use Rattle.job.specs.ReadTables.{left, short-tables, tables-left}
+use Rattle.job.specs.Answer.{longTables, answerOf, refusedBy, ReadTo, Zeroed}
 use Rattle.table.specs.declared.Refusal.{Refusal}
 use Rattle.table.specs.declared.Expr.{Expr}
 use Rattle.uses.specs.declared.Answer.{Answer as TreeAnswer}
@@ -30,33 +29,11 @@ use Rattle.tree.specs.Holds.{Holds}
 use Rattle.tree.specs.Filled.{filled-holds}
 use Rattle.load.specs.Loads.{jobTables, LoadTo}
 
--- 1: some table is short where not all are long enough
-not-all : (a b c d e f : Bool) → (not a or not b or not c or not d or not e or not f) ≡ not (cond a (cond b (cond c (cond d (cond e f false) false) false) false) false)
-unfolding _or_
-not-all false b c d e f = refl
-not-all true false c d e f = refl
-not-all true true false d e f = refl
-not-all true true true false e f = refl
-not-all true true true true false f = refl
-not-all true true true true true f = refl
-
-shorter : (n most : ℕ) → ltb n most ≡ not (leb most n)
-shorter n most = at (leb most n) refl
-  where
-    at : (b : Bool) → leb most n ≡ b → ltb n most ≡ not b
-    at true e = le-ltb n most (leb-true most n e)
-    at false e = lt-ltb n most (leb-false most n e)
-
 -- what the tree checks ask of the tables
 held : {J : Job} {g : Shape} {n t s h p : List ℕ} (kn kt ks kh kp : ℕ) → JobFits J → g ≡ shapeOf J → n ≡ filled kn 0 (nameWords J) → t ≡ filled kt 0 (typeWords (J .types)) → s ≡ filled ks 0 (setWords (J .types))
     → h ≡ filled kh 0 (headWords J) → p ≡ filled kp 0 (slotWords J) → Holds J h p (g .cmds) n (g .names) t s (g .types) (g .values)
 unfolding shapeOf
 held {J} kn kt ks kh kp f eg en et es eh ep = rw (eg, en, et, es, eh, ep) (filled-holds J f kh kp kn kt ks)
-
--- what reading leaves in the tables
-unfoldable left : Bool → Read → JobTables → JobTables
-left true R w = holding R w
-left false R w = w
 
 module _ {bytes n t s v h p n' t' s' v' h' p' : List ℕ} {a : Answer} (to : ReadTo bytes a n t s v h p n' t' s' v' h' p') where
   abbrev before : JobTables
@@ -66,28 +43,10 @@ module _ {bytes n t s v h p n' t' s' v' h' p' : List ℕ} {a : Answer} (to : Rea
   after = jobTables n' t' s' v' h' p'
 
   short-is : short before ≡ not (longTables n t s v h p)
-  unfolding short longEnough
-  short-is =
-      (λ i.
-      shorter (length n) most-names i or shorter (length t) most-entries i or shorter (length s) most-entries i or shorter (length v) most-variables i or shorter (length h) most-expressions i
-      or shorter (length p) most-slots i)
-      ∙ not-all (leb most-names (length n)) (leb most-entries (length t)) (leb most-entries (length s)) (leb most-variables (length v)) (leb most-expressions (length h)) (leb most-slots (length p))
+  short-is = short-tables n t s v h p
 
   after-is : (b : Bool) (R : Read) → longTables n t s v h p ≡ b → reading bytes ≡ R → after ≡ left b R before
-  unfolding afterOf tableOf left holding cleared zeros filledWith
-  after-is b R l i =
-      (λ k. jobTables (to .names k) (to .types k) (to .sets k) (to .values k) (to .heads k) (to .slots k))
-      ∙ (λ k.
-      jobTables (afterOf (l k) nameWords (i k) n) (afterOf (l k) (λ J. typeWords (J .types)) (i k) t) (afterOf (l k) (λ J. setWords (J .types)) (i k) s) (afterOf (l k) valueWords (i k) v)
-      (afterOf (l k) headWords (i k) h) (afterOf (l k) slotWords (i k) p))
-      ∙ by b R
-    where
-      by : (c : Bool) (Q : Read)
-          → jobTables (afterOf c nameWords Q n) (afterOf c (λ J. typeWords (J .types)) Q t) (afterOf c (λ J. setWords (J .types)) Q s) (afterOf c valueWords Q v) (afterOf c headWords Q h) (afterOf c slotWords Q p)
-          ≡ left c Q before
-      by false Q = refl
-      by true (refused r) = refl
-      by true (read J) = refl
+  after-is = tables-left to
 
   -- 1 to 7
   pub refused-to : (q : Refusal) → a ≡ answers.Refused q → LoadTo bytes (answers.Refused q) before after
