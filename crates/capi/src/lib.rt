@@ -1,4 +1,4 @@
-// The check and the machine for C and Rust: plain numbers and slices.
+// The check, the machine, reading and writing for C and Rust: plain numbers and slices.
 use machine::Machine;
 use session::Held;
 use start::Told;
@@ -8,6 +8,9 @@ ghost use Rattle.machine.specs.View.{seen};
 ghost use Rattle.load.specs.Lent.{jobBefore, jobAfter};
 ghost use Rattle.judge.specs.Lent.{before};
 ghost use Rattle.checker.specs.Lent.{after};
+ghost use Rattle.encode.specs.Penned.{tablesIn};
+ghost use Rattle.writer.specs.Sends.{tablesAfter};
+ghost use Rattle.exchange.specs.Exchanges.{Reads, Writes};
 ghost use Rattle.capi.specs.Checks.{Checks};
 ghost use Rattle.capi.specs.Runs.{Goes, Runs};
 ghost use Rattle.capi.specs.Sessions.{lentBefore, lentAfter, Reported, Sessions};
@@ -165,4 +168,57 @@ pub extern "C" fn jobdesk_session(
         answers,
     );
     finish(h, value, cells, out)
+}
+
+// Reads a job into the tables, 1 to 7 alone. Returns 0 where it is read: counts[0] to counts[3] are how many names it declares, types, host values and
+// expressions, counts[4] its rights. Another number is that of the refusal, whose place goes to counts[0]; 1 too where counts has fewer than five words.
+#[no_mangle]
+pub extern "C" fn jobdesk_read(
+    job: &[u8],
+    names: &mut [u16],
+    types: &mut [u64],
+    sets: &mut [u64],
+    values: &mut [u64],
+    heads: &mut [u64],
+    slots: &mut [u16],
+    counts: &mut [u64],
+) -> u64
+    ensures { λ r. ⌜
+        Reads (now (job .entry)) r (tablesIn names types sets values heads slots) (tablesAfter names types sets values heads slots)
+        (now (counts .entry)) (now (counts .exit))
+        ⌝ }
+{
+    exchange::read(job, names, types, sets, values, heads, slots, counts)
+}
+
+// Writes the job that the tables hold, by its counts. Returns 0 where it is written: its bytes stand at the start of the buffer, and out[0] is how many
+// there are. Another number is that of the refusal, whose place goes to out[0]; no byte is written then. The tables are only read.
+#[no_mangle]
+pub extern "C" fn jobdesk_write(
+    names: &[u16],
+    types: &[u64],
+    sets: &[u64],
+    values: &[u64],
+    heads: &[u64],
+    slots: &[u16],
+    counts: &[u64],
+    buffer: &mut [u8],
+    out: &mut [u64],
+) -> u64
+    ensures { λ r. ⌜
+        Writes (tablesIn names types sets values heads slots) (tablesAfter names types sets values heads slots) (now (counts .entry)) r
+        (now (buffer .entry)) (now (buffer .exit)) (now (out .entry)) (now (out .exit))
+        ⌝ }
+{
+    exchange::write(
+        names,
+        types,
+        sets,
+        values,
+        heads,
+        slots,
+        counts,
+        buffer,
+        out,
+    )
 }
