@@ -32,16 +32,20 @@ extern "C" {
 #define JOBDESK_ENTRIES 512
 #define JOBDESK_EFFECTS 512
 
-/* How many words there are of what is told of a verdict, of room in use, of the answer to each call,
- * of a value, and of what the cells hold: a value for each of 256 cells. */
+/* How many words there are of what is told of a verdict, of a job that is read, of room in use, of the
+ * answer to each call, of a value, and of what the cells hold: a value for each of 256 cells. */
 #define JOBDESK_OUT 2
+#define JOBDESK_COUNTS 5
 #define JOBDESK_ROOMS 6
 #define JOBDESK_ANSWER 2
 #define JOBDESK_VALUE 2
 #define JOBDESK_CELLS 512
 
-/* What a function returns: 0, or the number of a refusal. The place of 1 is 0, that of 2 to 7 an
- * offset in the job's bytes, that of 8 to 14 the number of an expression. */
+/* No job has more bytes than this. */
+#define JOBDESK_BYTES 10310
+
+/* What a function returns: 0, or the number of a refusal. The place of 1 and of 15 is 0, that of 2 to 7
+ * an offset in the job's bytes, that of 8 to 14 the number of an expression. */
 #define JOBDESK_OK 0
 #define JOBDESK_SHORT_TABLE 1       /* a lent work table is shorter than its least length */
 #define JOBDESK_NO_COMMAND 2        /* a byte is no command */
@@ -57,6 +61,7 @@ extern "C" {
 #define JOBDESK_NO_SUBTYPE 12       /* an operand's type is not a subtype of the one needed */
 #define JOBDESK_BEYOND_LIMIT 13     /* a limit's body uses keys outside the limit */
 #define JOBDESK_BEYOND_RIGHTS 14    /* the job uses keys beyond its rights */
+#define JOBDESK_SHORT_BUFFER 15     /* the buffer is too short for the job's bytes */
 
 /* Calls: a step, or a run of up to n steps, n below 2^64 - 1. */
 #define JOBDESK_STEP UINT64_C(0)
@@ -195,6 +200,90 @@ uint64_t jobdesk_run(
     uint64_t *answers, size_t answers_length,
     uint64_t *rooms, size_t rooms_length);
 
+/* Reads a job into tables: refusals 1 to 7 alone.
+ *
+ * 0 IS NO VERDICT: a job that the check refuses with 8 to 14 is read too.
+ *
+ * Returns 0 if the job is read. Then
+ *   counts[0]   is how many names it declares (0 and 1 are not among them),
+ *   counts[1]   how many types,
+ *   counts[2]   how many host values,
+ *   counts[3]   how many expressions,
+ *   counts[4]   is its rights, bit i for name i,
+ * and the six tables hold the job as after a check, `types` and `sets` the declared types alone.
+ *
+ * Returns 1 to 7, the number of the refusal, if it is not read. Then counts[0] is its place and the
+ * other words of `counts` stay as they were; after 1 no table is written to, after 2 to 7 the six
+ * tables are zero to their ends.
+ *
+ * Returns 1 too where `counts` has fewer than JOBDESK_COUNTS words. Then counts[0], where there is one,
+ * is 0, and nothing else is written.
+ */
+uint64_t jobdesk_read(
+    const uint8_t *job, size_t job_length,
+    uint16_t *names, size_t names_length,
+    uint64_t *types, size_t types_length,
+    uint64_t *sets, size_t sets_length,
+    uint64_t *values, size_t values_length,
+    uint64_t *heads, size_t heads_length,
+    uint16_t *slots, size_t slots_length,
+    uint64_t *counts, size_t counts_length);
+
+/* Writes the bytes of the job that the tables hold into a buffer. `counts` says how much of the tables
+ * is the job's, and its rights, as jobdesk_read tells them. Read, checked, run or made by hand, tables
+ * are written alike: jobdesk_check, jobdesk_session and jobdesk_run leave a job that they do not refuse
+ * in the tables, so that the counts of jobdesk_read of the same job still hold. What is written of a job
+ * that was read is that job, byte for byte.
+ *
+ * 0 IS NO VERDICT: a job that the check refuses with 8 to 14 is written too.
+ *
+ * The fields (numbers of commands are hexadecimal), each from its bit to the next field or the end of
+ * the word:
+ *   names[i + 2]  of name i of those declared: its upper name; from bit 8 on the command, 01 or 02;
+ *   types[i]      the command, 10 to 15; from bit 8 on the key's name; from bit 16 on the first part: of
+ *                 11, 12 and 13 a type, of 14 and 15 a name; from bit 32 on the second part, of 11 and 13;
+ *   sets[i]       the set of 13;
+ *   values[i]     the command, 20; from bit 8 on the type; from bit 24 on the number;
+ *   heads[i]      the command, 30 to 40; from bit 8 on the number of 30, the variable of 32 and 35, the
+ *                 part of 34, the operation of 3A, the count of keys of 3C; of 3E the variable and, from
+ *                 bit 16 on, the local name;
+ *   slots[5 * i]  and the four after it: the operands of two bytes, expressions in their order, then the
+ *                 type; of 3C four keys, those that are not used FFFF, then the body.
+ * Not looked at are names[0] and names[1], every entry that `counts` does not count, and every field that
+ * is neither the command nor an operand of that command. So the types past counts[1], which a check adds,
+ * are not written.
+ *
+ * Returns 0 if the job is written. Then out[0] is how many bytes it has, at most JOBDESK_BYTES, and they
+ * stand at the start of `buffer`. Bytes past them stay as they were.
+ *
+ * Returns the number of a refusal if it is not written. Then out[0] is its place, and no byte of
+ * `buffer` is written:
+ *   1   a table is shorter than its least length, or `counts` has fewer than JOBDESK_COUNTS words;
+ *       tested first;
+ *   2   an entry's command is no command,
+ *   3   an entry's command is foreign to its table; or there is no expression, with the place of the
+ *       end (FF),
+ *   5   a count is above its limit (62 names, 256 types, 64 host values, 512 expressions), with the
+ *       place of the entry past the limit, whatever that entry holds,
+ *   6   an operand breaks a condition of reading, or does not fit into the bytes that it has in a job:
+ *       nothing is cut off;
+ *       of 2, 3, 5 and 6 the first in the order of the job, at the offset that the entry's command
+ *       would have in the bytes of the job, as reading them would refuse it;
+ *   15  the buffer is too short; tested last. One of exactly the job's length is long enough.
+ *
+ * The tables and `counts` are never written to. Where `out` has no entry, the number alone is told.
+ */
+uint64_t jobdesk_write(
+    const uint16_t *names, size_t names_length,
+    const uint64_t *types, size_t types_length,
+    const uint64_t *sets, size_t sets_length,
+    const uint64_t *values, size_t values_length,
+    const uint64_t *heads, size_t heads_length,
+    const uint16_t *slots, size_t slots_length,
+    const uint64_t *counts, size_t counts_length,
+    uint8_t *buffer, size_t buffer_length,
+    uint64_t *out, size_t out_length);
+
 /* Work tables of the least lengths, and the same functions with them. They can be used for any
  * number of jobs, one after the other. */
 struct jobdesk_tables {
@@ -242,6 +331,27 @@ static inline uint64_t jobdesk_run_in(
         job, job_length, t->names, JOBDESK_NAMES, t->types, JOBDESK_TYPES, t->sets, JOBDESK_SETS,
         t->values, JOBDESK_VALUES, t->heads, JOBDESK_HEADS, t->slots, JOBDESK_SLOTS, calls, count,
         answers, JOBDESK_ANSWER * count, rooms, JOBDESK_ROOMS);
+}
+
+/* jobdesk_read with tables of the least lengths; it never returns 1. */
+static inline uint64_t jobdesk_read_in(
+    struct jobdesk_tables *t, const uint8_t *job, size_t job_length, uint64_t counts[JOBDESK_COUNTS])
+{
+    return jobdesk_read(
+        job, job_length, t->names, JOBDESK_NAMES, t->types, JOBDESK_TYPES, t->sets, JOBDESK_SETS,
+        t->values, JOBDESK_VALUES, t->heads, JOBDESK_HEADS, t->slots, JOBDESK_SLOTS, counts,
+        JOBDESK_COUNTS);
+}
+
+/* jobdesk_write from tables of the least lengths, with one word of `out`; it never returns 1. */
+static inline uint64_t jobdesk_write_in(
+    const struct jobdesk_tables *t, const uint64_t counts[JOBDESK_COUNTS], uint8_t *buffer,
+    size_t buffer_length, uint64_t out[1])
+{
+    return jobdesk_write(
+        t->names, JOBDESK_NAMES, t->types, JOBDESK_TYPES, t->sets, JOBDESK_SETS, t->values,
+        JOBDESK_VALUES, t->heads, JOBDESK_HEADS, t->slots, JOBDESK_SLOTS, counts, JOBDESK_COUNTS,
+        buffer, buffer_length, out, 1);
 }
 
 #ifdef __cplusplus

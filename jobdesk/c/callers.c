@@ -312,6 +312,154 @@ static void short_results(void)
     same("short out, second word", out[1], 99);
 }
 
+static const uint64_t example_counts[JOBDESK_COUNTS] = { 1, 2, 1, 2, 1u << 2 };
+
+static void reads(void)
+{
+    uint64_t counts[JOBDESK_COUNTS];
+    soil();
+    same("read", jobdesk_read_in(&tables, example, sizeof example, counts), JOBDESK_OK);
+    for (size_t i = 0; i < JOBDESK_COUNTS; i++)
+        same("counts", counts[i], example_counts[i]);
+    same("name 2, read", tables.names[2], 1 + 256);
+    same("type 1, read", tables.types[1], 0x12 + 256 * 2);
+    same("type 2, read", tables.types[2], 0);
+    same("entries not lent to a read", tables.entries[0], 0xA5A5);
+    same("no end, read", jobdesk_read_in(&tables, example, sizeof example - 1, counts), JOBDESK_CUT_OFF);
+    same("no end, read, place", counts[0], sizeof example - 1);
+    same("no end, read, other counts", counts[1], example_counts[1]);
+    same("no end, read, tables zero", tables.names[2] | tables.types[1] | tables.heads[1], 0);
+}
+
+/* What is written of the tables must be the example, and nothing past it. */
+static void same_example(const char *what, const uint64_t counts[JOBDESK_COUNTS])
+{
+    uint8_t buffer[JOBDESK_BYTES];
+    uint64_t out[1];
+    memset(buffer, 0xA5, sizeof buffer);
+    same(what, jobdesk_write_in(&tables, counts, buffer, sizeof buffer, out), JOBDESK_OK);
+    same(what, out[0], sizeof example);
+    same(what, (uint64_t)memcmp(buffer, example, sizeof example), 0);
+    for (size_t i = sizeof example; i < sizeof buffer; i++)
+        same(what, buffer[i], 0xA5);
+}
+
+/* A job is passed on: read, checked, written, whatever stands in what it does not use. */
+static void writes(void)
+{
+    uint64_t counts[JOBDESK_COUNTS], out[JOBDESK_OUT];
+    same("read to pass on", jobdesk_read_in(&tables, example, sizeof example, counts), JOBDESK_OK);
+    same_example("written after a read", counts);
+    same("check to pass on", jobdesk_check_in(&tables, example, sizeof example, out), JOBDESK_OK);
+    same_example("written after a check", counts);
+    tables.names[0] = tables.names[1] = tables.names[3] = UINT16_MAX;
+    tables.types[0] |= ~UINT64_C(0) << 16;
+    tables.types[1] |= ~UINT64_C(0) << 32;
+    tables.types[2] = tables.sets[0] = tables.sets[1] = tables.values[1] = tables.heads[2] = UINT64_MAX;
+    tables.heads[1] |= ~UINT64_C(0) << 8;
+    for (size_t i = 0; i < JOBDESK_SLOTS; i++)
+        if (i != 5)
+            tables.slots[i] = UINT16_MAX;
+    same_example("written, unused entries and fields", counts);
+}
+
+/* Tables that hold no job are refused at a place, and nothing is written, to them or the buffer. */
+static void not_written(const char *what, const uint64_t counts[JOBDESK_COUNTS], uint64_t number,
+                        uint64_t place)
+{
+    static struct jobdesk_tables before;
+    uint8_t buffer[JOBDESK_BYTES];
+    uint64_t out[1] = { 99 };
+    memset(buffer, 0xA5, sizeof buffer);
+    before = tables;
+    same(what, jobdesk_write_in(&tables, counts, buffer, sizeof buffer, out), number);
+    same(what, out[0], place);
+    for (size_t i = 0; i < sizeof buffer; i++)
+        same(what, buffer[i], 0xA5);
+    same(what, (uint64_t)(memcmp(&before, &tables, sizeof tables) == 0), 1);
+}
+
+/* A word of the tables, or of the counts, for the time of one call. */
+static void damaged(const char *what, uint64_t *word, uint64_t by, const uint64_t *counts, uint64_t number,
+                    uint64_t place)
+{
+    uint64_t whole = *word;
+    *word = by;
+    not_written(what, counts, number, place);
+    *word = whole;
+}
+
+static void writes_refused(void)
+{
+    uint64_t counts[JOBDESK_COUNTS];
+    same("read to damage", jobdesk_read_in(&tables, example, sizeof example, counts), JOBDESK_OK);
+    damaged("no command", &tables.types[1], 0, counts, JOBDESK_NO_COMMAND, 4);
+    damaged("foreign command", &tables.values[0], 0x30, counts, JOBDESK_WRONG_SECTION, 8);
+    damaged("no expression", &counts[3], 0, counts, JOBDESK_WRONG_SECTION, 24);
+    damaged("bit 0 of the rights", &counts[4], 1, counts, JOBDESK_BAD_OPERAND, 15);
+    damaged("variable 256", &tables.heads[0], 0x32 + 256 * 256, counts, JOBDESK_BAD_OPERAND, 24);
+    damaged("number 2^32", &tables.values[0], 0x20 + 256 + (UINT64_C(1) << 56), counts,
+            JOBDESK_BAD_OPERAND, 8);
+    tables.slots[5] = 1;
+    not_written("no earlier expression", counts, JOBDESK_BAD_OPERAND, 26);
+    for (size_t i = 2; i < JOBDESK_NAMES; i++)
+        tables.names[i] = 1 + 256;
+    damaged("63 names", &counts[0], 63, counts, JOBDESK_TOO_MANY, 124);
+    damaged("no end of names", &counts[0], UINT64_MAX, counts, JOBDESK_TOO_MANY, 124);
+}
+
+/* Writing the example, as it was read, with slices of these lengths: tables, counts, buffer, out. */
+static uint64_t write_with(const size_t lengths[9], uint8_t *buffer, uint64_t *out)
+{
+    return jobdesk_write(tables.names, lengths[0], tables.types, lengths[1], tables.sets, lengths[2],
+                         tables.values, lengths[3], tables.heads, lengths[4], tables.slots, lengths[5],
+                         example_counts, lengths[6], buffer, lengths[7], out, lengths[8]);
+}
+
+/* Each table, the counts and the buffer in turn is one entry too short, then `out`. */
+static void short_writes(void)
+{
+    size_t lengths[9] = { JOBDESK_NAMES, JOBDESK_TYPES, JOBDESK_SETS, JOBDESK_VALUES, JOBDESK_HEADS,
+                          JOBDESK_SLOTS, JOBDESK_COUNTS, sizeof example, 1 };
+    uint8_t buffer[sizeof example];
+    uint64_t counts[JOBDESK_COUNTS], out[1];
+    same("read to write", jobdesk_read_in(&tables, example, sizeof example, counts), JOBDESK_OK);
+    memset(buffer, 0xA5, sizeof buffer);
+    for (size_t slice = 0; slice < 8; slice++) {
+        out[0] = 99;
+        lengths[slice]--;
+        same("short slice", write_with(lengths, buffer, out),
+             slice < 7 ? JOBDESK_SHORT_TABLE : JOBDESK_SHORT_BUFFER);
+        lengths[slice]++;
+        same("short slice, place", out[0], 0);
+        for (size_t i = 0; i < sizeof buffer; i++)
+            same("short slice, nothing written", buffer[i], 0xA5);
+    }
+    lengths[8] = 0;
+    out[0] = 99;
+    same("no out", write_with(lengths, buffer, out), JOBDESK_OK);
+    same("no out, nothing told", out[0], 99);
+    same("no out, written", (uint64_t)memcmp(buffer, example, sizeof example), 0);
+}
+
+/* Reading with a table, or counts, that are too short: 1, and the tables stay. */
+static void short_reads(void)
+{
+    uint64_t counts[JOBDESK_COUNTS] = { 99, 99, 99, 99, 99 };
+    for (size_t missing = 0; missing < 2; missing++) {
+        soil();
+        counts[0] = 99;
+        same("short read", jobdesk_read(example, sizeof example, tables.names, JOBDESK_NAMES, tables.types,
+                                        JOBDESK_TYPES, tables.sets, JOBDESK_SETS, tables.values,
+                                        JOBDESK_VALUES, tables.heads, JOBDESK_HEADS, tables.slots,
+                                        JOBDESK_SLOTS - missing, counts, JOBDESK_COUNTS - 1 + missing),
+             JOBDESK_SHORT_TABLE);
+        same("short read, place", counts[0], 0);
+        same("short read, other counts", counts[1] & counts[4], 99);
+        same("short read, nothing written", (uint64_t)all_bytes(0xA5), 1);
+    }
+}
+
 int main(void)
 {
     accepted();
@@ -326,6 +474,11 @@ int main(void)
     short_sessions();
     short_answers();
     short_results();
+    reads();
+    writes();
+    writes_refused();
+    short_writes();
+    short_reads();
     printf("jobdesk.h: %d differences\n", differences);
     return differences > 0;
 }

@@ -22,6 +22,23 @@ pub struct Lent<'a> {
     pub slots: &'a mut [u16],
 }
 
+/// The same tables, lent to be read alone. Their least lengths are the same.
+#[derive(Clone, Copy, Debug)]
+pub struct Held<'a> {
+    /// 64 entries or more.
+    pub names: &'a [u16],
+    /// 2,304 entries or more.
+    pub types: &'a [u64],
+    /// 2,304 entries or more.
+    pub sets: &'a [u64],
+    /// 64 entries or more.
+    pub values: &'a [u64],
+    /// 512 entries or more.
+    pub heads: &'a [u64],
+    /// 2,560 entries or more.
+    pub slots: &'a [u16],
+}
+
 /// Declares functions of the library. Each takes a job, the six tables that hold it, and slices of
 /// its own; a slice is a pointer and a length.
 macro_rules! library {
@@ -48,6 +65,22 @@ library! {
         entries: *mut u16, effects: *mut u64, calls: *const u64, answers: *mut u64,
         value: *mut u64, cells: *mut u64, out: *mut u64
     );
+    fn jobdesk_read(counts: *mut u64);
+}
+
+#[rustfmt::skip]
+unsafe extern "C" {
+    fn jobdesk_write(
+        names: *const u16, names_length: usize,
+        types: *const u64, types_length: usize,
+        sets: *const u64, sets_length: usize,
+        values: *const u64, values_length: usize,
+        heads: *const u64, heads_length: usize,
+        slots: *const u16, slots_length: usize,
+        counts: *const u64, counts_length: usize,
+        buffer: *mut u8, buffer_length: usize,
+        out: *mut u64, out_length: usize,
+    ) -> u64;
 }
 
 /// Calls one of them with a job, the tables that hold it, and its own slices, each the pair of a
@@ -130,4 +163,35 @@ pub fn session(
     let made = (calls.as_ptr(), calls.len());
     let (answers, value, cells, out) = (part(answers), part(value), part(cells), part(out));
     call!(jobdesk_session, job, lent, entries, effects, made, answers, value, cells, out)
+}
+
+/// Reads a job into the tables. 0: it is read, and `counts` has its names, types, host values,
+/// expressions and rights. 1 to 7: it is not read, and `counts[0]` has the place. 1 too where `counts`
+/// has fewer than five words.
+pub fn read(job: &[u8], lent: Lent, counts: &mut [u64]) -> u64 {
+    call!(jobdesk_read, job, lent, part(counts))
+}
+
+/// Writes the bytes of the job that the tables hold into the buffer. 0: it is written, and `out` has
+/// how many bytes there are. 1, 2, 3, 5, 6 or 15: no byte is written, and `out` has the place. 1 too
+/// where `counts` has fewer than five words.
+pub fn write(held: Held, counts: &[u64], buffer: &mut [u8], out: &mut [u64; 1]) -> u64 {
+    let Held { names, types, sets, values, heads, slots } = held;
+    // SAFETY: every pointer goes with the length of the slice that it was taken from. The two that
+    // are written to come from `&mut`, so they overlap nothing else.
+    #[rustfmt::skip]
+    let number = unsafe {
+        jobdesk_write(
+            names.as_ptr(), names.len(),
+            types.as_ptr(), types.len(),
+            sets.as_ptr(), sets.len(),
+            values.as_ptr(), values.len(),
+            heads.as_ptr(), heads.len(),
+            slots.as_ptr(), slots.len(),
+            counts.as_ptr(), counts.len(),
+            buffer.as_mut_ptr(), buffer.len(),
+            out.as_mut_ptr(), out.len(),
+        )
+    };
+    number
 }

@@ -24,14 +24,31 @@
 //! assert_eq!((refusal.number, refusal.place), (4, 2));
 //! assert_eq!(refusal.to_string(), "refused 4 at byte 2: the input ends too soon");
 //! ```
+//!
+//! A job is passed on as it was read and checked: its bytes are written from the tables.
+//!
+//! ```
+//! # let job = b"\x01\x01\x10\x00\x12\x02\0\0\x20\x01\0\x07\0\0\0\x21\x04\0\0\0\0\0\0\0\x32\0\x39\0\0\xFF";
+//! let mut tables = jobdesk::Tables::new();
+//! let counts = tables.read(job)?;
+//! let effect = tables.check(job)?.effect();
+//! assert_eq!(effect, 1 << 2);
+//!
+//! let mut buffer = [0; jobdesk::BYTES];
+//! let length = tables.write(&counts, &mut buffer)?;
+//! assert_eq!(buffer[..length], job[..]);
+//! # Ok::<(), jobdesk::Refusal>(())
+//! ```
 #![deny(unsafe_code)]
 #![warn(missing_docs)]
 
 mod calls;
+mod counts;
 pub mod lent;
 mod refusal;
 mod tables;
 
 pub use calls::{Answer, Answered, Call, Ran, Rooms};
+pub use counts::Counts;
 pub use refusal::{Place, Refusal};
-pub use tables::{Accepted, Kind, LENGTHS, Session, Tables, Value};
+pub use tables::{Accepted, BYTES, Kind, LENGTHS, Session, Tables, Value};

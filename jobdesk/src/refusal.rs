@@ -4,10 +4,10 @@
 use std::error::Error;
 use std::fmt;
 
-/// Why and where a job is refused.
+/// Why and where a job is refused, or tables that are to be written as one.
 #[derive(Clone, Copy, Debug, PartialEq, Eq, Hash)]
 pub struct Refusal {
-    /// 1 to 14; a start gives only 1 to 10.
+    /// 1 to 15. A start gives only 1 to 10, reading 1 to 7, and writing 1, 2, 3, 5, 6 and 15.
     pub number: u8,
     /// What it means is told by [`Refusal::at`].
     pub place: usize,
@@ -16,9 +16,9 @@ pub struct Refusal {
 /// What a refusal points at.
 #[derive(Clone, Copy, Debug, PartialEq, Eq, Hash)]
 pub enum Place {
-    /// At nothing of the job: a lent table is too short.
-    Tables,
-    /// At a byte of the job, by its offset.
+    /// At nothing of the job: a lent table or the lent buffer is too short.
+    Lent,
+    /// At a byte of the job, by its offset: of writing, in the bytes that the tables stand for.
     Byte(usize),
     /// At an expression of the job, by its number.
     Expression(usize),
@@ -28,7 +28,7 @@ impl Refusal {
     /// What the refusal points at.
     pub fn at(&self) -> Place {
         match self.number {
-            1 => Place::Tables,
+            1 | 15 => Place::Lent,
             2..=7 => Place::Byte(self.place),
             _ => Place::Expression(self.place),
         }
@@ -51,6 +51,7 @@ impl Refusal {
             12 => "an operand's type is not a subtype of the one needed",
             13 => "a limit's body uses keys outside the limit",
             14 => "the job uses keys beyond its rights",
+            15 => "the buffer is too short",
             _ => "no refusal has this number",
         }
     }
@@ -59,7 +60,7 @@ impl Refusal {
 impl fmt::Display for Place {
     fn fmt(&self, f: &mut fmt::Formatter) -> fmt::Result {
         match self {
-            Place::Tables => write!(f, "no place"),
+            Place::Lent => write!(f, "no place"),
             Place::Byte(offset) => write!(f, "byte {offset}"),
             Place::Expression(number) => write!(f, "expression {number}"),
         }

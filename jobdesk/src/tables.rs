@@ -2,11 +2,15 @@
 #![forbid(unsafe_code)]
 
 use crate::calls::{Answered, Call, Ran, Rooms};
-use crate::lent::{self, Lent, Results};
+use crate::counts::Counts;
+use crate::lent::{self, Held, Lent, Results};
 use crate::refusal::Refusal;
 
 /// The least lengths: names, types, sets, values, heads, slots, entries, effects.
 pub const LENGTHS: [usize; 8] = [64, 2304, 2304, 64, 512, 2560, 512, 512];
+
+/// No job has more bytes than this.
+pub const BYTES: usize = 10_310;
 
 /// The work tables that the proved code is lent. They can be used for any number of jobs, one after
 /// the other, and need not be cleared between them.
@@ -149,6 +153,60 @@ impl Tables {
         match lent::run(job, lent, calls, answers, &mut rooms) {
             0 => Ok(rooms.into()),
             number => Err(refusal(number, rooms[0])),
+        }
+    }
+
+    /// Reads a job into the tables: refusals 2 to 7 alone. That it is read is no verdict.
+    ///
+    /// ```
+    /// let mut tables = jobdesk::Tables::new();
+    /// let counts = tables.read(b"\x21\0\0\0\0\0\0\0\0\x30\x05\0\0\0\xFF")?;
+    /// assert_eq!((counts.names, counts.expressions, counts.rights), (0, 1, 0));
+    /// # Ok::<(), jobdesk::Refusal>(())
+    /// ```
+    ///
+    /// # Errors
+    /// The job's refusal, of 2 to 7.
+    pub fn read(&mut self, job: &[u8]) -> Result<Counts, Refusal> {
+        let mut counts = [0; 5];
+        let Tables { names, types, sets, values, heads, slots, .. } = self;
+        let lent = Lent { names, types, sets, values, heads, slots };
+        match lent::read(job, lent, &mut counts) {
+            0 => Ok(Counts::of(counts)),
+            number => Err(refusal(number, counts[0])),
+        }
+    }
+
+    /// Writes the bytes of the job that the tables hold to the start of the buffer, and says how many
+    /// there are. A buffer of [`BYTES`] is long enough for every job. What was read comes back byte for
+    /// byte, also after a check, a session or a run of the same job that did not refuse it: these leave
+    /// the job in the tables.
+    ///
+    /// ```
+    /// let mut tables = jobdesk::Tables::new();
+    /// let job = b"\x21\0\0\0\0\0\0\0\0\x30\x05\0\0\0\xFF";
+    /// let counts = tables.read(job)?;
+    /// tables.check(job)?;
+    /// let mut buffer = [0; jobdesk::BYTES];
+    /// let length = tables.write(&counts, &mut buffer)?;
+    /// assert_eq!(buffer[..length], job[..]);
+    /// assert_eq!(tables.write(&counts, &mut [0; 14]).unwrap_err().number, 15);
+    /// # Ok::<(), jobdesk::Refusal>(())
+    /// ```
+    ///
+    /// That a job is written is no verdict: one that the check refuses with 8 to 14 is written too. But
+    /// such a check clears the tables; so read the job after it.
+    ///
+    /// # Errors
+    /// 15 if the buffer is too short. 2, 3, 5 or 6 if no job has these tables and counts, as after a
+    /// refusal: then the place is an offset in the bytes that they stand for. No byte is written then.
+    pub fn write(&self, counts: &Counts, buffer: &mut [u8]) -> Result<usize, Refusal> {
+        let mut out = [0];
+        let Tables { names, types, sets, values, heads, slots, .. } = self;
+        let held = Held { names, types, sets, values, heads, slots };
+        match lent::write(held, &counts.words(), buffer, &mut out) {
+            0 => Ok(out[0] as usize),
+            number => Err(refusal(number, out[0])),
         }
     }
 }

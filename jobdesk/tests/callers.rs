@@ -2,7 +2,8 @@
 
 use std::error::Error;
 
-use jobdesk::{Answer, Answered, Call, Kind, LENGTHS, Place, Refusal, Rooms, Tables, Value};
+use jobdesk::{Answer, Answered, BYTES, Call, Counts, Kind, LENGTHS};
+use jobdesk::{Place, Refusal, Rooms, Tables, Value};
 
 /// The read of a host cell that holds 7 and whose key is name 2, with some rights.
 fn example(rights: u8) -> Vec<u8> {
@@ -125,14 +126,66 @@ fn short_answers() {
     assert_eq!(short.to_string(), "refused 1 at no place: a lent table is too short");
 }
 
+/// What the tables hold, written.
+fn written(tables: &Tables, counts: &Counts) -> Vec<u8> {
+    let mut buffer = vec![0xA5; BYTES];
+    let length = tables.write(counts, &mut buffer).expect("a job that is written");
+    assert!(buffer[length..].iter().all(|&byte| byte == 0xA5));
+    buffer.truncate(length);
+    buffer
+}
+
+#[test]
+fn passed_on() {
+    let mut tables = Tables::new();
+    let job = asking(4);
+    let counts = tables.read(&job).expect("a job that is read");
+    let wanted = Counts { names: 1, types: 3, values: 2, expressions: 5, rights: 4 };
+    assert_eq!(counts, wanted);
+    assert_eq!(written(&tables, &counts), job);
+    // A check makes more types, and leaves the job in the tables; so do a session and a run.
+    assert!(tables.check(&job).expect("an accepted job").types().len() > counts.types);
+    assert_eq!(written(&tables, &counts), job);
+    tables.session(&job, &[Call::Run(100)]).expect("a session");
+    assert_eq!(written(&tables, &counts), job);
+    tables.run(&job, &[Call::Run(100)]).expect("a job that starts");
+    assert_eq!(written(&tables, &counts), job);
+}
+
+#[test]
+fn passed_on_though_refused() {
+    let mut tables = Tables::new();
+    let counts = tables.read(&example(0)).expect("a job that is read");
+    assert_eq!(written(&tables, &counts), example(0));
+    // The check refuses it, and clears the tables: name 2 has no command.
+    tables.check(&example(0)).unwrap_err();
+    let refusal = tables.write(&counts, &mut [0; BYTES]).unwrap_err();
+    assert_eq!((refusal, refusal.at()), (Refusal { number: 2, place: 0 }, Place::Byte(0)));
+    assert_eq!(tables.read(&[0x01]), Err(Refusal { number: 4, place: 0 }));
+}
+
+#[test]
+fn short_buffer() {
+    let mut tables = Tables::new();
+    let job = example(4);
+    let counts = tables.read(&job).expect("a job that is read");
+    let mut buffer = vec![0xA5; job.len() - 1];
+    let refusal = tables.write(&counts, &mut buffer).unwrap_err();
+    assert_eq!((refusal, refusal.at()), (Refusal { number: 15, place: 0 }, Place::Lent));
+    assert_eq!(refusal.to_string(), "refused 15 at no place: the buffer is too short");
+    assert!(buffer.iter().all(|&byte| byte == 0xA5));
+    buffer.push(0);
+    assert_eq!((tables.write(&counts, &mut buffer), &buffer), (Ok(job.len()), &job));
+}
+
 #[test]
 fn every_refusal_has_words() {
     let reason = |number| Refusal { number, place: 0 }.reason();
-    let mut reasons: Vec<_> = (1..=14).map(reason).collect();
-    assert!(!reasons.contains(&reason(15)));
+    let mut reasons: Vec<_> = (1..=15).map(reason).collect();
+    assert!(!reasons.contains(&reason(16)));
     reasons.sort();
     reasons.dedup();
-    assert_eq!(reasons.len(), 14);
+    assert_eq!(reasons.len(), 15);
 }
 
 /// The number of a constant of `jobdesk.h`.
@@ -151,6 +204,7 @@ fn numbers_of_the_header() {
     let answers = ["TAKEN", "DONE", "SPENT", "NO_ROOM", "STUCK", "DENIED"];
     assert_eq!(answers.map(defined), Answer::ALL.map(|answer| answer.number() as usize));
     assert_eq!(["OUT", "ROOMS", "ANSWER", "VALUE", "CELLS"].map(defined), [2, 6, 2, 2, 512]);
+    assert_eq!(["COUNTS", "BYTES", "SHORT_BUFFER"].map(defined), [5, BYTES, 15]);
     let kinds = ["NUMBER", "PAIR", "CELL", "FUNCTION", "LIMIT", "GRANT"];
     assert_eq!(kinds.map(defined), Kind::ALL.map(|kind| kind as usize + 1));
 }
