@@ -1,18 +1,18 @@
 //! The jobs that are measured. Each is accepted.
 
+use second::bytes_of;
 use second::generate::{example, heavy, ladder};
 use second::job::{Expr, HostValue, Job, Shape, Type, UNUSED};
 use second::names::Names;
-use second::write;
 
 /// The job of a name.
 pub fn job(name: &str) -> Option<Vec<u8>> {
     Some(match name {
         "small" => example(4),
-        "medium" => write(&medium()),
-        "largest" => write(&largest()),
-        "ladder" => write(&ladder(16, 120, 1)),
-        "loop" => write(&heavy(40)),
+        "medium" => bytes_of(&medium()),
+        "largest" => bytes_of(&largest()),
+        "ladder" => bytes_of(&ladder(16, 120, 1)),
+        "loop" => bytes_of(&heavy(40)),
         _ => return None,
     })
 }

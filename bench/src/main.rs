@@ -1,8 +1,9 @@
 //! Measures the proved code beside the second implementation.
 //!
-//! `bench check JOB WHO [TIMES]`, `bench start WHO [TIMES]` and `bench run WHO [TIMES]` do one
-//! thing so many times, for a tool that counts instructions. `bench times` prints a line for each
-//! thing: its name, the job's bytes, and the nanoseconds of the proved code and of the second.
+//! `bench check JOB WHO [TIMES]`, the same with `read` or `write`, `bench start WHO [TIMES]` and
+//! `bench run WHO [TIMES]` do one thing so many times, for a tool that counts instructions. `bench
+//! times` prints a line for each thing: its name, the job's bytes, and the nanoseconds of the proved
+//! code and of the second.
 #![forbid(unsafe_code)]
 
 mod jobs;
@@ -11,8 +12,8 @@ use std::hint::black_box;
 use std::process::ExitCode;
 use std::time::Instant;
 
-use jobdesk::{Call, Tables};
-use second::Machine;
+use jobdesk::{BYTES, Call, Counts, Tables};
+use second::{Fields, Machine};
 
 /// The steps of a run.
 const STEPS: u64 = 100_000;
@@ -26,6 +27,10 @@ enum Who {
 #[derive(Clone, Copy)]
 enum What {
     Check,
+    /// A job into tables.
+    Read,
+    /// The same job from tables into a buffer.
+    Write,
     /// A start and a run of so many steps; a start alone makes no call.
     Run(u64),
 }
@@ -35,43 +40,76 @@ struct Work {
     what: What,
     job: Vec<u8>,
     tables: Tables,
+    /// What writing takes beside the tables, and the tables of the second implementation.
+    counts: Counts,
+    buffer: Vec<u8>,
+    fields: Fields,
 }
 
 impl Work {
+    /// The tables hold the job, where it can be read.
     fn new(what: What, job: Vec<u8>) -> Self {
-        Work { what, job, tables: Tables::new() }
+        let mut tables = Tables::new();
+        let counts = tables.read(&job).unwrap_or_default();
+        let fields = second::read(&job).map_or_else(|_| Fields::default(), |job| Fields::of(&job));
+        Work { what, job, tables, counts, buffer: vec![0; BYTES], fields }
     }
 
-    /// Does it once. The result is the same for both: a refusal's number, and the steps taken.
+    /// Does it once. The result is the same for both: a refusal's number, and the steps taken or the
+    /// bytes written.
     fn once(&mut self, who: Who) -> (u64, u64) {
+        match who {
+            Who::Proved => self.once_proved(),
+            Who::Second => self.once_second(),
+        }
+    }
+
+    fn once_proved(&mut self) -> (u64, u64) {
         let job = black_box(&self.job[..]);
-        match (who, self.what) {
-            (Who::Proved, What::Check) => {
-                (self.tables.check(job).map_or_else(|refusal| refusal.number as u64, |_| 0), 0)
+        let told = match self.what {
+            What::Check => self.tables.check(job).map(|_| 0),
+            What::Read => self.tables.read(job).map(|counts| {
+                black_box(counts);
+                0
+            }),
+            What::Write => {
+                let written = self.tables.write(black_box(&self.counts), &mut self.buffer);
+                black_box(&self.buffer);
+                written.map(|length| length as u64)
             }
-            (Who::Second, What::Check) => {
-                // The tables are part of the result.
-                let verdict = black_box(second::check(job));
-                (verdict.map_or_else(|refusal| refusal.number as u64, |_| 0), 0)
-            }
-            (Who::Proved, What::Run(steps)) => {
+            What::Run(steps) => {
                 let mut answers = [0; 2];
                 let count = (steps > 0) as usize;
                 let calls = &[Call::Run(steps).word()][..count];
-                match self.tables.run_words(job, calls, &mut answers[..2 * count]) {
-                    Ok(_) => (0, answers[1]),
-                    Err(refusal) => (refusal.number as u64, 0),
-                }
+                let ran = self.tables.run_words(job, calls, &mut answers[..2 * count]);
+                ran.map(|_| answers[1])
             }
-            (Who::Second, What::Run(steps)) => match Machine::start(job) {
-                Ok(mut machine) => {
-                    let taken = if steps > 0 { machine.run(steps).1 } else { 0 };
-                    black_box(&machine);
-                    (0, taken)
-                }
-                Err(refusal) => (refusal.number as u64, 0),
-            },
-        }
+        };
+        told.map_or_else(|refusal| (refusal.number.into(), 0), |told| (0, told))
+    }
+
+    /// Tables are part of the result.
+    fn once_second(&self) -> (u64, u64) {
+        let job = black_box(&self.job[..]);
+        let told = match self.what {
+            What::Check => black_box(second::check(job)).map(|_| 0),
+            What::Read => black_box(second::read(job)).map(|_| 0),
+            What::Write => {
+                let written = black_box(second::write(black_box(&self.fields), BYTES));
+                written.map(|bytes| bytes.len() as u64)
+            }
+            What::Run(steps) => Machine::start(job).map(|mut machine| {
+                let taken = if steps > 0 { machine.run(steps).1 } else { 0 };
+                black_box(&machine);
+                taken
+            }),
+        };
+        told.map_or_else(|refusal| (refusal.number.into(), 0), |told| (0, told))
+    }
+
+    /// Whether a job that is written is the one that was read.
+    fn is_same(&self) -> bool {
+        !matches!(self.what, What::Write) || self.buffer.starts_with(&self.job)
     }
 
     /// The least time of one in nanoseconds, proved and second in turn.
@@ -102,6 +140,8 @@ impl Work {
 fn work(name: &[&str]) -> Option<Work> {
     Some(match name {
         ["check", job] => Work::new(What::Check, jobs::job(job)?),
+        ["read", job] => Work::new(What::Read, jobs::job(job)?),
+        ["write", job] => Work::new(What::Write, jobs::job(job)?),
         ["start"] => Work::new(What::Run(0), jobs::job("loop")?),
         ["run"] => Work::new(What::Run(STEPS), jobs::job("loop")?),
         _ => return None,
@@ -109,11 +149,17 @@ fn work(name: &[&str]) -> Option<Work> {
 }
 
 /// Every thing that is measured.
-const ALL: [&[&str]; 6] = [
+const ALL: [&[&str]; 12] = [
     &["check", "small"],
     &["check", "medium"],
     &["check", "largest"],
     &["check", "ladder"],
+    &["read", "small"],
+    &["read", "medium"],
+    &["read", "largest"],
+    &["write", "small"],
+    &["write", "medium"],
+    &["write", "largest"],
     &["start"],
     &["run"],
 ];
@@ -122,7 +168,7 @@ fn times() -> ExitCode {
     for name in ALL {
         let Some(mut work) = work(name) else { return ExitCode::FAILURE };
         let (proved, second) = (work.once(Who::Proved), work.once(Who::Second));
-        if proved != second || proved.0 != 0 {
+        if proved != second || proved.0 != 0 || !work.is_same() {
             eprintln!("{name:?}: proved {proved:?}, second {second:?}");
             return ExitCode::FAILURE;
         }
@@ -152,7 +198,8 @@ fn main() -> ExitCode {
     };
     let (Some(who), Some(mut work)) = (who, work(&words)) else {
         eprintln!(
-            "usage: bench times | bench check JOB WHO [TIMES] | bench start|run WHO [TIMES]\n\
+            "usage: bench times | bench check|read|write JOB WHO [TIMES] | \
+             bench start|run WHO [TIMES]\n\
              JOB is small, medium, largest or ladder; WHO is proved or second"
         );
         return ExitCode::from(2);

@@ -13,6 +13,7 @@ use second::observe::{acts, refused_at, wanted_of_acts};
 use second::{Job, Machine, Refusal, check, read, to_hex, tree};
 
 use crate::sessions::{END, compare_session};
+use crate::writing::{self, compare_back, compare_checked, compare_tables};
 
 /// The steps that a job is mostly run for, and sometimes.
 const STEPS: u64 = 20_000;
@@ -36,6 +37,10 @@ pub fn all(count: u64, seed: u64) -> ExitCode {
     let mut met = Met::default();
     for seed in seed..seed.saturating_add(count) {
         let mut rng = Rng::new(!seed);
+        if let Err(difference) = compare_tables(seed, &mut rng, &mut met) {
+            println!("difference: {difference}\ntables of seed: {seed}");
+            return ExitCode::FAILURE;
+        }
         let mut next = Some(job(seed).1);
         let mut turn = 0;
         while let Some(job) = next {
@@ -57,7 +62,10 @@ pub fn all(count: u64, seed: u64) -> ExitCode {
         wanted().into_iter().filter(|what| !met.times.contains_key(what)).collect();
     missing.iter().for_each(|what| println!("not met: {what}"));
     match missing.is_empty() {
-        true => println!("{count} jobs and their probes, {} steps: no difference", met.steps),
+        true => println!(
+            "{count} jobs and their probes, {} steps, {count} tables: no difference",
+            met.steps
+        ),
         false => println!("no difference, but not all was met"),
     }
     ExitCode::from(!missing.is_empty() as u8)
@@ -85,6 +93,7 @@ fn wanted() -> Vec<String> {
         wanted.push(format!("no room in {room} alone"));
     }
     wanted.extend(wanted_of_acts());
+    wanted.extend(writing::wanted());
     wanted
 }
 
@@ -94,12 +103,25 @@ fn compare_job(job: &[u8], rng: &mut Rng, met: &mut Met) -> Result<Option<Vec<u8
     if rng.chance(10) {
         compare_short(job, rng, met)?;
     }
+    compare_back(job, rng, met)?;
     compare_run(job, accepted, rng, met)
 }
 
 /// Lengths of tables that are long enough.
 pub fn long_enough(rng: &mut Rng) -> [usize; 8] {
     LENGTHS.map(|least| if rng.chance(60) { least } else { least + rng.below(50) })
+}
+
+/// The same but for one of the first so many tables, which is too short.
+pub fn too_short(rng: &mut Rng, count: usize) -> [usize; 8] {
+    let mut lent = long_enough(rng);
+    let table = rng.below(count);
+    lent[table] = match rng.below(3) {
+        0 => 0,
+        1 => LENGTHS[table] - 1,
+        _ => rng.below(LENGTHS[table]),
+    };
+    lent
 }
 
 pub fn same<T: PartialEq + std::fmt::Debug>(
@@ -131,11 +153,12 @@ fn compare_check(job: &[u8], rng: &mut Rng, met: &mut Met) -> Result<bool, Strin
             same("verdict", verdict, (0, [accepted.entry as u64, accepted.effect]))?;
             let last = tables.words.types[verdict.1[0] as usize];
             same("kind", kind(last), Some(accepted.kind))?;
-            let job = read(job).map_err(|refusal| format!("{refusal:?} on a second reading"))?;
-            let words = words(&job, &accepted.types, &accepted.exprs);
+            let read = read(job).map_err(|refusal| format!("{refusal:?} on a second reading"))?;
+            let words = words(&read, &accepted.types, &accepted.exprs);
             met.meet("accepted".to_string());
             met.meet(format!("accepted as {}", accepted.kind.word()));
             same_tables("after acceptance", tables.differs(&before, &words, 8))?;
+            compare_checked(&tables, &read, job, rng, met)?;
             Ok(true)
         }
         Err(refusal @ Refusal { number, place }) => {
@@ -152,14 +175,7 @@ fn compare_check(job: &[u8], rng: &mut Rng, met: &mut Met) -> Result<bool, Strin
 /// Check and run with a table that is too short.
 fn compare_short(job: &[u8], rng: &mut Rng, met: &mut Met) -> Result<(), String> {
     for (count, what) in [(8, "check"), (RUN_TABLES, "run")] {
-        let mut lent = long_enough(rng);
-        let table = rng.below(count);
-        lent[table] = match rng.below(3) {
-            0 => 0,
-            1 => LENGTHS[table] - 1,
-            _ => rng.below(LENGTHS[table]),
-        };
-        let mut tables = Tables::dirty(lent, rng);
+        let mut tables = Tables::dirty(too_short(rng, count), rng);
         let before = tables.clone();
         if count == 8 {
             let verdict = proved::check(job, &mut tables);

@@ -3,6 +3,7 @@
 #![forbid(unsafe_code)]
 
 pub mod expected;
+pub mod lending;
 pub mod probe;
 pub mod proved;
 pub mod words;

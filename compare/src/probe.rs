@@ -6,7 +6,7 @@
 
 use second::generate::Rng;
 use second::job::{EXPRESSIONS, Expr, Job, Shape, TYPES, Type, UNUSED, VARIABLES};
-use second::{Kind, Value, write};
+use second::{Kind, Value, bytes_of};
 
 /// The most expressions that a use of a value takes.
 const USE: usize = 16;
@@ -43,7 +43,7 @@ pub fn probe(job: &Job, value: Value, rng: &mut Rng) -> Option<Vec<u8>> {
             add(Expr::Grant(last, body))
         }
     };
-    Some(write(&job))
+    Some(bytes_of(&job))
 }
 
 /// A variable that nothing binds.

@@ -67,6 +67,49 @@ impl Tables {
         };
         (job, &mut words.entries[..lent[6]], &mut words.effects[..lent[7]])
     }
+
+    /// What is lent of the tables that hold a job, to be read alone.
+    fn hold(&self) -> lent::Held<'_> {
+        let (lent, words) = (self.lent, &self.words);
+        lent::Held {
+            names: &words.names[..lent[0]],
+            types: &words.types[..lent[1]],
+            sets: &words.sets[..lent[2]],
+            values: &words.values[..lent[3]],
+            heads: &words.heads[..lent[4]],
+            slots: &words.slots[..lent[5]],
+        }
+    }
+
+    /// Puts words into the tables that hold a job, as far as they are lent. The words of names 0 and
+    /// 1, which nobody should look at, stay.
+    pub fn put(&mut self, words: &Words) {
+        fn over<T: Copy>(table: &mut [T], words: &[T]) {
+            table.iter_mut().zip(words).for_each(|(old, new)| *old = *new);
+        }
+        let (lent, _, _) = self.lend();
+        over(lent.names.get_mut(2..).unwrap_or_default(), &words.names[2..]);
+        over(lent.types, &words.types);
+        over(lent.sets, &words.sets);
+        over(lent.values, &words.values);
+        over(lent.heads, &words.heads);
+        over(lent.slots, &words.slots);
+    }
+}
+
+/// How many words there are of counts, with the rights.
+pub const COUNTS: usize = 5;
+
+/// Reads a job: 0 or a refusal's number.
+pub fn read(job: &[u8], tables: &mut Tables, counts: &mut [u64]) -> u64 {
+    let (lent, _, _) = tables.lend();
+    lent::read(job, lent, counts)
+}
+
+/// Writes the job of the tables: 0 or a refusal's number, and the word of `out`.
+pub fn write(tables: &Tables, counts: &[u64], buffer: &mut [u8]) -> (u64, u64) {
+    let mut out = [0xDEAD];
+    (lent::write(tables.hold(), counts, buffer, &mut out), out[0])
 }
 
 /// Checks a job: 0 or a refusal's number, and the two words of `out`.

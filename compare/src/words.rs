@@ -1,7 +1,9 @@
 //! A job's tables as words, in the layout that the proved code's contracts give.
 
-use second::job::{Expr, Job, Shape, Type};
-use second::{Kind, Typed};
+use second::fields::{Entry, ExprEntry, NameEntry, PLACES, TypeEntry, ValueEntry};
+use second::generate::MOST;
+use second::job::{Job, Type};
+use second::{Fields, Kind, Typed};
 
 use crate::proved::Tables;
 
@@ -20,45 +22,116 @@ pub struct Words {
 
 /// The words of a job, of its type table and of what was worked out for its expressions.
 pub fn words(job: &Job, types: &[Type], exprs: &[Typed]) -> Words {
-    let name = |name: u8| {
-        let place = if job.names.host() >> name & 1 == 1 { 1 } else { 2 };
-        job.names.upper(name) as u16 + 256 * place
-    };
-    let declared = (2..job.names.count()).map(|n| name(n as u8));
+    let mut fields = Fields::of(job);
+    fields.types = types.iter().map(TypeEntry::of).collect();
     Words {
-        names: [0, 0].into_iter().chain(declared).collect(),
-        types: types.iter().map(type_word).collect(),
-        sets: types.iter().map(set_word).collect(),
-        values: job
-            .hosts
-            .iter()
-            .map(|host| 0x20 | (host.ty as u64) << 8 | (host.number as u64) << 24)
-            .collect(),
-        heads: job.exprs.iter().map(head).collect(),
-        slots: job.exprs.iter().flat_map(slots).collect(),
         entries: exprs.iter().map(|typed| typed.entry).collect(),
         effects: exprs.iter().map(|typed| typed.effect).collect(),
+        ..words_of(&fields)
     }
 }
 
-/// Command byte, key, parts.
-pub fn type_word(ty: &Type) -> u64 {
-    let (byte, a, b) = match ty.shape {
-        Shape::Number => (0x10, 0, 0),
-        Shape::Pair(a, b) => (0x11, a, b),
-        Shape::Cell(a) => (0x12, a, 0),
-        Shape::Function(a, b, _) => (0x13, a, b),
-        Shape::Limit(r) => (0x14, r as u16, 0),
-        Shape::Grant(r) => (0x15, r as u16, 0),
-    };
-    byte | (ty.key as u64) << 8 | (a as u64) << 16 | (b as u64) << 32
+/// The words of the first six tables. What is wider than its place in a word is cut.
+pub fn words_of(fields: &Fields) -> Words {
+    Words {
+        names: [0, 0].into_iter().chain(fields.names.iter().map(name_word)).collect(),
+        types: fields.types.iter().map(type_word).collect(),
+        sets: fields.types.iter().map(set_word).collect(),
+        values: fields.values.iter().map(value_word).collect(),
+        heads: fields.exprs.iter().map(head_word).collect(),
+        slots: fields.exprs.iter().flat_map(|e| &e.fields[PLACES..]).map(|&s| s as u16).collect(),
+        ..Words::default()
+    }
+}
+
+/// Upper name, command.
+fn name_word(name: &NameEntry) -> u16 {
+    (name.fields[0] & 0xFF | name.command << 8) as u16
+}
+
+/// Command, key, parts.
+pub fn type_word(ty: &TypeEntry) -> u64 {
+    let [key, first, second, _] = ty.fields;
+    ty.command & 0xFF | (key & 0xFF) << 8 | (first & 0xFFFF) << 16 | second << 32
 }
 
 /// A function's effect.
-pub fn set_word(ty: &Type) -> u64 {
-    match ty.shape {
-        Shape::Function(_, _, effect) => effect,
-        _ => 0,
+pub fn set_word(ty: &TypeEntry) -> u64 {
+    ty.fields[3]
+}
+
+/// Command, type, number.
+fn value_word(value: &ValueEntry) -> u64 {
+    let [ty, number] = value.fields;
+    value.command & 0xFF | (ty & 0xFFFF) << 8 | number << 24
+}
+
+/// The command whose first word has two operands of one byte.
+const NEW_KEY: u64 = 0x3E;
+
+/// Command, and operands of one byte or four.
+fn head_word(expr: &ExprEntry) -> u64 {
+    let [first, second, ..] = expr.fields;
+    let operands = if expr.command == NEW_KEY { first & 0xFF | second << 8 } else { first };
+    expr.command & 0xFF | operands << 8
+}
+
+/// How many entries past those used are taken for fields.
+const PAST: usize = 6;
+
+/// The fields of words, with the counts and the rights; of entries that are not used only a few.
+pub fn fields_of(words: &Words, counts: [u64; 5]) -> Fields {
+    let [names, types, values, exprs, rights] = counts;
+    let counts = [names, types, values, exprs];
+    let mut some = MOST.map(|most| most + PAST);
+    for (some, &count) in some.iter_mut().zip(&counts) {
+        *some = (*some).min(usize::try_from(count).unwrap_or(usize::MAX).saturating_add(PAST));
+    }
+    let typed = words.types.iter().zip(&words.sets);
+    let heads = words.heads.iter().zip(words.slots.chunks_exact(5));
+    Fields {
+        names: words.names.iter().skip(2).map(name_of).take(some[0]).collect(),
+        types: typed.map(|(&word, &set)| type_of(word, set)).take(some[1]).collect(),
+        values: words.values.iter().map(value_of).take(some[2]).collect(),
+        exprs: heads.map(|(&head, slots)| expr_of(head, slots)).take(some[3]).collect(),
+        counts,
+        rights,
+    }
+}
+
+fn name_of(word: &u16) -> NameEntry {
+    Entry { command: u64::from(word >> 8), fields: [u64::from(word & 0xFF)] }
+}
+
+fn type_of(word: u64, set: u64) -> TypeEntry {
+    Entry { command: word & 0xFF, fields: [word >> 8 & 0xFF, word >> 16 & 0xFFFF, word >> 32, set] }
+}
+
+fn value_of(word: &u64) -> ValueEntry {
+    Entry { command: word & 0xFF, fields: [word >> 8 & 0xFFFF, word >> 24] }
+}
+
+fn expr_of(head: u64, slots: &[u16]) -> ExprEntry {
+    let command = head & 0xFF;
+    let mut fields = [0; 7];
+    if command == NEW_KEY {
+        (fields[0], fields[1]) = (head >> 8 & 0xFF, head >> 16);
+    } else {
+        fields[0] = head >> 8;
+    }
+    for (field, &slot) in fields[PLACES..].iter_mut().zip(slots) {
+        *field = slot.into();
+    }
+    Entry { command, fields }
+}
+
+/// Whether a field's place in a word can hold what is too wide for the operand of a command.
+pub fn can_be_wide(command: u8, field: usize) -> bool {
+    match command {
+        0x11 | 0x13 => field == 2,
+        0x14 | 0x15 | 0x20 | 0x3E => field == 1,
+        0x30..=0x40 => field == 0,
+        _ => false,
     }
 }
 
@@ -73,46 +146,6 @@ pub fn kind(word: u64) -> Option<Kind> {
         0x15 => Kind::Grant,
         _ => return None,
     })
-}
-
-/// Command byte, and operands of one byte or four.
-fn head(expr: &Expr) -> u64 {
-    let (byte, operand) = match *expr {
-        Expr::Number(n) => (0x30, n as u64),
-        Expr::Top => (0x31, 0),
-        Expr::Variable(v) => (0x32, v as u64),
-        Expr::Pair(..) => (0x33, 0),
-        Expr::Part(_, part) => (0x34, part as u64),
-        Expr::Function(v, ..) => (0x35, v as u64),
-        Expr::Apply(..) => (0x36, 0),
-        Expr::NewCell(..) => (0x37, 0),
-        Expr::Assign(..) => (0x38, 0),
-        Expr::Read(_) => (0x39, 0),
-        Expr::Sum(..) => (0x3A, 0),
-        Expr::Difference(..) => (0x3A, 1),
-        Expr::Test(..) => (0x3B, 0),
-        Expr::Limit(count, ..) => (0x3C, count as u64),
-        Expr::Grant(..) => (0x3D, 0),
-        Expr::NewKey(v, name, ..) => (0x3E, v as u64 | (name as u64) << 8),
-        Expr::Associate(..) => (0x3F, 0),
-        Expr::Look(..) => (0x40, 0),
-    };
-    byte | operand << 8
-}
-
-/// Operands of two bytes: expressions, then the type; of 3C four keys, then the body.
-fn slots(expr: &Expr) -> [u16; 5] {
-    if let Expr::Limit(_, [a, b, c, d], body) = *expr {
-        return [a, b, c, d, body];
-    }
-    let mut slots = [0; 5];
-    let mut count = 0;
-    expr.each_operand(|&operand| {
-        slots[count] = operand;
-        count += 1;
-    });
-    slots[count] = expr.type_operand().unwrap_or(0);
-    slots
 }
 
 /// Whether a table holds the words, then zeros to the end of what is lent, then what it held before.

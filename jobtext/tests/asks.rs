@@ -200,7 +200,7 @@ fn generated_jobs() {
 
 /// The end of a run, its steps and value, and the cells but for one.
 fn end_of_run(job: &Job, but: usize) -> (Outcome, u64, Option<Value>, Vec<Value>) {
-    let mut machine = Machine::start(&second::write(job)).expect("a job that starts");
+    let mut machine = Machine::start(&second::bytes_of(job)).expect("a job that starts");
     let (outcome, steps) = machine.run(2_000);
     let cells = machine.cells().iter().enumerate().filter(|(cell, _)| *cell != but);
     (outcome, steps, machine.result(), cells.map(|(_, &value)| value).collect())

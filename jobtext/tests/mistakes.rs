@@ -106,8 +106,8 @@ fn nothing_at_all() {
 
 #[test]
 fn deep_texts() {
-    let text = dump(&second::write(&tower(512))).0;
-    assert_eq!(assemble(&text).map(|made| made.bytes).ok(), Some(second::write(&tower(512))));
+    let text = dump(&second::bytes_of(&tower(512))).0;
+    assert_eq!(assemble(&text).map(|made| made.bytes).ok(), Some(second::bytes_of(&tower(512))));
     for open in ["(", "[", "{", "(sum ", "(read (", ":", "@", "job (pair "] {
         assert!(assemble(&format!("job {}", open.repeat(100_000))).is_err());
     }

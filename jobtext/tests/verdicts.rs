@@ -81,7 +81,7 @@ fn changed_bytes() {
 #[test]
 fn wide_types() {
     for depth in 1..=16 {
-        holds(&second::write(&second::generate::ladder(depth, 20, 0)));
-        holds(&second::write(&second::generate::tower(depth)));
+        holds(&second::bytes_of(&second::generate::ladder(depth, 20, 0)));
+        holds(&second::bytes_of(&second::generate::tower(depth)));
     }
 }

@@ -7,7 +7,7 @@ use std::path::{Path, PathBuf};
 use std::{env, fs};
 
 /// The files of edits, each named after the file that its edits change unless they say another.
-const PARTS: [&str; 4] = ["read", "tree", "check", "machine"];
+const PARTS: [&str; 5] = ["read", "tree", "check", "machine", "write"];
 
 /// A text to be put in place of another.
 #[derive(Default)]
@@ -20,6 +20,8 @@ struct Change {
 struct Fault {
     number: u32,
     text: String,
+    /// Whether it tells only where a field holds more than the proved code's words have room for.
+    wide: bool,
     changes: Vec<Change>,
 }
 
@@ -41,7 +43,7 @@ fn main() {
         write_entry(fault, &made, &mut list);
     }
     let count = faults.len();
-    let all = format!("{modules}\nconst LIST: [Fault; {count}] = [\n{list}];\n");
+    let all = format!("{modules}\nstatic LIST: [Fault; {count}] = [\n{list}];\n");
     fs::write(out.join("all.rs"), all).expect("all.rs is written");
 }
 
@@ -49,7 +51,8 @@ fn text_of(path: &Path) -> String {
     fs::read_to_string(path).unwrap_or_else(|error| panic!("{}: {error}", path.display()))
 }
 
-/// The faults of a file of edits. A line `fault N: TEXT` begins one. The texts of `old:` lines that
+/// The faults of a file of edits. A line `fault N: TEXT` begins one; of one that tells only in fields
+/// wider than a word's the text begins with `(wide)`. The texts of `old:` lines that
 /// follow each other are lines of one text, and so are those of `new:` lines.
 fn parse(part: &str, edits: &str) -> Vec<Fault> {
     let mut faults: Vec<Fault> = Vec::new();
@@ -59,7 +62,8 @@ fn parse(part: &str, edits: &str) -> Vec<Fault> {
         let rest = rest.strip_prefix(' ').unwrap_or(rest);
         if let Some(number) = word.strip_prefix("fault ") {
             let number = number.parse().unwrap_or_else(|_| panic!("{part}: {line}"));
-            faults.push(Fault { number, text: rest.to_string(), changes: Vec::new() });
+            let wide = rest.starts_with("(wide) ");
+            faults.push(Fault { number, text: rest.to_string(), wide, changes: Vec::new() });
             file = format!("{part}.rs");
         } else {
             let changes = &mut faults.last_mut().expect("a fault before its edits").changes;
@@ -119,9 +123,18 @@ fn write_modules(number: u32, made: &BTreeMap<String, String>, out: &Path, modul
 
 /// The entry of a fault in the list.
 fn write_entry(fault: &Fault, made: &BTreeMap<String, String>, list: &mut String) {
-    let Fault { number, text, .. } = fault;
-    write!(list, "    Fault {{ number: {number}, text: {text:?}, parts: Parts {{ ").unwrap();
-    let parts = [("read", "read"), ("tree", "tree"), ("check", "check_job"), ("machine", "runs")];
+    let Fault { number, text, wide, .. } = fault;
+    let writes = made.contains_key("write");
+    write!(list, "    Fault {{ number: {number}, text: {text:?}, writes: {writes}, wide: {wide}, ")
+        .unwrap();
+    list.push_str("parts: Parts { ");
+    let parts = [
+        ("read", "read"),
+        ("tree", "tree"),
+        ("check", "check_job"),
+        ("machine", "runs"),
+        ("write", "write"),
+    ];
     for (name, function) in parts {
         let part = if name == "machine" { "run" } else { name };
         if made.contains_key(name) {

@@ -1,12 +1,13 @@
-//! A seeded generator of jobs: most of them well typed, many damaged.
+//! A seeded generator of jobs: most of them well typed, many damaged; and one of tables.
 
 mod build;
 mod damage;
 mod limits;
 mod looks;
+mod tables;
 
 use crate::job::Job;
-use crate::read::write;
+use crate::write::bytes_of;
 
 /// A small generator of numbers (splitmix64).
 #[derive(Clone, Debug)]
@@ -65,8 +66,8 @@ pub fn job(seed: u64) -> (Source, Vec<u8>) {
     let mut rng = Rng::new(seed);
     let rng = &mut rng;
     match rng.below(100) {
-        0..27 => (Source::Typed, write(&typed(rng))),
-        27..41 => (Source::Loop, write(&looped(rng))),
+        0..27 => (Source::Typed, bytes_of(&typed(rng))),
+        27..41 => (Source::Loop, bytes_of(&looped(rng))),
         41..71 => {
             let mut job = match rng.below(20) {
                 0..5 => looped(rng),
@@ -76,17 +77,17 @@ pub fn job(seed: u64) -> (Source, Vec<u8>) {
             for _ in 0..1 + rng.below(3) {
                 damage::tables(rng, &mut job);
             }
-            (Source::Changed, write(&job))
+            (Source::Changed, bytes_of(&job))
         }
         71..86 => {
             let job = if rng.chance(8) { looks::job(rng) } else { typed(rng) };
-            let mut bytes = write(&job);
+            let mut bytes = bytes_of(&job);
             for _ in 0..1 + rng.below(2) {
                 damage::bytes(rng, &mut bytes);
             }
             (Source::Damaged, bytes)
         }
-        86..88 => (Source::Looks, write(&looks::job(rng))),
+        86..88 => (Source::Looks, bytes_of(&looks::job(rng))),
         _ => (Source::Limits, limits::job(rng)),
     }
 }
@@ -109,3 +110,4 @@ pub fn looped(rng: &mut Rng) -> Job {
 }
 
 pub use limits::{heavy, ladder, tower};
+pub use tables::{COMMANDS, MOST, Writing, commands, room, tables};

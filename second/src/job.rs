@@ -16,9 +16,9 @@ pub const UNUSED: u16 = 0xFFFF;
 /// Why and where a job is refused.
 #[derive(Clone, Copy, Debug, PartialEq, Eq)]
 pub struct Refusal {
-    /// 2 to 14.
+    /// 2 to 15.
     pub number: u32,
-    /// 2 to 7: an offset in the job's bytes; 8 to 14: the number of an expression.
+    /// 2 to 7: an offset in the job's bytes; 8 to 14: the number of an expression; 15: 0.
     pub place: u32,
 }
 

@@ -1,4 +1,4 @@
-//! The job desk: a reader, a checker and a machine for keyed jobs.
+//! The job desk: a reader, a writer, a checker and a machine for keyed jobs.
 //!
 //! ```
 //! let job = second::from_hex("21 0000000000000000 30 05000000 FF").unwrap();
@@ -10,6 +10,7 @@
 pub mod check;
 pub mod code;
 pub mod desk;
+pub mod fields;
 pub mod generate;
 pub mod job;
 pub mod machine;
@@ -19,15 +20,19 @@ pub mod read;
 pub mod tree;
 pub mod value;
 pub mod verdict;
+pub mod write;
+pub mod written;
 
 pub use check::{check, check_job};
 pub use desk::desk;
+pub use fields::Fields;
 pub use job::{Expr, Job, Kind, Refusal, Shape, Type};
 pub use machine::Machine;
-pub use read::{read, write};
+pub use read::read;
 pub use tree::tree;
 pub use value::{Answer, Outcome, Rooms, Value};
 pub use verdict::{Accepted, Typed};
+pub use write::{bytes_of, write};
 
 /// Bytes from hexadecimal digits; blanks are passed over.
 pub fn from_hex(text: &str) -> Option<Vec<u8>> {

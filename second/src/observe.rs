@@ -4,12 +4,14 @@ use std::collections::BTreeSet;
 use std::fmt;
 
 use crate::check::check_job;
+use crate::fields::Fields;
 use crate::job::{Expr, Job, Refusal};
 use crate::machine::{Machine, runs};
 use crate::read::read;
 use crate::tree::tree;
 use crate::value::{Answer, Outcome, Rooms, Value};
 use crate::verdict::Accepted;
+use crate::write::write;
 
 /// How a run ended.
 #[derive(Clone, Copy, Debug, PartialEq, Eq)]
@@ -33,7 +35,7 @@ pub struct Seen {
     pub runs: Result<Vec<Ran>, Refusal>,
 }
 
-/// What a job goes through, so that a part can be put in place of another.
+/// What a job and its tables go through, so that a part can be put in place of another.
 #[derive(Clone, Copy)]
 pub struct Parts {
     /// Refusals 2 to 7.
@@ -44,11 +46,13 @@ pub struct Parts {
     pub check: fn(&Job) -> Result<Accepted, Refusal>,
     /// The start and some runs.
     pub run: fn(&Job, &[u64]) -> Vec<Ran>,
+    /// The bytes of tables, with room for so many; refusals 2, 3, 5, 6 and 15.
+    pub write: fn(&Fields, usize) -> Result<Vec<u8>, Refusal>,
 }
 
 impl Parts {
     /// The parts of this crate.
-    pub const OWN: Parts = Parts { read, tree, check: check_job, run: runs };
+    pub const OWN: Parts = Parts { read, tree, check: check_job, run: runs, write };
 
     /// Checks a job and runs it for the given numbers of steps, one run after the other.
     pub fn observe(&self, job: &[u8], steps: &[u64]) -> Seen {

@@ -3,13 +3,19 @@
 use crate::job::*;
 
 /// The sections of a job, in order.
-#[derive(Clone, Copy, PartialEq, Eq, PartialOrd, Ord)]
-enum Section {
+#[derive(Clone, Copy, Debug, PartialEq, Eq, PartialOrd, Ord)]
+pub enum Section {
+    /// 01 and 02.
     Names,
+    /// 10 to 15.
     Types,
+    /// 20: host values.
     Hosts,
+    /// 21.
     Rights,
+    /// 30 to 40.
     Expressions,
+    /// FF.
     End,
 }
 
@@ -27,7 +33,8 @@ impl Section {
 }
 
 /// A command's section and the width of its operands.
-fn command(byte: u8) -> Option<(Section, usize)> {
+#[inline(always)]
+pub fn command(byte: u8) -> Option<(Section, usize)> {
     Some(match byte {
         0x01 | 0x02 => (Section::Names, 1),
         0x10 => (Section::Types, 1),
@@ -57,7 +64,7 @@ pub fn width(byte: u8) -> Option<usize> {
 
 /// Reads a job.
 pub fn read(bytes: &[u8]) -> Result<Job, Refusal> {
-    let mut reader = Reader(Job::default());
+    let mut reader = Reader::default();
     let mut section = Section::Names;
     let mut at = 0;
     loop {
@@ -90,7 +97,7 @@ pub fn read(bytes: &[u8]) -> Result<Job, Refusal> {
 }
 
 /// The operands of one command, taken from the front.
-struct Operands<'a>(&'a [u8]);
+pub struct Operands<'a>(pub &'a [u8]);
 
 impl Operands<'_> {
     fn bytes<const N: usize>(&mut self) -> [u8; N] {
@@ -117,11 +124,14 @@ impl Operands<'_> {
 }
 
 /// The job as far as it is read.
-struct Reader(Job);
+#[derive(Default)]
+pub struct Reader(Job);
 
 /// Each method gives nothing where refusal 6 is due.
 impl Reader {
-    fn is_full(&self, section: Section) -> bool {
+    /// Whether one more entry of a section is one more than its limit.
+    #[inline(always)]
+    pub fn is_full(&self, section: Section) -> bool {
         match section {
             Section::Names => self.0.names.is_full(),
             Section::Types => self.0.types.len() == TYPES,
@@ -131,7 +141,9 @@ impl Reader {
         }
     }
 
-    fn take(&mut self, command: u8, operands: Operands) -> Option<()> {
+    /// Takes in a command of a section that is not full, with operands of its width.
+    #[inline(always)]
+    pub fn take(&mut self, command: u8, operands: Operands) -> Option<()> {
         match command {
             0x01 | 0x02 => self.declare(command == 0x01, operands),
             0x10..=0x15 => self.add_type(command, operands),
@@ -141,6 +153,7 @@ impl Reader {
         }
     }
 
+    #[inline(always)]
     fn declare(&mut self, host: bool, mut operands: Operands) -> Option<()> {
         let upper = self.some_name(operands.byte())?;
         let names = &mut self.0.names;
@@ -152,6 +165,7 @@ impl Reader {
         Some(())
     }
 
+    #[inline(always)]
     fn add_type(&mut self, command: u8, mut operands: Operands) -> Option<()> {
         let key = self.name(operands.byte())?;
         let shape = match command {
@@ -184,6 +198,7 @@ impl Reader {
         Some(())
     }
 
+    #[inline(always)]
     fn add_host(&mut self, mut operands: Operands) -> Option<()> {
         let ty = self.ty(operands.reference())?;
         let number = operands.number();
@@ -202,6 +217,7 @@ impl Reader {
         Some(())
     }
 
+    #[inline(always)]
     fn set_rights(&mut self, mut operands: Operands) -> Option<()> {
         let rights = self.set(operands.set())?;
         if rights & self.0.names.local() != 0 {
@@ -211,6 +227,7 @@ impl Reader {
         Some(())
     }
 
+    #[inline(always)]
     fn add_expr(&mut self, command: u8, mut operands: Operands) -> Option<()> {
         let o = &mut operands;
         let expr = match command {
@@ -271,6 +288,7 @@ impl Reader {
     }
 
     /// A declared name other than 0.
+    #[inline(always)]
     fn some_name(&self, name: u8) -> Option<u8> {
         self.name(name).filter(|&name| name != 0)
     }
@@ -310,78 +328,4 @@ fn variable(v: u8) -> Option<u8> {
 
 fn join(a: (u8, u64), b: (u8, u64)) -> (u8, u64) {
     (a.0.max(b.0), a.1 | b.1)
-}
-
-/// Writes a job's tables as bytes.
-pub fn write(job: &Job) -> Vec<u8> {
-    let mut out = Vec::new();
-    for name in 2..job.names.count() as u8 {
-        let host = job.names.host() >> name & 1 == 1;
-        out.extend([if host { 1 } else { 2 }, job.names.upper(name)]);
-    }
-    for ty in &job.types {
-        write_type(&mut out, ty);
-    }
-    for host in &job.hosts {
-        out.push(0x20);
-        out.extend(host.ty.to_le_bytes());
-        out.extend(host.number.to_le_bytes());
-    }
-    out.push(0x21);
-    out.extend(job.rights.to_le_bytes());
-    for expr in &job.exprs {
-        write_expr(&mut out, expr);
-    }
-    out.push(0xFF);
-    out
-}
-
-fn write_type(out: &mut Vec<u8>, ty: &Type) {
-    let (command, parts): (u8, &[u16]) = match ty.shape {
-        Shape::Number => (0x10, &[]),
-        Shape::Pair(first, second) => (0x11, &[first, second]),
-        Shape::Cell(content) => (0x12, &[content]),
-        Shape::Function(from, to, _) => (0x13, &[from, to]),
-        Shape::Limit(_) => (0x14, &[]),
-        Shape::Grant(_) => (0x15, &[]),
-    };
-    out.extend([command, ty.key]);
-    out.extend(parts.iter().flat_map(|part| part.to_le_bytes()));
-    match ty.shape {
-        Shape::Function(_, _, effect) => out.extend(effect.to_le_bytes()),
-        Shape::Limit(name) | Shape::Grant(name) => out.push(name),
-        _ => {}
-    }
-}
-
-fn write_expr(out: &mut Vec<u8>, expr: &Expr) {
-    let (head, references): (&[u8], &[u16]) = match *expr {
-        Expr::Number(n) => {
-            out.push(0x30);
-            return out.extend(n.to_le_bytes());
-        }
-        Expr::Part(a, i) => {
-            out.push(0x34);
-            out.extend(a.to_le_bytes());
-            return out.push(i);
-        }
-        Expr::Top => (&[0x31], &[]),
-        Expr::Variable(v) => (&[0x32, v], &[]),
-        Expr::Pair(a, b) => (&[0x33], &[a, b]),
-        Expr::Function(v, ty, body) => (&[0x35, v], &[ty, body]),
-        Expr::Apply(a, b) => (&[0x36], &[a, b]),
-        Expr::NewCell(ty, a) => (&[0x37], &[ty, a]),
-        Expr::Assign(a, b) => (&[0x38], &[a, b]),
-        Expr::Read(a) => (&[0x39], &[a]),
-        Expr::Sum(a, b) => (&[0x3A, 0], &[a, b]),
-        Expr::Difference(a, b) => (&[0x3A, 1], &[a, b]),
-        Expr::Test(a, b, c, ty) => (&[0x3B], &[a, b, c, ty]),
-        Expr::Limit(count, [a, b, c, d], body) => (&[0x3C, count], &[a, b, c, d, body]),
-        Expr::Grant(a, b) => (&[0x3D], &[a, b]),
-        Expr::NewKey(v, name, key, body, ty) => (&[0x3E, v, name], &[key, body, ty]),
-        Expr::Associate(a, b) => (&[0x3F], &[a, b]),
-        Expr::Look(a, b, c, ty) => (&[0x40], &[a, b, c, ty]),
-    };
-    out.extend(head);
-    out.extend(references.iter().flat_map(|reference| reference.to_le_bytes()));
 }

@@ -2,7 +2,7 @@
 
 use second::generate::{Rng, job, ladder, typed};
 use second::names::Names;
-use second::{Answer, Machine, Outcome, Refusal, check, desk, from_hex, read, tree, write};
+use second::{Answer, Machine, Outcome, Refusal, bytes_of, check, desk, from_hex, read, tree};
 
 /// Names 2 under 1, and 3 and 4 under 2.
 fn names() -> Names {
@@ -169,9 +169,9 @@ fn steps_and_runs() {
 fn written_as_read() {
     let mut rng = Rng::new(3);
     for _ in 0..200 {
-        let bytes = write(&typed(&mut rng));
+        let bytes = bytes_of(&typed(&mut rng));
         let job = read(&bytes).unwrap();
-        assert_eq!(write(&job), bytes);
+        assert_eq!(bytes_of(&job), bytes);
         assert_eq!(tree(&job), Ok(()));
     }
 }
@@ -181,7 +181,7 @@ fn written_as_read() {
 fn ladders() {
     let start = std::time::Instant::now();
     for shape in 0..3 {
-        assert!(check(&write(&ladder(16, 120, shape))).is_ok(), "{shape}");
+        assert!(check(&bytes_of(&ladder(16, 120, shape))).is_ok(), "{shape}");
     }
     assert!(start.elapsed().as_secs() < 1);
 }

@@ -6,14 +6,16 @@
 use std::process::ExitCode;
 
 use compare::expected;
+use compare::lending::Lending;
 use compare::probe::probe;
 use compare::proved::{self, Tables};
 use compare::words::{kind, set_word, type_word};
-use jobdesk::Call;
-use second::generate::{Rng, job};
+use jobdesk::{Call, LENGTHS};
+use second::fields::TypeEntry;
+use second::generate::{Rng, Writing, job};
 use second::observe::{Ran, Seen, observe};
-use second::{Kind, read};
-use second_faults::ALL;
+use second::{Fields, Kind, Refusal, read, write};
+use second_faults::{ALL, Fault};
 
 /// What is seen of a job on either side.
 #[derive(PartialEq, Eq)]
@@ -66,8 +68,8 @@ fn second(seen: &Seen) -> Observed {
     let verdict = match &seen.verdict {
         Ok(accepted) => Verdict::Accepted {
             last: (accepted.entry as u64, Some(accepted.kind), accepted.effect),
-            types: accepted.types.iter().map(type_word).collect(),
-            sets: accepted.types.iter().map(set_word).collect(),
+            types: accepted.types.iter().map(|ty| type_word(&TypeEntry::of(ty))).collect(),
+            sets: accepted.types.iter().map(|ty| set_word(&TypeEntry::of(ty))).collect(),
             entries: accepted.exprs.iter().map(|typed| typed.entry).collect(),
             effects: accepted.exprs.iter().map(|typed| typed.effect).collect(),
         },
@@ -113,30 +115,100 @@ fn differs(case: &Case, seen: Seen) -> bool {
     second(&seen) != case.proved
 }
 
-/// Looks for a difference with each fault, on the jobs of so many seeds.
-fn all(count: u64, seed: u64) -> ExitCode {
-    let mut list = Vec::new();
-    let mut tables = Tables::least();
-    for seed in seed..seed.saturating_add(count) {
-        cases(seed, &mut tables, &mut list);
+/// What writing gives: the bytes, or number and place of a refusal.
+type Written = Result<Vec<u8>, (u64, u64)>;
+
+/// Tables of a seed, and what the proved code writes of them.
+struct TablesCase {
+    seed: u64,
+    writing: Writing,
+    proved: Written,
+}
+
+impl TablesCase {
+    fn new(seed: u64) -> Self {
+        let mut rng = Rng::new(!seed);
+        let Lending { tables, counts, writing } = Lending::of(seed, LENGTHS, &mut rng);
+        let mut buffer = vec![0xA5; writing.room];
+        let proved = match proved::write(&tables, &counts, &mut buffer) {
+            (0, length) => Ok(buffer[..length as usize].to_vec()),
+            refused => Err(refused),
+        };
+        TablesCase { seed, writing, proved }
     }
-    list.sort_by_key(|case| case.job.len());
-    if let Some(case) = list.iter().find(|case| differs(case, observe(&case.job, &case.steps))) {
-        println!("difference without a fault\njob: {}", second::to_hex(&case.job));
+
+    /// Whether what a writer gives is not what the proved code writes.
+    fn differs(&self, write: impl Fn(&Fields, usize) -> Result<Vec<u8>, Refusal>) -> bool {
+        let written = write(&self.writing.fields, self.writing.room);
+        written.map_err(|refusal| (refusal.number.into(), refusal.place.into())) != self.proved
+    }
+}
+
+/// What faults are looked for with.
+struct Cases {
+    jobs: Vec<Case>,
+    tables: Vec<TablesCase>,
+}
+
+impl Cases {
+    fn new(count: u64, seed: u64) -> Self {
+        let seeds = seed..seed.saturating_add(count);
+        let mut jobs = Vec::new();
+        let mut tables = Tables::least();
+        seeds.clone().for_each(|seed| cases(seed, &mut tables, &mut jobs));
+        jobs.sort_by_key(|case| case.job.len());
+        Cases { jobs, tables: seeds.map(TablesCase::new).collect() }
+    }
+
+    /// A difference without a fault, in words.
+    fn difference(&self) -> Option<String> {
+        let differs_at = |case: &&Case| differs(case, observe(&case.job, &case.steps));
+        let job = self.jobs.iter().find(differs_at);
+        let tables = self.tables.iter().find(|case| case.differs(write));
+        job.map(|case| format!("job: {}", second::to_hex(&case.job)))
+            .or(tables.map(|case| format!("tables of seed: {}", case.seed)))
+    }
+
+    /// What catches a fault, in words.
+    fn catches(&self, fault: &Fault) -> Option<String> {
+        if fault.writes {
+            let mut tables = self.tables.iter();
+            let case =
+                tables.find(|case| case.differs(|fields, room| fault.write(fields, room)))?;
+            return Some(format!("tables of seed {}", case.seed));
+        }
+        let differs_at = |case: &&Case| differs(case, fault.observe(&case.job, &case.steps));
+        let case = self.jobs.iter().find(differs_at)?;
+        Some(format!("{:5} bytes", case.job.len()))
+    }
+}
+
+/// Looks for a difference with each fault, on the jobs and tables of so many seeds. Of a fault that
+/// only a field wider than a word's tells there is none to be found.
+fn all(count: u64, seed: u64) -> ExitCode {
+    let cases = Cases::new(count, seed);
+    if let Some(difference) = cases.difference() {
+        println!("difference without a fault\n{difference}");
         return ExitCode::FAILURE;
     }
-    let mut missed = 0;
+    let (mut caught, mut missed, mut wide) = (0, 0, 0);
     for fault in ALL {
         let (number, text) = (fault.number, fault.text);
-        match list.iter().find(|case| differs(case, fault.observe(&case.job, &case.steps))) {
-            Some(case) => println!("caught {number:3} by {:5} bytes: {text}", case.job.len()),
+        match cases.catches(fault) {
+            Some(by) => {
+                caught += 1;
+                println!("caught {number:3} by {by}: {text}");
+            }
+            None if fault.wide => wide += 1,
             None => {
                 missed += 1;
                 println!("MISSED {number:3}: {text}");
             }
         }
     }
-    println!("{} caught, {missed} missed, with {} jobs", ALL.len() - missed, list.len());
+    let (jobs, tables) = (cases.jobs.len(), cases.tables.len());
+    print!("{caught} caught, {missed} missed, with {jobs} jobs and {tables} tables; ");
+    println!("{wide} are told by no word");
     ExitCode::from((missed > 0) as u8)
 }
 

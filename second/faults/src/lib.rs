@@ -1,4 +1,4 @@
-//! Single faults in the reader, the checker and the machine of the second implementation.
+//! Single faults in the reader, the checker, the machine and the writer of the second implementation.
 //!
 //! A fault is a small edit of the source (`edits/`). The build makes a copy of each file that a
 //! fault changes, with the change, and puts it in place of the part that it is a copy of. So the
@@ -7,6 +7,7 @@
 #![warn(missing_docs)]
 
 use second::observe::{Parts, Seen};
+use second::{Fields, Refusal};
 
 /// A fault, and the parts that a job goes through with it.
 #[derive(Clone, Copy)]
@@ -15,6 +16,10 @@ pub struct Fault {
     pub number: u32,
     /// What it is.
     pub text: &'static str,
+    /// Whether it is in the writer: then tables tell it, else jobs.
+    pub writes: bool,
+    /// Whether only a field that holds more than the proved code's words have room for tells it.
+    pub wide: bool,
     parts: Parts,
 }
 
@@ -23,9 +28,14 @@ impl Fault {
     pub fn observe(&self, job: &[u8], steps: &[u64]) -> Seen {
         self.parts.observe(job, steps)
     }
+
+    /// What writing tables gives with the fault.
+    pub fn write(&self, fields: &Fields, room: usize) -> Result<Vec<u8>, Refusal> {
+        (self.parts.write)(fields, room)
+    }
 }
 
 /// Every fault, by number.
-pub const ALL: &[Fault] = &LIST;
+pub static ALL: &[Fault] = &LIST;
 
 include!(concat!(env!("OUT_DIR"), "/all.rs"));

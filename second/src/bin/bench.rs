@@ -5,7 +5,7 @@ use std::hint::black_box;
 use std::time::Instant;
 
 use second::generate::{Rng, heavy, job, ladder, looped, tower, typed};
-use second::{Machine, check, write};
+use second::{Machine, bytes_of, check};
 
 /// The least time of several tries, in nanoseconds for each of `count`.
 fn time(count: u64, mut work: impl FnMut()) -> f64 {
@@ -22,7 +22,7 @@ const STEPS: u64 = 100_000;
 
 /// Times a step of a run of sums, and the start of that job.
 fn sums() {
-    let heavy = write(&heavy(40));
+    let heavy = bytes_of(&heavy(40));
     let fresh = Machine::start(&heavy).expect("a job that starts");
     let mut machine = fresh.clone();
     let step = time(STEPS, || {
@@ -42,7 +42,7 @@ fn sums() {
 fn mixed() {
     let mut rng = Rng::new(7);
     let loops: Vec<Machine> =
-        (0..200).filter_map(|_| Machine::start(&write(&looped(&mut rng))).ok()).collect();
+        (0..200).filter_map(|_| Machine::start(&bytes_of(&looped(&mut rng))).ok()).collect();
     let taken = loops.iter().map(|start| start.clone().run(STEPS).1).sum();
     let step = time(taken, || {
         for start in &loops {
@@ -67,15 +67,15 @@ fn main() {
     sums();
     mixed();
     let mut rng = Rng::new(8);
-    let large: Vec<Vec<u8>> = std::iter::repeat_with(|| write(&typed(&mut rng)))
+    let large: Vec<Vec<u8>> = std::iter::repeat_with(|| bytes_of(&typed(&mut rng)))
         .filter(|job| job.len() > 800)
         .take(20)
         .collect();
     checks("all kinds of jobs", &(1..2000).map(|seed| job(seed).1).collect::<Vec<_>>());
     checks("large typed jobs", &large);
-    checks("512 expressions", &[write(&tower(512))]);
+    checks("512 expressions", &[bytes_of(&tower(512))]);
     let shapes = ["ladder of pairs", "ladder of functions", "ladder of cells"];
     for (shape, what) in shapes.into_iter().enumerate() {
-        checks(what, &[write(&ladder(16, 120, shape))]);
+        checks(what, &[bytes_of(&ladder(16, 120, shape))]);
     }
 }

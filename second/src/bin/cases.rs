@@ -1,74 +1,114 @@
-//! Compares the desk and the machine with files of cases.
+//! Compares the desk, the machine and writing with files of cases.
 //!
 //! `cases desk FILE`: job in hexadecimal, tab, the desk's lines joined by ` | `.
 //! `cases machine FILE`: job, tab, steps asked for, tab, the run's words and the rooms in use.
+//! `cases queries FILE`: job, tab, query, tab, answer. A query is `desk`, `machine STEPS`, or `back`
+//! or `back ROOM`: the job read and written back, with room enough or for so many bytes, is the same
+//! or refused. Other queries are passed over.
 #![forbid(unsafe_code)]
 
 use std::process::ExitCode;
 
 use second::observe::Ran;
-use second::{Machine, desk, from_hex};
+use second::{Fields, Machine, Refusal, desk, from_hex, read, write};
 
-/// What is expected and what is got, or nothing where a line is no case.
-type Case = fn(&[&str]) -> Option<(String, String)>;
-
-fn desk_case(fields: &[&str]) -> Option<(String, String)> {
-    let [job, expected] = fields else { return None };
-    let lines = desk(&from_hex(job)?);
-    let got: Vec<&str> = lines.lines().collect();
-    Some((expected.to_string(), got.join(" | ")))
+/// What a line of a file comes to.
+enum Line {
+    /// What is expected and what is got.
+    Case(String, String),
+    PassedOver,
+    NoCase,
 }
 
-fn machine_case(fields: &[&str]) -> Option<(String, String)> {
-    let [job, steps, expected] = fields else {
-        return None;
-    };
-    let steps = steps.parse().ok()?;
-    let got = match Machine::start(&from_hex(job)?) {
+fn desk_answer(job: &[u8]) -> String {
+    desk(job).lines().collect::<Vec<_>>().join(" | ")
+}
+
+fn machine_answer(job: &[u8], steps: u64) -> String {
+    match Machine::start(job) {
         Ok(mut machine) => {
             let (outcome, steps) = machine.run(steps);
             Ran { outcome, steps, rooms: machine.rooms(), result: machine.result() }.to_string()
         }
-        Err(refusal) => format!("refused {} at {}", refusal.number, refusal.place),
+        Err(refusal) => refused(refusal),
+    }
+}
+
+fn back_answer(job: &[u8], room: usize) -> String {
+    match read(job).and_then(|job| write(&Fields::of(&job), room)) {
+        Ok(written) if written == job => "same".to_string(),
+        Ok(_) => "other".to_string(),
+        Err(refusal) => refused(refusal),
+    }
+}
+
+fn refused(Refusal { number, place }: Refusal) -> String {
+    format!("refused {number} at {place}")
+}
+
+/// The answer to a query; nothing if it is passed over.
+fn answer(job: &[u8], query: &str) -> Option<String> {
+    let (word, number) = query.split_once(' ').unwrap_or((query, ""));
+    match word {
+        "desk" => Some(desk_answer(job)),
+        "machine" => Some(machine_answer(job, number.parse().ok()?)),
+        "back" if number.is_empty() => Some(back_answer(job, usize::MAX)),
+        "back" => Some(back_answer(job, number.parse().ok()?)),
+        _ => None,
+    }
+}
+
+fn case(kind: &str, line: &str) -> Line {
+    let fields: Vec<&str> = line.split('\t').collect();
+    let (job, query, expected) = match (kind, &fields[..]) {
+        ("desk", [job, expected]) => (job, "desk".to_string(), expected),
+        ("machine", [job, steps, expected]) => (job, format!("machine {steps}"), expected),
+        ("queries", [job, query, expected]) => (job, query.to_string(), expected),
+        _ => return Line::NoCase,
     };
-    Some((expected.to_string(), got))
+    match from_hex(job).map(|job| answer(&job, &query)) {
+        Some(Some(got)) => Line::Case(expected.to_string(), got),
+        Some(None) if kind == "queries" => Line::PassedOver,
+        _ => Line::NoCase,
+    }
+}
+
+/// Compares a file; how many lines differ.
+fn compare(kind: &str, path: &str, text: &str) -> usize {
+    let (mut agreed, mut passed, mut failed) = (0, 0, 0);
+    for (number, line) in text.lines().enumerate() {
+        match case(kind, line) {
+            Line::Case(expected, got) if expected == got => agreed += 1,
+            Line::PassedOver => passed += 1,
+            Line::Case(expected, got) => {
+                failed += 1;
+                println!("{path}:{}: expected {expected}, got {got}", number + 1);
+            }
+            Line::NoCase => {
+                failed += 1;
+                println!("{path}:{}: no case", number + 1);
+            }
+        }
+    }
+    println!("{path}: {agreed} agree, {passed} passed over");
+    failed
 }
 
 fn main() -> ExitCode {
     let arguments: Vec<String> = std::env::args().skip(1).collect();
     let mut failed = 0;
     for pair in arguments.chunks(2) {
-        let (case, path): (Case, _) = match pair {
-            [kind, path] if kind == "desk" => (desk_case, path),
-            [kind, path] if kind == "machine" => (machine_case, path),
-            _ => {
-                eprintln!("usage: cases [desk FILE | machine FILE]...");
-                return ExitCode::from(2);
-            }
+        let [kind, path] = pair else {
+            eprintln!("usage: cases [desk FILE | machine FILE | queries FILE]...");
+            return ExitCode::from(2);
         };
-        let text = match std::fs::read_to_string(path) {
-            Ok(text) => text,
+        match std::fs::read_to_string(path) {
+            Ok(text) => failed += compare(kind, path, &text),
             Err(error) => {
                 eprintln!("{path}: {error}");
                 return ExitCode::from(2);
             }
-        };
-        let mut agreed = 0;
-        for (number, line) in text.lines().enumerate() {
-            let fields: Vec<&str> = line.split('\t').collect();
-            match case(&fields) {
-                Some((expected, got)) if expected == got => agreed += 1,
-                Some((expected, got)) => {
-                    failed += 1;
-                    println!("{path}:{}: expected {expected}, got {got}", number + 1);
-                }
-                None => {
-                    failed += 1;
-                    println!("{path}:{}: no case", number + 1);
-                }
-            }
         }
-        println!("{path}: {agreed} agree");
     }
     println!("{failed} differ");
     ExitCode::from((failed > 0) as u8)

@@ -1,16 +1,16 @@
 //! Generates jobs and says what they reach.
 //!
 //! `generate [COUNT] [SEED]` prints how often each refusal, outcome and kind of room is reached;
-//! it fails if one is not. `generate COUNT SEED desk` prints each job and the desk's lines instead,
+//! it fails if one is not; so for the reasons for which generated tables are not written. `generate COUNT SEED desk` prints each job and the desk's lines instead,
 //! and `generate COUNT SEED machine STEPS` each job that starts and its run.
 #![forbid(unsafe_code)]
 
 use std::collections::{BTreeMap, BTreeSet};
 use std::process::ExitCode;
 
-use second::generate::job;
+use second::generate::{job, tables};
 use second::observe::{acts, observe, refused_at, wanted_of_acts};
-use second::{Expr, Outcome, desk, read, to_hex, tree};
+use second::{Expr, Outcome, desk, read, to_hex, tree, write, written};
 
 /// How often each thing was reached.
 type Reached = BTreeMap<String, u64>;
@@ -63,6 +63,13 @@ fn reach_acts(job: &[u8], accepted: bool, mut reach: impl FnMut(String)) {
     }
 }
 
+/// Counts what the writing of the tables of a seed comes to.
+fn reach_writing(seed: u64, reached: &mut Reached) {
+    let writing = tables(seed);
+    let words = written::words(&writing, &write(&writing.fields, writing.room));
+    *reached.entry(words).or_default() += 1;
+}
+
 /// What must be reached.
 fn wanted() -> Vec<String> {
     let mut wanted: Vec<String> = (2..=14).map(|n| format!("verdict refused {n:2}")).collect();
@@ -73,6 +80,7 @@ fn wanted() -> Vec<String> {
             .map(|room| format!("no room in {room} alone")),
     );
     wanted.extend(wanted_of_acts());
+    wanted.extend(written::wanted(|_, _| true, true));
     wanted
 }
 
@@ -80,6 +88,7 @@ fn coverage(count: u64, seed: u64) -> ExitCode {
     let mut reached = Reached::new();
     for seed in seed..seed + count {
         reach(seed, &mut reached);
+        reach_writing(seed, &mut reached);
     }
     for (what, times) in &reached {
         println!("{times:8} {what}");

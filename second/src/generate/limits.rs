@@ -3,7 +3,7 @@
 use super::Rng;
 use crate::job::*;
 use crate::names::Names;
-use crate::read::write;
+use crate::write::bytes_of;
 
 /// A job at a limit, or one past it, or near a condition of the reader or of scopes.
 pub fn job(rng: &mut Rng) -> Vec<u8> {
@@ -17,20 +17,20 @@ pub fn job(rng: &mut Rng) -> Vec<u8> {
             repeated(rng, &cell, &good, &bad, 64 + past)
         }
         3 => towering(rng, 511 + past),
-        4 => write(&tower(240 + rng.below(40))),
+        4 => bytes_of(&tower(240 + rng.below(40))),
         5 => {
             let depth = 15 + rng.below(3);
-            write(&nested(rng, depth))
+            bytes_of(&nested(rng, depth))
         }
         6 | 7 => sets(rng),
-        8 => write(&ladder(8 + 8 * past, 1 + 20 * past, rng.below(3))),
-        9 => write(&heavy(40)),
+        8 => bytes_of(&ladder(8 + 8 * past, 1 + 20 * past, rng.below(3))),
+        9 => bytes_of(&heavy(40)),
         10 => host_values(rng),
         11 => full(rng),
-        12..16 => write(&brink(rng)),
+        12..16 => bytes_of(&brink(rng)),
         16 | 17 => misplaced(rng),
         18..25 => edited(rng),
-        _ => write(&scopes(rng)),
+        _ => bytes_of(&scopes(rng)),
     }
 }
 
@@ -92,7 +92,7 @@ pub fn tower(count: usize) -> Job {
 
 /// The same, at times with one more expression, whole or cut short, that refers to no earlier one.
 fn towering(rng: &mut Rng, count: usize) -> Vec<u8> {
-    let mut bytes = write(&tower(count));
+    let mut bytes = bytes_of(&tower(count));
     if rng.chance(70) {
         let more: &[u8] = match rng.below(2) {
             0 => &[0x39, 0xFF, 0x7F, 0xFF],
@@ -333,7 +333,7 @@ fn full(rng: &mut Rng) -> Vec<u8> {
         .collect();
     let exprs = full_of_uses(rng, &types, &hosts);
     let rights = if rng.chance(60) { 2 } else { 4 };
-    write(&Job { names, types, hosts, rights, exprs, ..Job::default() })
+    bytes_of(&Job { names, types, hosts, rights, exprs, ..Job::default() })
 }
 
 /// As many expressions as there may be, or nearly, that use host values.

@@ -5,7 +5,7 @@ use super::Rng;
 use crate::check::check;
 use crate::job::*;
 use crate::names::Names;
-use crate::read::write;
+use crate::write::bytes_of;
 
 /// The type of unkeyed numbers, and of those with key 3.
 const PLAIN: u16 = 0;
@@ -58,7 +58,7 @@ pub fn job(rng: &mut Rng) -> Job {
     let exprs = looks.exprs;
     let mut job = Job { names, types, hosts, rights: 2, exprs, ..Job::default() };
     let all = [0, 0b10, 0b100, 0b1000, 0b10000, 0b11000];
-    job.rights = match check(&write(&job)) {
+    job.rights = match check(&bytes_of(&job)) {
         Ok(accepted) if rng.chance(50) => accepted.effect,
         Ok(accepted) if rng.chance(50) => job.names.reduce(accepted.effect | rng.pick(&all)),
         _ => rng.pick(&all),

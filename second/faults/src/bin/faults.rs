@@ -1,16 +1,17 @@
-//! Puts one fault after another into the reader, checker and machine, and looks whether generated
-//! jobs tell it from the faultless one.
+//! Puts one fault after another into the reader, checker, machine and writer, and looks whether
+//! generated jobs and tables tell it from the faultless one.
 //!
 //! `faults [COUNT] [SEED]` prints for each fault its number, what it is, the shortest job that
-//! catches it, the steps asked for, and what is seen without and with the fault, parted by tabs.
+//! catches it, the steps asked for, and what is seen without and with the fault, parted by tabs. Of a
+//! fault in the writer it prints the seed of the tables and the room in place of job and steps.
 //! It fails if a fault is not caught.
 #![forbid(unsafe_code)]
 
 use std::process::ExitCode;
 
-use second::generate::job;
+use second::generate::{Writing, job, tables};
 use second::observe::{Seen, observe};
-use second::to_hex;
+use second::{Refusal, to_hex, write};
 use second_faults::{ALL, Fault};
 
 struct Case {
@@ -46,13 +47,52 @@ fn caught(fault: &Fault, cases: &[Case]) -> bool {
     false
 }
 
+/// Tables of a seed, and what writing them gives.
+struct Tables {
+    seed: u64,
+    writing: Writing,
+    written: Result<Vec<u8>, Refusal>,
+}
+
+impl Tables {
+    fn new(seed: u64) -> Self {
+        let writing = tables(seed);
+        let written = write(&writing.fields, writing.room);
+        Tables { seed, writing, written }
+    }
+}
+
+/// The same for a fault in the writer.
+fn caught_by_tables(fault: &Fault, cases: &[Tables]) -> bool {
+    let Fault { number, text, .. } = fault;
+    let shown = |written: &Result<Vec<u8>, Refusal>| match written {
+        Ok(bytes) => format!("written {}", to_hex(bytes)),
+        Err(refusal) => format!("refused {} at {}", refusal.number, refusal.place),
+    };
+    for Tables { seed, writing, written } in cases {
+        let faulty = fault.write(&writing.fields, writing.room);
+        if faulty != *written {
+            let (room, expected, got) = (writing.room, shown(written), shown(&faulty));
+            println!("caught\t{number}\t{text}\ttables {seed}\t{room}\t{expected}\t{got}");
+            return true;
+        }
+    }
+    println!("missed\t{number}\t{text}");
+    false
+}
+
 fn main() -> ExitCode {
     let mut numbers = std::env::args().skip(1).map(|text| text.parse().ok());
     let count = numbers.next().flatten().unwrap_or(10_000);
     let seed = numbers.next().flatten().unwrap_or(1);
     let mut cases: Vec<Case> = (seed..seed + count).map(|seed| Case::new(job(seed).1)).collect();
     cases.sort_by_key(|case| case.job.len());
-    let missed = ALL.iter().filter(|fault| !caught(fault, &cases)).count();
+    let tables: Vec<Tables> = (seed..seed + count).map(Tables::new).collect();
+    let is_caught = |fault: &&Fault| match fault.writes {
+        true => caught_by_tables(fault, &tables),
+        false => caught(fault, &cases),
+    };
+    let missed = ALL.iter().filter(|fault| !is_caught(fault)).count();
     println!("{} caught, {missed} missed", ALL.len() - missed);
     ExitCode::from((missed > 0) as u8)
 }
