@@ -3,13 +3,11 @@ use machine::Machine;
 use session::Held;
 use start::Told;
 ghost use Rattle.syntax.specs.Words.{codeIn};
+ghost use Rattle.table.specs.Lent.{jobBefore, jobAfter};
 ghost use Rattle.semantics.specs.Calls.{stepsOf};
 ghost use Rattle.machine.specs.View.{seen};
-ghost use Rattle.load.specs.Lent.{jobBefore, jobAfter};
 ghost use Rattle.judge.specs.Lent.{before};
 ghost use Rattle.checker.specs.Lent.{after};
-ghost use Rattle.encode.specs.Penned.{tablesIn};
-ghost use Rattle.writer.specs.Sends.{tablesAfter};
 ghost use Rattle.exchange.specs.Exchanges.{Reads, Writes};
 ghost use Rattle.capi.specs.Checks.{Checks};
 ghost use Rattle.capi.specs.Runs.{Goes, Runs};
@@ -184,7 +182,7 @@ pub extern "C" fn jobdesk_read(
     counts: &mut [u64],
 ) -> u64
     ensures { λ r. ⌜
-        Reads (now (job .entry)) r (tablesIn names types sets values heads slots) (tablesAfter names types sets values heads slots)
+        Reads (now (job .entry)) r (jobBefore names types sets values heads slots) (jobAfter names types sets values heads slots)
         (now (counts .entry)) (now (counts .exit))
         ⌝ }
 {
@@ -206,7 +204,7 @@ pub extern "C" fn jobdesk_write(
     out: &mut [u64],
 ) -> u64
     ensures { λ r. ⌜
-        Writes (tablesIn names types sets values heads slots) (tablesAfter names types sets values heads slots) (now (counts .entry)) r
+        Writes (jobBefore names types sets values heads slots) (jobAfter names types sets values heads slots) (now (counts .entry)) r
         (now (buffer .entry)) (now (buffer .exit)) (now (out .entry)) (now (out .exit))
         ⌝ }
 {

@@ -4,8 +4,6 @@ use Prim.Native.Nat.{ℕ, _+_, _*_, _≤_}
 use mathlib.Core.List.{List, []}
 use lib.ListN.{length}
 use lib.Seq.{sets}
-use denote.Ref.{now}
-use Rattle.table.specs.Lent.{Table}
 use Rattle.syntax.specs.Loading.{JobTables}
 use Rattle.syntax.specs.JobBytes.{commandBytes}
 use Rattle.syntax.specs.Writing.{Counts, Item, item, fault, each, items, Script, script}
@@ -38,10 +36,3 @@ alone (fault n) = record { bytes = []; fault = n }
 
 abbrev pub countsOver : ℕ → ℕ → ℕ → ℕ → ℕ → Counts
 countsOver n t v e s = record { names = n; types = t; values = v; cmds = e; rights = s }
-
--- the lent tables of a contract
-abbrev pub tablesOver : List ℕ → List ℕ → List ℕ → List ℕ → List ℕ → List ℕ → JobTables
-tablesOver n t s v h p = record { names = n; types = t; sets = s; values = v; heads = h; slots = p }
-
-abbrev pub tablesIn : Table → Table → Table → Table → Table → Table → JobTables
-tablesIn n t s v h p = tablesOver (now (n .entry)) (now (t .entry)) (now (s .entry)) (now (v .entry)) (now (h .entry)) (now (p .entry))

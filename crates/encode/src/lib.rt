@@ -19,9 +19,10 @@ use table::at16;
 use table::at64;
 ghost use mathlib.Core.Path.{_≡_};
 ghost use Prim.Native.Nat.{_+_, _*_, _≤_, _<_};
+ghost use Rattle.table.specs.Lent.{jobBefore};
 ghost use Rattle.encode.specs.Laid.{most-scratch};
 ghost use Rattle.encode.specs.Entries.{foreignBy, limitOf, itemIn, entryItem};
-ghost use Rattle.encode.specs.Penned.{Penned, alone, penOver, Sectioned, Encoded, countsOver, tablesIn};
+ghost use Rattle.encode.specs.Penned.{Penned, alone, penOver, Sectioned, Encoded, countsOver};
 
 // Room for the bytes of every entry that there can be: 896 commands of 14 bytes at most.
 pub const SCRATCH: usize = 12544;
@@ -78,7 +79,7 @@ fn entry_bytes(
 ) -> Pen
     requires { ⌜ at + 14 ≤ most-scratch ⌝ }
     requires { ⌜ i < 512 ⌝ }
-    ensures { λ r. ⌜ Penned (now (out .entry)) (now (out .exit)) at r (alone (entryItem (tablesIn names types sets values heads slots) sec i)) ⌝ }
+    ensures { λ r. ⌜ Penned (now (out .entry)) (now (out .exit)) at r (alone (entryItem (jobBefore names types sets values heads slots) sec i)) ⌝ }
 {
     match sec {
         0 => name_bytes(at16(names, 2 + i), out, at),
@@ -110,7 +111,7 @@ fn section_bytes(
     at: usize,
 ) -> Pen
     requires { ⌜ at + 14 * limitOf sec ≤ most-scratch ⌝ }
-    ensures { λ r. ⌜ Sectioned (itemIn (tablesIn names types sets values heads slots) sec) (limitOf sec) n (now (out .entry)) (now (out .exit)) at r ⌝ }
+    ensures { λ r. ⌜ Sectioned (itemIn (jobBefore names types sets values heads slots) sec) (limitOf sec) n (now (out .entry)) (now (out .exit)) at r ⌝ }
 {
     let mut p = at;
     let mut i: usize = 0;
@@ -143,7 +144,7 @@ pub fn encode(
     rights: u64,
     out: &mut [u8; SCRATCH],
 ) -> Pen
-    ensures { λ r. ⌜ Encoded (tablesIn names types sets values heads slots) (countsOver n t v e rights) (now (out .entry)) (now (out .exit)) r ⌝ }
+    ensures { λ r. ⌜ Encoded (jobBefore names types sets values heads slots) (countsOver n t v e rights) (now (out .entry)) (now (out .exit)) r ⌝ }
 {
     let a = section_bytes(0, n, names, types, sets, values, heads, slots, out, 0);
     if 0 < a.fault {

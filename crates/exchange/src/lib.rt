@@ -8,8 +8,7 @@ use writer::Sent;
 use writer::Shape;
 ghost use mathlib.Core.Path.{_≡_};
 ghost use lib.ListN.{set};
-ghost use Rattle.encode.specs.Penned.{tablesIn};
-ghost use Rattle.writer.specs.Sends.{tablesAfter};
+ghost use Rattle.table.specs.Lent.{jobBefore, jobAfter};
 ghost use Rattle.exchange.specs.Exchanges.{Tells, shapeIn, laidCounts, Reads, Writes};
 
 // The words of counts: names, types, host values, expressions, and the rights.
@@ -58,7 +57,7 @@ pub fn read(
     counts: &mut [u64],
 ) -> u64
     ensures { λ r. ⌜
-        Reads (now (job .entry)) r (tablesIn names types sets values heads slots) (tablesAfter names types sets values heads slots)
+        Reads (now (job .entry)) r (jobBefore names types sets values heads slots) (jobAfter names types sets values heads slots)
         (now (counts .entry)) (now (counts .exit))
         ⌝ }
 {
@@ -88,7 +87,7 @@ pub fn write(
     out: &mut [u64],
 ) -> u64
     ensures { λ r. ⌜
-        Writes (tablesIn names types sets values heads slots) (tablesAfter names types sets values heads slots) (now (counts .entry)) r
+        Writes (jobBefore names types sets values heads slots) (jobAfter names types sets values heads slots) (now (counts .entry)) r
         (now (buffer .entry)) (now (buffer .exit)) (now (out .entry)) (now (out .exit))
         ⌝ }
 {

@@ -10,6 +10,7 @@ use Rattle.order.specs.Bools.{_or_}
 use Rattle.syntax.specs.Words.{nameWords, typeWords, setWords, valueWords, headWords, slotWords}
 use Rattle.syntax.specs.Loading.{JobTables, short, zeros, cleared, filledWith, holding, most-entries, most-slots}
 use Rattle.syntax.specs.Reading.{Read, refused, read, refusedAt, reading, most-names, most-variables, most-expressions}
+use Rattle.table.specs.Lent.{jobTables}
 use Rattle.job.specs.declared.Answer.{Answer}
 use Rattle.job.specs.Answer.{longEnough, longTables, answerOf, refusedBy, tableOf, afterOf, ReadTo}
 
@@ -30,7 +31,7 @@ shorter n most = at (leb most n) refl
     at true e = le-ltb n most (leb-true most n e)
     at false e = lt-ltb n most (leb-false most n e)
 
-pub short-tables : (n t s v h p : List ℕ) → short (record { names = n; types = t; sets = s; values = v; heads = h; slots = p }) ≡ not (longTables n t s v h p)
+pub short-tables : (n t s v h p : List ℕ) → short (jobTables n t s v h p) ≡ not (longTables n t s v h p)
 unfolding short longEnough
 short-tables n t s v h p =
     (λ i.
@@ -43,27 +44,24 @@ unfoldable pub left : Bool → Read → JobTables → JobTables
 left true R w = holding R w
 left false R w = w
 
-abbrev tables : List ℕ → List ℕ → List ℕ → List ℕ → List ℕ → List ℕ → JobTables
-tables n t s v h p = record { names = n; types = t; sets = s; values = v; heads = h; slots = p }
-
 module _ {bytes n t s v h p n' t' s' v' h' p' : List ℕ} {a : Answer} (to : ReadTo bytes a n t s v h p n' t' s' v' h' p') where
-  pub tables-left : (b : Bool) (R : Read) → longTables n t s v h p ≡ b → reading bytes ≡ R → tables n' t' s' v' h' p' ≡ left b R (tables n t s v h p)
+  pub tables-left : (b : Bool) (R : Read) → longTables n t s v h p ≡ b → reading bytes ≡ R → jobTables n' t' s' v' h' p' ≡ left b R (jobTables n t s v h p)
   unfolding afterOf tableOf left holding cleared zeros filledWith
   tables-left b R l i =
-      (λ k. tables (to .names k) (to .types k) (to .sets k) (to .values k) (to .heads k) (to .slots k))
+      (λ k. jobTables (to .names k) (to .types k) (to .sets k) (to .values k) (to .heads k) (to .slots k))
       ∙ (λ k.
-      tables (afterOf (l k) nameWords (i k) n) (afterOf (l k) (λ J. typeWords (J .types)) (i k) t) (afterOf (l k) (λ J. setWords (J .types)) (i k) s) (afterOf (l k) valueWords (i k) v)
+      jobTables (afterOf (l k) nameWords (i k) n) (afterOf (l k) (λ J. typeWords (J .types)) (i k) t) (afterOf (l k) (λ J. setWords (J .types)) (i k) s) (afterOf (l k) valueWords (i k) v)
       (afterOf (l k) headWords (i k) h) (afterOf (l k) slotWords (i k) p))
       ∙ by b R
     where
       by : (c : Bool) (Q : Read)
-          → tables (afterOf c nameWords Q n) (afterOf c (λ J. typeWords (J .types)) Q t) (afterOf c (λ J. setWords (J .types)) Q s) (afterOf c valueWords Q v) (afterOf c headWords Q h) (afterOf c slotWords Q p)
-          ≡ left c Q (tables n t s v h p)
+          → jobTables (afterOf c nameWords Q n) (afterOf c (λ J. typeWords (J .types)) Q t) (afterOf c (λ J. setWords (J .types)) Q s) (afterOf c valueWords Q v) (afterOf c headWords Q h) (afterOf c slotWords Q p)
+          ≡ left c Q (jobTables n t s v h p)
       by false Q = refl
       by true (refused r) = refl
       by true (read J) = refl
 
-  long-is : longTables n t s v h p ≡ not (short (tables n t s v h p))
+  long-is : longTables n t s v h p ≡ not (short (jobTables n t s v h p))
   long-is = twice (longTables n t s v h p) ∙ ap not (sym (short-tables n t s v h p))
     where
       twice : (b : Bool) → b ≡ not (not b)
@@ -71,18 +69,18 @@ module _ {bytes n t s v h p n' t' s' v' h' p' : List ℕ} {a : Answer} (to : Rea
       twice false = refl
 
   -- the answer, and the tables: 1 first
-  pub read-answer : a ≡ answerOf (cond (short (tables n t s v h p)) (refusedAt 1 0) (reading bytes))
+  pub read-answer : a ≡ answerOf (cond (short (jobTables n t s v h p)) (refusedAt 1 0) (reading bytes))
   unfolding answerOf
-  read-answer = to .answer ∙ ap (λ (b : Bool). cond b (answerOf (reading bytes)) (refusedBy 1 0)) long-is ∙ by (short (tables n t s v h p))
+  read-answer = to .answer ∙ ap (λ (b : Bool). cond b (answerOf (reading bytes)) (refusedBy 1 0)) long-is ∙ by (short (jobTables n t s v h p))
     where
       by : (b : Bool) → cond (not b) (answerOf (reading bytes)) (refusedBy 1 0) ≡ answerOf (cond b (refusedAt 1 0) (reading bytes))
       by true = refl
       by false = refl
 
-  pub read-tables : tables n' t' s' v' h' p' ≡ cond (short (tables n t s v h p)) (tables n t s v h p) (holding (reading bytes) (tables n t s v h p))
+  pub read-tables : jobTables n' t' s' v' h' p' ≡ cond (short (jobTables n t s v h p)) (jobTables n t s v h p) (holding (reading bytes) (jobTables n t s v h p))
   unfolding left
-  read-tables = tables-left (longTables n t s v h p) (reading bytes) refl refl ∙ ap (λ (b : Bool). left b (reading bytes) (tables n t s v h p)) long-is ∙ by (short (tables n t s v h p))
+  read-tables = tables-left (longTables n t s v h p) (reading bytes) refl refl ∙ ap (λ (b : Bool). left b (reading bytes) (jobTables n t s v h p)) long-is ∙ by (short (jobTables n t s v h p))
     where
-      by : (b : Bool) → left (not b) (reading bytes) (tables n t s v h p) ≡ cond b (tables n t s v h p) (holding (reading bytes) (tables n t s v h p))
+      by : (b : Bool) → left (not b) (reading bytes) (jobTables n t s v h p) ≡ cond b (jobTables n t s v h p) (holding (reading bytes) (jobTables n t s v h p))
       by true = refl
       by false = refl

@@ -18,7 +18,7 @@ use Rattle.typing.specs.NumberedVerdict.{lastEntry, lastEffect, filledFrom}
 use Rattle.elaborate.specs.OpsLaws.{jobOps}
 use Rattle.entry.specs.declared.Shape.{Shape}
 use Rattle.entry.specs.Shapes.{shapeOf}
-use Rattle.load.specs.Loads.{jobTables}
+use Rattle.table.specs.Lent.{jobTables}
 use Rattle.judge.specs.declared.Verdict.{Verdict}
 use Rattle.judge.specs.declared.Verdict.the-variants.{Accepted, Refused}
 

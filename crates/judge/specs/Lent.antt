@@ -1,8 +1,7 @@
 -- The eight lent tables of a contract, before a call and after it.
 use denote.Ref.{now}
 use Rattle.typing.specs.Tables.{Tables}
-use Rattle.table.specs.Lent.{Table}
-use Rattle.load.specs.Lent.{jobBefore}
+use Rattle.table.specs.Lent.{Table, jobBefore}
 use Rattle.judge.specs.Answer.{tables}
 
 abbrev pub before : Table → Table → Table → Table → Table → Table → Table → Table → Tables

@@ -20,6 +20,7 @@ use Rattle.job.specs.declared.Answer.{Answer}
 use Rattle.job.specs.declared.Answer.the-variants as answers
 use Rattle.job.specs.ReadTables.{left, short-tables, tables-left}
 use Rattle.job.specs.Answer.{longTables, answerOf, refusedBy, ReadTo, Zeroed}
+use Rattle.table.specs.Lent.{jobTables}
 use Rattle.table.specs.declared.Refusal.{Refusal}
 use Rattle.table.specs.declared.Expr.{Expr}
 use Rattle.uses.specs.declared.Answer.{Answer as TreeAnswer}
@@ -27,7 +28,7 @@ use Rattle.uses.specs.declared.Answer.the-variants as trees
 use Rattle.uses.specs.Answer.{refusalOf}
 use Rattle.tree.specs.Holds.{Holds}
 use Rattle.tree.specs.Filled.{filled-holds}
-use Rattle.load.specs.Loads.{jobTables, LoadTo}
+use Rattle.load.specs.Loads.{LoadTo}
 
 -- what the tree checks ask of the tables
 held : {J : Job} {g : Shape} {n t s h p : List ℕ} (kn kt ks kh kp : ℕ) → JobFits J → g ≡ shapeOf J → n ≡ filled kn 0 (nameWords J) → t ≡ filled kt 0 (typeWords (J .types)) → s ≡ filled ks 0 (setWords (J .types))

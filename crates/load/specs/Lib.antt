@@ -1,4 +1,3 @@
 pub mod Loads
-pub mod Lent
 pub mod Cases
 pub mod Kept

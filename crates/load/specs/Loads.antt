@@ -6,9 +6,6 @@ use Rattle.syntax.specs.Loading.{JobTables, loadWith, tablesAfterLoad}
 use Rattle.job.specs.declared.Answer.{Answer}
 use Rattle.job.specs.Answer.{answerOf}
 
-abbrev pub jobTables : List ℕ → List ℕ → List ℕ → List ℕ → List ℕ → List ℕ → JobTables
-jobTables n t s v h p = record { names = n; types = t; sets = s; values = v; heads = h; slots = p }
-
 -- loading `bytes` with the lent tables w, which are x afterwards
 pub record LoadTo (bytes : List ℕ) (r : Answer) (w x : JobTables) : Type 0 where
   pub answer : r ≡ answerOf (loadWith w bytes)

@@ -1,8 +1,8 @@
 // Loading a job: its bytes are read into the lent tables and its tree is checked. The check and the start of a job both begin with it.
 use job::Answer;
 use table::Refusal;
+ghost use Rattle.table.specs.Lent.{jobBefore, jobAfter};
 ghost use Rattle.load.specs.Loads.{LoadTo};
-ghost use Rattle.load.specs.Lent.{jobBefore, jobAfter};
 
 // The job that the bytes write, or 1 to 10. Number 1, where a table is too short, writes nothing; after every other refusal all tables are zero.
 pub fn load(

@@ -13,11 +13,11 @@ use store::Used;
 use table::Expr;
 ghost use mathlib.Core.Path.{_≡_};
 ghost use Rattle.syntax.specs.Job.{Src};
+ghost use Rattle.table.specs.Lent.{jobBefore, jobAfter};
 ghost use Rattle.semantics.specs.Start.{startOf};
 ghost use Rattle.machine.specs.View.{seen};
 ghost use Rattle.initial.specs.Empty.{emptyMachine};
 ghost use Rattle.initial.specs.Begun.{Begun};
-ghost use Rattle.load.specs.Lent.{jobBefore, jobAfter};
 ghost use Rattle.start.specs.Starts.{countsIn, toldOf, builtFrom, Starts};
 
 // The job is started, or refused with a number and a place.

@@ -3,13 +3,10 @@ use mathlib.Core.Path.{_≡_}
 use Prim.Native.Nat.{ℕ}
 use mathlib.Core.List.{List}
 use lib.ListN.{length}
-use denote.Ref.{now}
-use Rattle.table.specs.Lent.{Table}
 use Rattle.syntax.specs.Loading.{JobTables}
 use Rattle.syntax.specs.Writing as writing
 use Rattle.syntax.specs.Writing.{Counts, fitting, writeWith, bufferAfter}
 use Rattle.entry.specs.declared.Shape.{Shape}
-use Rattle.encode.specs.Penned.{tablesOver}
 use Rattle.writer.specs.declared.Sent.{Sent}
 use Rattle.writer.specs.declared.Sent.the-variants as answers
 
@@ -28,10 +25,6 @@ pub record Delivered (s : writing.Sent) (r : Sent) (b b' : List ℕ) : Type 0 wh
 
 unfoldable pub countsOf : Shape → Counts
 countsOf g = record { names = g .names; types = g .types; values = g .values; cmds = g .cmds; rights = g .rights }
-
--- the lent tables after a call
-abbrev pub tablesAfter : Table → Table → Table → Table → Table → Table → JobTables
-tablesAfter n t s v h p = tablesOver (now (n .exit)) (now (t .exit)) (now (s .exit)) (now (v .exit)) (now (h .exit)) (now (p .exit))
 
 -- `write`: its answer, the buffer before and after, and the tables, which stay as they were
 pub record WriteTo (w x : JobTables) (c : Counts) (r : Sent) (b b' : List ℕ) : Type 0 where

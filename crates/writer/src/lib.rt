@@ -12,8 +12,8 @@ ghost use mathlib.Core.List.{_++_};
 ghost use lib.ListN.{length, drop};
 ghost use Rattle.syntax.specs.Reading.{reading};
 ghost use Rattle.syntax.specs.Writing.{judged};
-ghost use Rattle.encode.specs.Penned.{tablesIn};
-ghost use Rattle.writer.specs.Sends.{refusedBy, Delivered, WriteTo, countsOf, tablesAfter};
+ghost use Rattle.table.specs.Lent.{jobBefore, jobAfter};
+ghost use Rattle.writer.specs.Sends.{refusedBy, Delivered, WriteTo, countsOf};
 
 // How many bytes there are, or the refusal.
 pub enum Sent {
@@ -81,7 +81,7 @@ pub fn write(
     buffer: &mut [u8],
 ) -> Sent
     ensures { λ r. ⌜
-        WriteTo (tablesIn names types sets values heads slots) (tablesAfter names types sets values heads slots) (countsOf g) r
+        WriteTo (jobBefore names types sets values heads slots) (jobAfter names types sets values heads slots) (countsOf g) r
         (now (buffer .entry)) (now (buffer .exit))
         ⌝ }
 {

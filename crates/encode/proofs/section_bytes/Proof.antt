@@ -3,7 +3,7 @@ use native.Mathlib.Omega.{arith}
 use Prim.Native.Nat.{_-_, _≤_}
 use borrow.Author.Needs.{needs}
 use Rattle.encode.specs.Entries.{limitOf, itemIn}
-use Rattle.encode.specs.Penned.{tablesOver}
+use Rattle.table.specs.Lent.{jobTables}
 use Rattle.encode.proofs.Pens.{Along, along-start}
 use Rattle.encode.proofs.Sections.{section-past, section-stop, section-next, section-end}
 use Rattle.encode.proofs.section_bytes.Statement.{statement}
@@ -15,7 +15,7 @@ use Rattle.encode.proofs.fault.Reads as fault-reads
 use Rattle.encode.proofs.limit.Reads as limit-reads
 
 abbrev Inv-loop : tie.InvT-loop
-Inv-loop sec n names types sets values heads slots out₀ at p₀ i₀ out p i = Along (itemIn (tablesOver names types sets values heads slots) sec) out₀ out at p i × (i ≤ n) × (i ≤ limitOf sec)
+Inv-loop sec n names types sets values heads slots out₀ at p₀ i₀ out p i = Along (itemIn (jobTables names types sets values heads slots) sec) out₀ out at p i × (i ≤ n) × (i ≤ limitOf sec)
 
 abbrev μ-loop : tie.MeasureT-loop
 μ-loop sec n names types sets values heads slots out₀ at p₀ i₀ out p i = n - i
