@@ -11,6 +11,7 @@ use Rattle.semantics.specs.Machine.{Machine as Clean}
 use Rattle.syntax.specs.Loading.{JobTables}
 use Rattle.semantics.specs.Calls.{Steps, stepsOf, calls}
 use Rattle.semantics.specs.Starting.{started, unstarted}
+use Rattle.table.specs.Told.{Tells}
 use Rattle.machine.specs.declared.Machine.{Machine}
 use Rattle.machine.specs.View.{seen}
 use Rattle.calls.specs.Words.{callsIn, resultWords, over}
@@ -21,7 +22,7 @@ use Rattle.start.specs.declared.Told.the-variants as told
 use Rattle.start.specs.declared.Opened.{Opened}
 use Rattle.start.specs.Starts.{toldIn, Starts}
 use Rattle.session.specs.Session.{roomFor}
-use Rattle.results.specs.Told.{Refuses, roomWords, countWords}
+use Rattle.results.specs.Told.{roomWords, countWords}
 use Rattle.results.proofs.Told.{counts-are}
 use Rattle.capi.specs.Runs.{numberOf, openedWith, openedTables, Goes, Ran, Runs}
 
@@ -45,7 +46,7 @@ all-ran {K} {ws} {a} {k = k} {m = m} h g =
       rooms = g .rooms ∙ ap (λ (z : Clean). over k (roomWords z)) (g .made .machine);
     }
 
-pub runs-short : (bytes ws : List ℕ) (w : JobTables) (a k k' : List ℕ) {r : ℕ} → length a / 2 < length ws → Refuses 1 0 r k k' → Runs bytes r ws w w a a k k'
+pub runs-short : (bytes ws : List ℕ) (w : JobTables) (a k k' : List ℕ) {r : ℕ} → length a / 2 < length ws → Tells 1 0 r k k' → Runs bytes r ws w w a a k k'
 unfolding openedWith openedTables numberOf
 runs-short bytes ws w a k k' h f =
     let b = room-no ws a h in
@@ -56,7 +57,7 @@ runs-short bytes ws w a k k' h f =
       stops =
           λ q z. let y : unstarted (record { number = 1; place = 0 }) ≡ unstarted q = rw b at z in
           let p : 0 ≡ q .place = cc in
-          record { answers = refl; rooms = f .place ∙ ap (λ (i : ℕ). set k 0 i) p };
+          record { answers = refl; rooms = f .told ∙ ap (λ (i : ℕ). set k 0 i) p };
     }
 
 module _ (bytes ws a : List ℕ) {w x : JobTables} (o : Opened) (to : Starts bytes o w x) (room : length ws ≤ length a / 2) where
@@ -80,12 +81,12 @@ module _ (bytes ws a : List ℕ) {w x : JobTables} (o : Opened) (to : Starts byt
           stops = λ q z. absurd (let y : _≡_ {A = ℕ} 0 1 = cc (sym (outcome e) ∙ z) in omega arith);
         }
 
-    pub runs-refused : (n p : ℕ) {r : ℕ} → o .told ≡ told.Refused n p → Refuses n p r k k' → Runs bytes r ws w x a a k k'
+    pub runs-refused : (n p : ℕ) {r : ℕ} → o .told ≡ told.Refused n p → Tells n p r k k' → Runs bytes r ws w x a a k k'
     unfolding numberOf
     runs-refused n p e z =
         record {
           tables = tables-are;
           number = z .number ∙ sym (ap numberOf (outcome e));
           goes = λ m y. absurd (let q : _≡_ {A = ℕ} 0 1 = cc (sym (outcome e) ∙ y) in omega arith);
-          stops = λ q y. let s : p ≡ q .place = cc (sym (outcome e) ∙ y) in record { answers = refl; rooms = z .place ∙ ap (λ (i : ℕ). set k 0 i) s };
+          stops = λ q y. let s : p ≡ q .place = cc (sym (outcome e) ∙ y) in record { answers = refl; rooms = z .told ∙ ap (λ (i : ℕ). set k 0 i) s };
         }

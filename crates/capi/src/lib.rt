@@ -57,7 +57,7 @@ pub extern "C" fn jobdesk_run(
         ⌝ }
 {
     if answers.len() / 2 < calls.len() {
-        return results::refuse(1, 0, rooms);
+        return table::tell(1, 0, rooms);
     }
     let o = start::start(job, names, types, sets, values, heads, slots);
     let told = o.told;
@@ -67,7 +67,7 @@ pub extern "C" fn jobdesk_run(
             go(m, heads, slots, calls, answers, rooms);
             0
         }
-        Told::Refused(n, p) => results::refuse(n, p, rooms),
+        Told::Refused(n, p) => table::tell(n, p, rooms),
     }
 }
 

@@ -11,6 +11,7 @@ use Rattle.syntax.specs.Job.{Job}
 use Rattle.syntax.specs.Reading.{Read, refused, read, refusedAt, reading}
 use Rattle.syntax.specs.Loading.{JobTables, short, holding}
 use Rattle.syntax.specs.Writing.{Sent, sent, unsent, writeWith, bufferAfter}
+use Rattle.table.specs.Told.{Tells}
 use Rattle.table.specs.declared.Refusal.{Refusal}
 use Rattle.entry.specs.Shapes.{shapeOf}
 use Rattle.entry.specs.declared.Shape.{Shape}
@@ -21,11 +22,7 @@ use Rattle.writer.specs.Sends as sends
 use Rattle.writer.specs.Sends.{countsOf, WriteTo}
 use Rattle.writer.specs.declared.Sent.{Sent as Answered}
 use Rattle.writer.specs.declared.Sent.the-variants as answered
-use Rattle.exchange.specs.Exchanges.{Tells, laidCounts, shapeIn, readWith, tablesAfterRead, readNumber, countsAfter, Reads, writtenBy, sentNumber, sentWord, Writes}
-
--- a word by what it is
-pub word-told : {n word r x : ℕ} {o o' : List ℕ} → r ≡ n → o' ≡ set o 0 x → x ≡ word → Tells n word r o o'
-word-told {o = o} e z y = record { number = e; told = z ∙ ap (set o 0) y }
+use Rattle.exchange.specs.Exchanges.{laidCounts, shapeIn, readWith, tablesAfterRead, readNumber, countsAfter, Reads, writtenBy, sentNumber, sentWord, Writes}
 
 -- Reading
 

@@ -12,11 +12,6 @@ use Rattle.entry.specs.Shapes.{shapeOf}
 use Rattle.entry.specs.declared.Shape.{Shape}
 use Rattle.writer.specs.Sends.{countsOf}
 
--- the number that is returned, and the word that is told
-pub record Tells (n word r : ℕ) (o o' : List ℕ) : Type 0 where
-  pub number : r ≡ n
-  pub told : o' ≡ set o 0 word
-
 -- names, types, host values, expressions, rights
 abbrev pub count-words : ℕ
 count-words = 5

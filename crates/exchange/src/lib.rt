@@ -2,25 +2,17 @@
 use job::Answer;
 use table::at64;
 use table::put64;
+use table::tell;
 use table::wide;
-use table::wide8;
 use writer::Sent;
 use writer::Shape;
 ghost use mathlib.Core.Path.{_≡_};
 ghost use lib.ListN.{set};
 ghost use Rattle.table.specs.Lent.{jobBefore, jobAfter};
-ghost use Rattle.exchange.specs.Exchanges.{Tells, shapeIn, laidCounts, Reads, Writes};
+ghost use Rattle.exchange.specs.Exchanges.{shapeIn, laidCounts, Reads, Writes};
 
 // The words of counts: names, types, host values, expressions, and the rights.
 pub const COUNTS: usize = 5;
-
-// The number that is returned, and the word that is told.
-fn tell(n: u8, word: usize, out: &mut [u64]) -> u64
-    ensures { λ r. ⌜ Tells n word r (now (out .entry)) (now (out .exit)) ⌝ }
-{
-    put64(out, 0, wide(word));
-    wide8(n)
-}
 
 fn put_counts(g: Shape, counts: &mut [u64])
     ensures { λ _. ⌜ now (counts .exit) ≡ laidCounts (now (counts .entry)) g ⌝ }

@@ -22,7 +22,7 @@ use Rattle.calls.specs.Words.{over}
 use Rattle.calls.specs.Laws.{sets-over}
 use Rattle.judge.specs.declared.Verdict.{Verdict}
 use Rattle.judge.specs.declared.Verdict.the-variants as verdict
-use Rattle.results.specs.Told.{Refuses, numberFor, outWords, roomWords, countWords, cell-words, lentShort}
+use Rattle.results.specs.Told.{numberFor, outWords, roomWords, countWords, cell-words, lentShort}
 
 two : (l : List ℕ) (a b : ℕ) {m k : List ℕ} → m ≡ set l 0 a → k ≡ set m 1 b → k ≡ over l (a ∷ b ∷ [])
 two l a b g h = h ∙ ap (λ (z : List ℕ). set z 1 b) g ∙ sets-over l (a ∷ b ∷ [])
@@ -36,9 +36,6 @@ pub tells-refused : (v : Verdict) (l : List ℕ) (n p : ℕ) {m k : List ℕ} {r
 unfolding numberFor outWords
 tells-refused v l n p {a = a} e d c g h =
     (d ∙ sym (ap (λ (u : Verdict). numberFor u) e), two l a 0 g h ∙ ap (λ (x : ℕ). over l (x ∷ 0 ∷ [])) c ∙ sym (ap (λ (u : Verdict). over l (outWords u)) e))
-
-pub refused : (l : List ℕ) {m : List ℕ} {n p r a : ℕ} → r ≡ n → a ≡ p → m ≡ set l 0 a → Refuses n p r l m
-refused l f e h = record { number = f; place = h ∙ ap (λ (i : ℕ). set l 0 i) e }
 
 pub out-length : (u : Verdict) → length (outWords u) ≡ 2
 unfolding outWords

@@ -1,9 +1,8 @@
 -- What callers from C and Rust are told of a verdict and of the room in use, in words; and how long the slices are that they lend for it.
-use mathlib.Core.Path.{_≡_}
 use Prim.Native.Nat.{ℕ, _*_}
 use mathlib.Core.Bool.{Bool}
 use mathlib.Core.List.{List, [], _∷_}
-use lib.ListN.{length, set}
+use lib.ListN.{length}
 use lib.Dec.{ltb}
 use Rattle.order.specs.Bools.{_or_}
 use Rattle.semantics.specs.Machine.{Machine as Clean, most-cells, most-keys, most-pairs, most-functions, most-frames, most-bindings}
@@ -22,11 +21,6 @@ numberFor (Refused n p) = n
 unfoldable pub outWords : Verdict → List ℕ
 outWords (Accepted i s) = i ∷ s ∷ []
 outWords (Refused n p) = p ∷ 0 ∷ []
-
--- a start that is refused: its number, and its place as the first word
-pub record Refuses (n p r : ℕ) (before after : List ℕ) : Type 0 where
-  pub number : r ≡ n
-  pub place : after ≡ set before 0 p
 
 -- the cells, keys, pairs, functions, frames and bindings that a machine uses
 unfoldable pub roomWords : Clean → List ℕ

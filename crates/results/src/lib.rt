@@ -1,4 +1,4 @@
-// What callers from C and Rust are told, in words: a verdict, a refusal, the room in use, the value of a finished job and what its cells hold.
+// What callers from C and Rust are told, in words: a verdict, the room in use, the value of a finished job and what its cells hold.
 use checker::Verdict;
 use machine::Control;
 use machine::Machine;
@@ -27,7 +27,7 @@ ghost use Rattle.store.specs.Tables.{listOf};
 ghost use Rattle.acts.specs.View.{Tables, view};
 ghost use Rattle.machine.specs.View.{stateOf, seen};
 ghost use Rattle.calls.specs.Words.{over};
-ghost use Rattle.results.specs.Told.{Refuses, numberFor, outWords, countWords, lentShort};
+ghost use Rattle.results.specs.Told.{numberFor, outWords, countWords, lentShort};
 ghost use Rattle.results.specs.Values.{kindNo, payloadOf, cellsFrom, valueWords, cellWords, TwoPut, CellPut};
 
 // The words of all cells, two for each.
@@ -52,14 +52,6 @@ pub fn tell(v: Verdict, out: &mut [u64]) -> u64
             wide8(n)
         }
     }
-}
-
-// The number of a refusal; its place is written.
-pub fn refuse(n: u8, p: usize, rooms: &mut [u64]) -> u64
-    ensures { λ r. ⌜ Refuses n p r (now (rooms .entry)) (now (rooms .exit)) ⌝ }
-{
-    put64(rooms, 0, wide(p));
-    wide8(n)
 }
 
 // How much of each kind is in use, as far as there are places to write it.

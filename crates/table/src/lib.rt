@@ -1,8 +1,9 @@
-// The ground floor of the code: limits, numbers of names, keys and expressions, refusals, total reads and writes of tables, and the fields of their words.
+// The ground floor of the code: limits, numbers of names, keys and expressions, refusals and how they are told, total reads and writes of tables, and the fields of their words.
 ghost use mathlib.Core.Path.{_≡_};
 ghost use Prim.Native.Nat.{_*_, _/_, _%_};
 ghost use lib.ListN.{length, getD, set, replicate};
 ghost use Rattle.syntax.specs.Words.{typeBits};
+ghost use Rattle.table.specs.Told.{Tells};
 
 // The limits of document 01: names with 0 and 1, types, variables, expressions, the depth of a type.
 pub const MOST_NAMES: usize = 64;
@@ -120,6 +121,14 @@ pub fn wide(n: usize) -> u64
     ensures { λ r. ⌜ r ≡ n ⌝ }
 {
     n as u64
+}
+
+// What a caller is told: n is returned, and the word is written.
+pub fn tell(n: u8, word: usize, out: &mut [u64]) -> u64
+    ensures { λ r. ⌜ Tells n word r (now (out .entry)) (now (out .exit)) ⌝ }
+{
+    put64(out, 0, wide(word));
+    wide8(n)
 }
 
 // The word of a type: command byte, key, first and second part.

@@ -6,16 +6,16 @@ use Rattle.capi.proofs.jobdesk_run.Reads as reads
 use Rattle.capi.proofs.jobdesk_run.Lts as lts
 use Rattle.start.proofs.start.Reads as start-reads
 use Rattle.capi.proofs.go.Reads as go-reads
-use Rattle.results.proofs.refuse.Reads as refuse-reads
+use Rattle.table.proofs.tell.Reads as tell-reads
 
-refuse-requires : tie.Need-refuse-requires
-refuse-requires c κs = search needs
+tell-requires : tie.Need-tell-requires
+tell-requires c κs = search needs
 
 same-length : tie.Need-same-length
 same-length c = c .before .rooms .given
 
 returns : tie.Need-returns
-returns c = runs-short _ _ _ _ _ _ (c .before .before .before .before .if1 .taken) (c .before .before .refuse .ensures)
+returns c = runs-short _ _ _ _ _ _ (c .before .before .before .before .if1 .taken) (c .before .before .tell .ensures)
 
 start-requires : tie.Need-start-requires
 start-requires c κs = search needs
@@ -29,8 +29,8 @@ go-requires c κs = search needs
 enum-known-told : tie.Need-enum-known-told
 enum-known-told c = search needs
 
-refuse-requires-2 : tie.Need-refuse-requires-2
-refuse-requires-2 c κs = search needs
+tell-requires-2 : tie.Need-tell-requires-2
+tell-requires-2 c κs = search needs
 
 same-length-2 : tie.Need-same-length-2
 same-length-2 c = c .before .before .before .before .before .before .before .before .before .before .before .before .before .before .before .before .before .before .before .before .before .before .before .names .given
@@ -81,20 +81,20 @@ same-length-16 : tie.Need-same-length-16
 same-length-16 c = c .before .rooms3 .given
 
 returns-3 : tie.Need-returns-3
-returns-3 c = runs-refused _ _ _ (c .before .before .before .before .before .before .before .before .before .before .before .before .before .before .before .before .before .before .before .start .result) (c .before .before .before .before .before .before .before .before .before .before .before .before .before .before .before .before .before .before .before .start .ensures) (c .before .before .before .before .before .before .before .before .before .before .before .before .before .before .before .before .before .before .before .before .before .before .before .before .before .before .if1 .left) _ _ (c .before .before .before .before .before .told .given .1) (c .before .before .refuse2 .ensures)
+returns-3 c = runs-refused _ _ _ (c .before .before .before .before .before .before .before .before .before .before .before .before .before .before .before .before .before .before .before .start .result) (c .before .before .before .before .before .before .before .before .before .before .before .before .before .before .before .before .before .before .before .start .ensures) (c .before .before .before .before .before .before .before .before .before .before .before .before .before .before .before .before .before .before .before .before .before .before .before .before .before .before .if1 .left) _ _ (c .before .before .before .before .before .told .given .1) (c .before .before .tell2 .ensures)
 
 pub jobdesk-run-spec : {M : Type 1} → statement M
 jobdesk-run-spec =
     tie.close
     (tie.spec
-    refuse-requires
+    tell-requires
     same-length
     returns
     start-requires
     enum-told
     go-requires
     enum-known-told
-    refuse-requires-2
+    tell-requires-2
     same-length-2
     same-length-3
     same-length-4

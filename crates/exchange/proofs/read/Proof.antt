@@ -7,7 +7,7 @@ use Rattle.exchange.proofs.read.Tie as tie
 use Rattle.exchange.proofs.read.Reads as reads
 use Rattle.exchange.proofs.read.Lts as lts
 use Rattle.exchange.proofs.put_counts.Reads as put-counts-reads
-use Rattle.exchange.proofs.tell.Reads as tell-reads
+use Rattle.table.proofs.tell.Reads as tell-reads
 use Rattle.job.proofs.read.Reads as read-reads
 
 tell-requires : tie.Need-tell-requires

@@ -6,7 +6,7 @@ use Rattle.exchange.proofs.write.Tie as tie
 use Rattle.exchange.proofs.write.Reads as reads
 use Rattle.exchange.proofs.write.Lts as lts
 use Rattle.exchange.proofs.counts_in.Reads as counts-in-reads
-use Rattle.exchange.proofs.tell.Reads as tell-reads
+use Rattle.table.proofs.tell.Reads as tell-reads
 use Rattle.writer.proofs.write.Reads as write-reads
 
 tell-requires : tie.Need-tell-requires
