@@ -1,8 +1,8 @@
 // The entries of names, types and host values: their faults, and their bytes.
 use super::Pen;
 use super::SCRATCH;
-use super::fault;
 use super::foreign;
+use super::pen_at;
 use super::push::push8;
 use super::push::push16;
 use super::push::push32;
@@ -28,10 +28,10 @@ pub fn name_bytes(d: u16, out: &mut [u8; SCRATCH], at: usize) -> Pen
     let op = (d / 256) as u8;
     let f = foreign(op, 0);
     if 0 < f {
-        return fault(at, f);
+        return pen_at(at, f);
     }
     let p = push8(out, at, op);
-    fault(push8(out, p, (d % 256) as u8), 0)
+    pen_at(push8(out, p, (d % 256) as u8), 0)
 }
 
 // Whether a part of a type is too wide: the second one for a type's number, the first one for a name.
@@ -72,13 +72,13 @@ pub fn type_bytes(d: u64, s: u64, out: &mut [u8; SCRATCH], at: usize) -> Pen
     let op = byte_of(d);
     let f = foreign(op, 1);
     if 0 < f {
-        return fault(at, f);
+        return pen_at(at, f);
     }
     if type_wide(op, d) {
-        return fault(at, 6);
+        return pen_at(at, 6);
     }
     let p = push8(out, at, op);
-    fault(type_operands(op, d, s, out, p), 0)
+    pen_at(type_operands(op, d, s, out, p), 0)
 }
 
 // The word of a host value: its command, its type, its number.
@@ -89,13 +89,13 @@ pub fn value_bytes(d: u64, out: &mut [u8; SCRATCH], at: usize) -> Pen
     let op = byte_of(d);
     let f = foreign(op, 2);
     if 0 < f {
-        return fault(at, f);
+        return pen_at(at, f);
     }
     let n = d / 16777216;
     if 4294967296 <= n {
-        return fault(at, 6);
+        return pen_at(at, 6);
     }
     let p = push8(out, at, op);
     let q = push16(out, p, (d / 256 % 65536) as u16);
-    fault(push32(out, q, n as u32), 0)
+    pen_at(push32(out, q, n as u32), 0)
 }

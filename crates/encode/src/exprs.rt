@@ -1,8 +1,8 @@
 // The entries of expressions: their faults, and their bytes.
 use super::Pen;
 use super::SCRATCH;
-use super::fault;
 use super::foreign;
+use super::pen_at;
 use super::push::four;
 use super::push::push8;
 use super::push::push16;
@@ -98,12 +98,12 @@ pub fn expr_bytes(
     let op = byte_of(h);
     let f = foreign(op, 4);
     if 0 < f {
-        return fault(at, f);
+        return pen_at(at, f);
     }
     let x = h / 256;
     if head_wide(op, x) {
-        return fault(at, 6);
+        return pen_at(at, 6);
     }
     let p = push8(out, at, op);
-    fault(expr_operands(op, x, a, b, c, d, e, out, p), 0)
+    pen_at(expr_operands(op, x, a, b, c, d, e, out, p), 0)
 }

@@ -33,7 +33,7 @@ pub struct Pen {
     pub fault: u8,
 }
 
-fn fault(at: usize, n: u8) -> Pen
+fn pen_at(at: usize, n: u8) -> Pen
     ensures { λ r. ⌜ r ≡ penOver at n ⌝ }
 {
     Pen { at: at, fault: n }
@@ -117,7 +117,7 @@ fn section_bytes(
     let mut i: usize = 0;
     while i < n {
         if limit(sec) <= i {
-            return fault(p, 5);
+            return pen_at(p, 5);
         }
         let e = entry_bytes(sec, i, names, types, sets, values, heads, slots, out, p);
         if 0 < e.fault {
@@ -126,7 +126,7 @@ fn section_bytes(
         p = e.at;
         i = i + 1;
     }
-    fault(p, 0)
+    pen_at(p, 0)
 }
 
 // All entries in the order of the job: n names, t types, v host values, the rights, e expressions, the end.
@@ -164,5 +164,5 @@ pub fn encode(
     if 0 < d.fault {
         return d;
     }
-    fault(push8(out, d.at, 0xFF), 0)
+    pen_at(push8(out, d.at, 0xFF), 0)
 }

@@ -7,7 +7,7 @@ use Rattle.encode.proofs.encode.Statement.{statement}
 use Rattle.encode.proofs.encode.Tie as tie
 use Rattle.encode.proofs.encode.Reads as reads
 use Rattle.encode.proofs.encode.Lts as lts
-use Rattle.encode.proofs.fault.Reads as fault-reads
+use Rattle.encode.proofs.pen_at.Reads as pen-at-reads
 use Rattle.encode.proofs.push.push64.Reads as push64-reads
 use Rattle.encode.proofs.push.push8.Reads as push8-reads
 use Rattle.encode.proofs.section_bytes.Reads as section-bytes-reads
@@ -46,11 +46,11 @@ returns-4 c = stop-exprs _ (countsOver (c .before .before .before .before .befor
 push8-requires-2 : tie.Need-push8-requires-2
 push8-requires-2 c κs = room-end _ (countsOver (c .before .before .before .before .before .before .before .before .before .before .before .before .before .before .before .before .before .before .before .before .before .before .before .before .before .before .before .args .n) (c .before .before .before .before .before .before .before .before .before .before .before .before .before .before .before .before .before .before .before .before .before .before .before .before .before .before .before .args .t) (c .before .before .before .before .before .before .before .before .before .before .before .before .before .before .before .before .before .before .before .before .before .before .before .before .before .before .before .args .v) (c .before .before .before .before .before .before .before .before .before .before .before .before .before .before .before .before .before .before .before .before .before .before .before .before .before .before .before .args .e) (c .before .before .before .before .before .before .before .before .before .before .before .before .before .before .before .before .before .before .before .before .before .before .before .before .before .before .before .args .rights)) (omega (arith, c .before .before .before .before .before .before .before .before .before .before .before .before .before .before .before .before .before .before .before .before .before .before .before .before .before .before .before .fits .rights)) (c .before .before .before .before .before .before .before .before .before .before .before .before .before .before .before .before .before .before .before .section-bytes .ensures) (c .before .before .before .before .before .before .before .before .before .before .before .before .before .before .before .before .before .if1 .left) (c .before .before .before .before .before .before .before .before .before .before .before .before .before .before .before .section-bytes2 .ensures) (c .before .before .before .before .before .before .before .before .before .before .before .before .before .if2 .left) (c .before .before .before .before .before .before .before .before .before .before .before .section-bytes3 .ensures) (c .before .before .before .before .before .before .before .before .before .if3 .left) (c .before .before .before .before .before .before .before .push8 .ensures) (c .before .before .before .before .before .push64 .ensures) (c .before .before .before .section-bytes4 .ensures)
 
-fault-requires : tie.Need-fault-requires
-fault-requires c κs = search needs
+pen-at-requires : tie.Need-pen-at-requires
+pen-at-requires c κs = search needs
 
 returns-5 : tie.Need-returns-5
-returns-5 c = all-encoded _ (countsOver (c .before .before .before .before .before .before .before .before .before .before .before .before .before .before .before .before .before .before .before .before .before .before .before .before .before .before .before .before .before .args .n) (c .before .before .before .before .before .before .before .before .before .before .before .before .before .before .before .before .before .before .before .before .before .before .before .before .before .before .before .before .before .args .t) (c .before .before .before .before .before .before .before .before .before .before .before .before .before .before .before .before .before .before .before .before .before .before .before .before .before .before .before .before .before .args .v) (c .before .before .before .before .before .before .before .before .before .before .before .before .before .before .before .before .before .before .before .before .before .before .before .before .before .before .before .before .before .args .e) (c .before .before .before .before .before .before .before .before .before .before .before .before .before .before .before .before .before .before .before .before .before .before .before .before .before .before .before .before .before .args .rights)) (omega (arith, c .before .before .before .before .before .before .before .before .before .before .before .before .before .before .before .before .before .before .before .before .before .before .before .before .before .before .before .before .before .fits .rights)) (c .before .before .before .before .before .before .before .before .before .before .before .before .before .before .before .before .before .before .before .before .before .section-bytes .ensures) (c .before .before .before .before .before .before .before .before .before .before .before .before .before .before .before .before .before .before .before .if1 .left) (c .before .before .before .before .before .before .before .before .before .before .before .before .before .before .before .before .before .section-bytes2 .ensures) (c .before .before .before .before .before .before .before .before .before .before .before .before .before .before .before .if2 .left) (c .before .before .before .before .before .before .before .before .before .before .before .before .before .section-bytes3 .ensures) (c .before .before .before .before .before .before .before .before .before .before .before .if3 .left) (c .before .before .before .before .before .before .before .before .before .push8 .ensures) (c .before .before .before .before .before .before .before .push64 .ensures) (c .before .before .before .before .before .section-bytes4 .ensures) (c .before .before .before .if4 .left) (c .before .push82 .ensures) (c .fault .ensures)
+returns-5 c = all-encoded _ (countsOver (c .before .before .before .before .before .before .before .before .before .before .before .before .before .before .before .before .before .before .before .before .before .before .before .before .before .before .before .before .before .args .n) (c .before .before .before .before .before .before .before .before .before .before .before .before .before .before .before .before .before .before .before .before .before .before .before .before .before .before .before .before .before .args .t) (c .before .before .before .before .before .before .before .before .before .before .before .before .before .before .before .before .before .before .before .before .before .before .before .before .before .before .before .before .before .args .v) (c .before .before .before .before .before .before .before .before .before .before .before .before .before .before .before .before .before .before .before .before .before .before .before .before .before .before .before .before .before .args .e) (c .before .before .before .before .before .before .before .before .before .before .before .before .before .before .before .before .before .before .before .before .before .before .before .before .before .before .before .before .before .args .rights)) (omega (arith, c .before .before .before .before .before .before .before .before .before .before .before .before .before .before .before .before .before .before .before .before .before .before .before .before .before .before .before .before .before .fits .rights)) (c .before .before .before .before .before .before .before .before .before .before .before .before .before .before .before .before .before .before .before .before .before .section-bytes .ensures) (c .before .before .before .before .before .before .before .before .before .before .before .before .before .before .before .before .before .before .before .if1 .left) (c .before .before .before .before .before .before .before .before .before .before .before .before .before .before .before .before .before .section-bytes2 .ensures) (c .before .before .before .before .before .before .before .before .before .before .before .before .before .before .before .if2 .left) (c .before .before .before .before .before .before .before .before .before .before .before .before .before .section-bytes3 .ensures) (c .before .before .before .before .before .before .before .before .before .before .before .if3 .left) (c .before .before .before .before .before .before .before .before .before .push8 .ensures) (c .before .before .before .before .before .before .before .push64 .ensures) (c .before .before .before .before .before .section-bytes4 .ensures) (c .before .before .before .if4 .left) (c .before .push82 .ensures) (c .pen-at .ensures)
 
 pub encode-spec : {M : Type 1} → statement M
 encode-spec =
@@ -67,5 +67,5 @@ encode-spec =
     section-bytes-requires-4
     returns-4
     push8-requires-2
-    fault-requires
+    pen-at-requires
     returns-5)

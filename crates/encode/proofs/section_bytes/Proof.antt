@@ -11,7 +11,7 @@ use Rattle.encode.proofs.section_bytes.Tie as tie
 use Rattle.encode.proofs.section_bytes.Reads as reads
 use Rattle.encode.proofs.section_bytes.Lts as lts
 use Rattle.encode.proofs.entry_bytes.Reads as entry-bytes-reads
-use Rattle.encode.proofs.fault.Reads as fault-reads
+use Rattle.encode.proofs.pen_at.Reads as pen-at-reads
 use Rattle.encode.proofs.limit.Reads as limit-reads
 
 abbrev Inv-loop : tie.InvT-loop
@@ -26,11 +26,11 @@ loop-holds c = (along-start _ _ _, search needs, search needs)
 limit-requires : tie.Need-limit-requires Inv-loop μ-loop
 limit-requires c κs = search needs
 
-fault-requires : tie.Need-fault-requires Inv-loop μ-loop
-fault-requires c κs = search needs
+pen-at-requires : tie.Need-pen-at-requires Inv-loop μ-loop
+pen-at-requires c κs = search needs
 
 returns : tie.Need-returns Inv-loop μ-loop
-returns c = section-past _ _ (c .before .before .before .before .loop .inv .0) _ (c .before .before .before .loop-test .taken) (c .before .before .before .before .loop .inv .2) (c .before .before .limit .ensures) (c .before .if1 .taken) (c .fault .ensures)
+returns c = section-past _ _ (c .before .before .before .before .loop .inv .0) _ (c .before .before .before .loop-test .taken) (c .before .before .before .before .loop .inv .2) (c .before .before .limit .ensures) (c .before .if1 .taken) (c .pen-at .ensures)
 
 entry-bytes-requires : tie.Need-entry-bytes-requires Inv-loop μ-loop
 entry-bytes-requires c κs = section-room _ _ (c .before .before .before .before .loop .inv .0) (c .before .before .before .before .before .before .before .before .before .before .before .pre) (under (c .before .before .limit .ensures) (c .before .if1 .left))
@@ -47,11 +47,11 @@ loop-less c = omega (arith, (c .before .before .before .before .before .before .
 loop-again : tie.Need-loop-again Inv-loop μ-loop
 loop-again c = (section-next _ _ (c .before .before .before .before .before .before .before .loop .inv .0) (c .before .before .entry-bytes .ensures) (under (c .before .before .before .before .before .limit .ensures) (c .before .before .before .before .if1 .left)) (c .if2 .left), omega (arith, (c .before .before .before .before .before .before .loop-test .taken)), omega (arith, under (c .before .before .before .before .before .limit .ensures) (c .before .before .before .before .if1 .left)))
 
-fault-requires-2 : tie.Need-fault-requires-2 Inv-loop μ-loop
-fault-requires-2 c κs = search needs
+pen-at-requires-2 : tie.Need-pen-at-requires-2 Inv-loop μ-loop
+pen-at-requires-2 c κs = search needs
 
 returns-3 : tie.Need-returns-3 Inv-loop μ-loop
-returns-3 c = section-end _ _ (c .before .before .loop .inv .0) _ (c .before .before .loop .inv .1) (c .before .loop-test .left) (c .before .before .loop .inv .2) (c .fault2 .ensures)
+returns-3 c = section-end _ _ (c .before .before .loop .inv .0) _ (c .before .before .loop .inv .1) (c .before .loop-test .left) (c .before .before .loop .inv .2) (c .pen-at2 .ensures)
 
 pub section-bytes-spec : {M : Type 1} → statement M
 section-bytes-spec =
@@ -61,12 +61,12 @@ section-bytes-spec =
     μ-loop
     loop-holds
     limit-requires
-    fault-requires
+    pen-at-requires
     returns
     entry-bytes-requires
     returns-2
     add-i
     loop-less
     loop-again
-    fault-requires-2
+    pen-at-requires-2
     returns-3)

@@ -9,7 +9,7 @@ use Rattle.encode.proofs.exprs.expr_bytes.Reads as reads
 use Rattle.encode.proofs.exprs.expr_bytes.Lts as lts
 use Rattle.encode.proofs.exprs.expr_operands.Reads as expr-operands-reads
 use Rattle.encode.proofs.exprs.head_wide.Reads as head-wide-reads
-use Rattle.encode.proofs.fault.Reads as fault-reads
+use Rattle.encode.proofs.pen_at.Reads as pen-at-reads
 use Rattle.encode.proofs.foreign.Reads as foreign-reads
 use Rattle.encode.proofs.push.push8.Reads as push8-reads
 use Rattle.table.proofs.byte_of.Reads as byte-of-reads
@@ -20,20 +20,20 @@ byte-of-requires c κs = search needs
 foreign-requires : tie.Need-foreign-requires
 foreign-requires c κs = search needs
 
-fault-requires : tie.Need-fault-requires
-fault-requires c κs = search needs
+pen-at-requires : tie.Need-pen-at-requires
+pen-at-requires c κs = search needs
 
 returns : tie.Need-returns
-returns c = expr-foreign _ _ _ _ _ _ (record { first = omega (arith, c .before .before .before .before .fits .a); second = omega (arith, c .before .before .before .before .fits .b); third = omega (arith, c .before .before .before .before .fits .c); fourth = omega (arith, c .before .before .before .before .fits .d); fifth = omega (arith, c .before .before .before .before .fits .e) }) (c .before .before .before .byte-of .ensures) (c .before .before .foreign .ensures) (c .before .if1 .taken) (c .fault .ensures)
+returns c = expr-foreign _ _ _ _ _ _ (record { first = omega (arith, c .before .before .before .before .fits .a); second = omega (arith, c .before .before .before .before .fits .b); third = omega (arith, c .before .before .before .before .fits .c); fourth = omega (arith, c .before .before .before .before .fits .d); fifth = omega (arith, c .before .before .before .before .fits .e) }) (c .before .before .before .byte-of .ensures) (c .before .before .foreign .ensures) (c .before .if1 .taken) (c .pen-at .ensures)
 
 head-wide-requires : tie.Need-head-wide-requires
 head-wide-requires c κs = search needs
 
-fault-requires-2 : tie.Need-fault-requires-2
-fault-requires-2 c κs = search needs
+pen-at-requires-2 : tie.Need-pen-at-requires-2
+pen-at-requires-2 c κs = search needs
 
 returns-2 : tie.Need-returns-2
-returns-2 c = expr-wide _ _ _ _ _ _ (record { first = omega (arith, c .before .before .before .before .before .before .fits .a); second = omega (arith, c .before .before .before .before .before .before .fits .b); third = omega (arith, c .before .before .before .before .before .before .fits .c); fourth = omega (arith, c .before .before .before .before .before .before .fits .d); fifth = omega (arith, c .before .before .before .before .before .before .fits .e) }) (c .before .before .before .before .before .byte-of .ensures) (c .before .before .before .before .foreign .ensures) (c .before .before .before .if1 .left) (c .before .before .head-wide .ensures) (c .before .if2 .taken) (c .fault2 .ensures)
+returns-2 c = expr-wide _ _ _ _ _ _ (record { first = omega (arith, c .before .before .before .before .before .before .fits .a); second = omega (arith, c .before .before .before .before .before .before .fits .b); third = omega (arith, c .before .before .before .before .before .before .fits .c); fourth = omega (arith, c .before .before .before .before .before .before .fits .d); fifth = omega (arith, c .before .before .before .before .before .before .fits .e) }) (c .before .before .before .before .before .byte-of .ensures) (c .before .before .before .before .foreign .ensures) (c .before .before .before .if1 .left) (c .before .before .head-wide .ensures) (c .before .if2 .taken) (c .pen-at2 .ensures)
 
 push8-requires : tie.Need-push8-requires
 push8-requires c κs = search needs
@@ -41,11 +41,11 @@ push8-requires c κs = search needs
 expr-operands-requires : tie.Need-expr-operands-requires
 expr-operands-requires c κs = room-after 1 13 (bytes-length _ _) (c .before .push8 .ensures) (c .before .before .before .before .before .before .before .before .pre)
 
-fault-requires-3 : tie.Need-fault-requires-3
-fault-requires-3 c κs = search needs
+pen-at-requires-3 : tie.Need-pen-at-requires-3
+pen-at-requires-3 c κs = search needs
 
 returns-3 : tie.Need-returns-3
-returns-3 c = expr-entered _ _ _ _ _ _ (record { first = omega (arith, c .before .before .before .before .before .before .before .before .before .before .fits .a); second = omega (arith, c .before .before .before .before .before .before .before .before .before .before .fits .b); third = omega (arith, c .before .before .before .before .before .before .before .before .before .before .fits .c); fourth = omega (arith, c .before .before .before .before .before .before .before .before .before .before .fits .d); fifth = omega (arith, c .before .before .before .before .before .before .before .before .before .before .fits .e) }) (c .before .before .before .before .before .before .before .before .before .byte-of .ensures) (c .before .before .before .before .before .before .before .before .foreign .ensures) (c .before .before .before .before .before .before .before .if1 .left) (c .before .before .before .before .before .before .head-wide .ensures) (c .before .before .before .before .before .if2 .left) (c .before .before .before .push8 .ensures) (c .before .expr-operands .ensures) (c .fault3 .ensures)
+returns-3 c = expr-entered _ _ _ _ _ _ (record { first = omega (arith, c .before .before .before .before .before .before .before .before .before .before .fits .a); second = omega (arith, c .before .before .before .before .before .before .before .before .before .before .fits .b); third = omega (arith, c .before .before .before .before .before .before .before .before .before .before .fits .c); fourth = omega (arith, c .before .before .before .before .before .before .before .before .before .before .fits .d); fifth = omega (arith, c .before .before .before .before .before .before .before .before .before .before .fits .e) }) (c .before .before .before .before .before .before .before .before .before .byte-of .ensures) (c .before .before .before .before .before .before .before .before .foreign .ensures) (c .before .before .before .before .before .before .before .if1 .left) (c .before .before .before .before .before .before .head-wide .ensures) (c .before .before .before .before .before .if2 .left) (c .before .before .before .push8 .ensures) (c .before .expr-operands .ensures) (c .pen-at3 .ensures)
 
 pub expr-bytes-spec : {M : Type 1} → statement M
 expr-bytes-spec =
@@ -53,12 +53,12 @@ expr-bytes-spec =
     (tie.spec
     byte-of-requires
     foreign-requires
-    fault-requires
+    pen-at-requires
     returns
     head-wide-requires
-    fault-requires-2
+    pen-at-requires-2
     returns-2
     push8-requires
     expr-operands-requires
-    fault-requires-3
+    pen-at-requires-3
     returns-3)
