@@ -2,14 +2,14 @@
 use mathlib.Core.Path.{_≡_, sym, ap, _∙_}
 use Prim.Native.Nat.{ℕ, _≤_, _<_}
 use native.Mathlib.Omega.{arith}
-use mathlib.Core.Bool.{true, false, cond}
+use mathlib.Core.Bool.{true, false}
 use mathlib.Core.List.{List}
 use lib.ListN.{length, set}
 use lib.Dec.{ltb}
 use borrow.Author.Tests.{lt-ltb, le-ltb}
 use Rattle.syntax.specs.Job.{Job}
-use Rattle.syntax.specs.Reading.{Read, refused, read, refusedAt, reading}
-use Rattle.syntax.specs.Loading.{JobTables, short, holding}
+use Rattle.syntax.specs.Reading.{Read, refused, read}
+use Rattle.syntax.specs.Loading.{JobTables, readWith, tablesAfterRead}
 use Rattle.syntax.specs.Writing.{Sent, sent, unsent, writeWith, bufferAfter}
 use Rattle.table.specs.Told.{Tells}
 use Rattle.table.specs.declared.Refusal.{Refusal}
@@ -22,7 +22,7 @@ use Rattle.writer.specs.Sends as sends
 use Rattle.writer.specs.Sends.{countsOf, WriteTo}
 use Rattle.writer.specs.declared.Sent.{Sent as Answered}
 use Rattle.writer.specs.declared.Sent.the-variants as answered
-use Rattle.exchange.specs.Exchanges.{laidCounts, shapeIn, readWith, tablesAfterRead, readNumber, countsAfter, Reads, writtenBy, sentNumber, sentWord, Writes}
+use Rattle.exchange.specs.Exchanges.{laidCounts, shapeIn, readBy, tablesReadBy, readNumber, countsAfter, Reads, writtenBy, sentNumber, sentWord, Writes}
 
 -- Reading
 
@@ -41,21 +41,21 @@ refusal-told k (refused q) {u} e t =
 
 module _ {bytes : List ℕ} (k : List ℕ) {k' : List ℕ} {w x : JobTables} {r : ℕ} where
   pub reads-short : length k < 5 → x ≡ w → Tells 1 0 r k k' → Reads bytes r w x k k'
-  unfolding readWith tablesAfterRead readNumber countsAfter
+  unfolding readBy tablesReadBy readNumber countsAfter
   reads-short h e t =
       let b : ltb (length k) 5 ≡ true = lt-ltb (length k) 5 h in
       record { number = rw b (t .number); tables = rw b e; counts = rw b (t .told) }
 
-  module _ (h : 5 ≤ length k) {a : Answer} (e : a ≡ jobs.answerOf (cond (short w) (refusedAt 1 0) (reading bytes))) (y : x ≡ cond (short w) w (holding (reading bytes) w)) where
-    reads-long : (r ≡ readNumber (cond (short w) (refusedAt 1 0) (reading bytes))) × (k' ≡ countsAfter (cond (short w) (refusedAt 1 0) (reading bytes)) k) → Reads bytes r w x k k'
-    unfolding readWith tablesAfterRead
+  module _ (h : 5 ≤ length k) {a : Answer} (e : a ≡ jobs.answerOf (readWith w bytes)) (y : x ≡ tablesAfterRead w bytes) where
+    reads-long : (r ≡ readNumber (readWith w bytes)) × (k' ≡ countsAfter (readWith w bytes) k) → Reads bytes r w x k k'
+    unfolding readBy tablesReadBy
     reads-long z = let b : ltb (length k) 5 ≡ false = le-ltb (length k) 5 h in record { number = rw b (z .0); tables = rw b y; counts = rw b (z .1) }
 
     pub reads-job : {g : Shape} → a ≡ told.Job g → r ≡ 0 → k' ≡ laidCounts k g → Reads bytes r w x k k'
-    reads-job z n c = reads-long (job-told k (cond (short w) (refusedAt 1 0) (reading bytes)) (sym e ∙ z) n c)
+    reads-job z n c = reads-long (job-told k (readWith w bytes) (sym e ∙ z) n c)
 
     pub reads-refused : {u : Refusal} → a ≡ told.Refused u → Tells (u .number) (u .place) r k k' → Reads bytes r w x k k'
-    reads-refused z t = reads-long (refusal-told k (cond (short w) (refusedAt 1 0) (reading bytes)) (sym e ∙ z) t)
+    reads-refused z t = reads-long (refusal-told k (readWith w bytes) (sym e ∙ z) t)
 
 -- Writing
 

@@ -5,8 +5,8 @@ use mathlib.Core.Bool.{cond}
 use mathlib.Core.List.{List}
 use lib.ListN.{length, getD, set}
 use lib.Dec.{ltb}
-use Rattle.syntax.specs.Reading.{Read, refused, read, refusedAt, reading}
-use Rattle.syntax.specs.Loading.{JobTables, short, holding}
+use Rattle.syntax.specs.Reading.{Read, refused, read, refusedAt}
+use Rattle.syntax.specs.Loading.{JobTables, readWith, tablesAfterRead}
 use Rattle.syntax.specs.Writing.{Sent, sent, unsent, unsentAt, writeWith, bufferAfter}
 use Rattle.entry.specs.Shapes.{shapeOf}
 use Rattle.entry.specs.declared.Shape.{Shape}
@@ -22,13 +22,12 @@ laidCounts o g = set (set (set (set (set o 0 (g .names)) 1 (g .types)) 2 (g .val
 unfoldable pub shapeIn : List ℕ → Shape
 shapeIn k = record { names = getD k 0 0; types = getD k 1 0; values = getD k 2 0; cmds = getD k 3 0; rights = getD k 4 0 }
 
--- reading with lent tables and k for the counts, 1 to 7 alone
-unfoldable pub readWith : JobTables → List ℕ → List ℕ → Read
-readWith w k s = cond (ltb (length k) count-words) (refusedAt 1 0) (cond (short w) (refusedAt 1 0) (reading s))
+-- reading with k for the counts: 1 too where they are too few
+unfoldable pub readBy : JobTables → List ℕ → List ℕ → Read
+readBy w k s = cond (ltb (length k) count-words) (refusedAt 1 0) (readWith w s)
 
--- "1 writes nothing; every other refusal leaves all lent tables zero to their ends."
-unfoldable pub tablesAfterRead : JobTables → List ℕ → List ℕ → JobTables
-tablesAfterRead w k s = cond (ltb (length k) count-words) w (cond (short w) w (holding (reading s) w))
+unfoldable pub tablesReadBy : JobTables → List ℕ → List ℕ → JobTables
+tablesReadBy w k s = cond (ltb (length k) count-words) w (tablesAfterRead w s)
 
 -- 0 for a job that is read, and the words of its counts; the number of a refusal, and its place as the first word
 unfoldable pub readNumber : Read → ℕ
@@ -41,9 +40,9 @@ countsAfter (refused q) k = set k 0 (q .place)
 
 -- `read`: the tables w are x afterwards, and the counts k are k'
 pub record Reads (bytes : List ℕ) (r : ℕ) (w x : JobTables) (k k' : List ℕ) : Type 0 where
-  pub number : r ≡ readNumber (readWith w k bytes)
-  pub tables : x ≡ tablesAfterRead w k bytes
-  pub counts : k' ≡ countsAfter (readWith w k bytes) k
+  pub number : r ≡ readNumber (readBy w k bytes)
+  pub tables : x ≡ tablesReadBy w k bytes
+  pub counts : k' ≡ countsAfter (readBy w k bytes) k
 
 -- writing by the words of counts, into n bytes
 unfoldable pub writtenBy : JobTables → List ℕ → ℕ → Sent

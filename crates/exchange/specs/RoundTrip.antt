@@ -14,7 +14,7 @@ use Rattle.syntax.specs.Job.{Job}
 use Rattle.syntax.specs.Reading.{Refusal, Read, refused, read, refusedAt, reading}
 use Rattle.syntax.specs.ReadPlaces.{refused-number}
 use Rattle.syntax.specs.WordLaws.{Bytes}
-use Rattle.syntax.specs.Loading.{JobTables, short, filledWith, holding}
+use Rattle.syntax.specs.Loading.{JobTables, short, filledWith, holding, readWith, tablesAfterRead}
 use Rattle.syntax.specs.Writing.{Sent, sent, unsent, unsentAt, writeWith, bufferAfter}
 use Rattle.syntax.specs.WrittenBack as back
 use Rattle.syntax.specs.WrittenBack.{sent-back}
@@ -24,7 +24,7 @@ use Rattle.syntax.specs.WrittenRefusals.{write-number}
 use Rattle.entry.specs.Shapes.{shapeOf}
 use Rattle.entry.specs.declared.Shape.{Shape}
 use Rattle.writer.specs.Sends.{countsOf}
-use Rattle.exchange.specs.Exchanges.{laidCounts, shapeIn, readWith, tablesAfterRead, readNumber, countsAfter, Reads, writtenBy, sentNumber, sentWord, Writes}
+use Rattle.exchange.specs.Exchanges.{laidCounts, shapeIn, readBy, tablesReadBy, readNumber, countsAfter, Reads, writtenBy, sentNumber, sentWord, Writes}
 
 -- Reading
 
@@ -38,7 +38,7 @@ pub record JobRead (bytes : List ℕ) (w x : JobTables) (k k' : List ℕ) : Type
   pub counts : k' ≡ laidCounts k (shapeOf job)
 
 pub job-read : {bytes : List ℕ} {r : ℕ} {w x : JobTables} {k k' : List ℕ} → Reads bytes r w x k k' → r ≡ 0 → JobRead bytes w x k k'
-unfolding readWith tablesAfterRead readNumber countsAfter holding
+unfolding readBy tablesReadBy readWith tablesAfterRead readNumber countsAfter holding
 job-read {bytes} {r} {w} {x} {k} {k'} h z = at (ltb (length k) 5) refl (short w) refl (reading bytes) refl (sym (h .number) ∙ z) (h .tables) (h .counts)
   where
     at : (a : Bool) → ltb (length k) 5 ≡ a → (b : Bool) → short w ≡ b → (R : Read) → reading bytes ≡ R → readNumber (cond a (refusedAt 1 0) (cond b (refusedAt 1 0) R)) ≡ 0

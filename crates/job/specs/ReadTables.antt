@@ -8,7 +8,7 @@ use lib.Dec.{ltb, leb}
 use borrow.Author.Tests.{lt-ltb, le-ltb, leb-true, leb-false}
 use Rattle.order.specs.Bools.{_or_}
 use Rattle.syntax.specs.Words.{nameWords, typeWords, setWords, valueWords, headWords, slotWords}
-use Rattle.syntax.specs.Loading.{JobTables, short, zeros, cleared, filledWith, holding, most-entries, most-slots}
+use Rattle.syntax.specs.Loading.{JobTables, short, zeros, cleared, filledWith, readWith, holding, tablesAfterRead, most-entries, most-slots}
 use Rattle.syntax.specs.Reading.{Read, refused, read, refusedAt, reading, most-names, most-variables, most-expressions}
 use Rattle.table.specs.Lent.{jobTables}
 use Rattle.job.specs.declared.Answer.{Answer}
@@ -69,16 +69,16 @@ module _ {bytes n t s v h p n' t' s' v' h' p' : List ℕ} {a : Answer} (to : Rea
       twice false = refl
 
   -- the answer, and the tables: 1 first
-  pub read-answer : a ≡ answerOf (cond (short (jobTables n t s v h p)) (refusedAt 1 0) (reading bytes))
-  unfolding answerOf
+  pub read-answer : a ≡ answerOf (readWith (jobTables n t s v h p) bytes)
+  unfolding readWith answerOf
   read-answer = to .answer ∙ ap (λ (b : Bool). cond b (answerOf (reading bytes)) (refusedBy 1 0)) long-is ∙ by (short (jobTables n t s v h p))
     where
       by : (b : Bool) → cond (not b) (answerOf (reading bytes)) (refusedBy 1 0) ≡ answerOf (cond b (refusedAt 1 0) (reading bytes))
       by true = refl
       by false = refl
 
-  pub read-tables : jobTables n' t' s' v' h' p' ≡ cond (short (jobTables n t s v h p)) (jobTables n t s v h p) (holding (reading bytes) (jobTables n t s v h p))
-  unfolding left
+  pub read-tables : jobTables n' t' s' v' h' p' ≡ tablesAfterRead (jobTables n t s v h p) bytes
+  unfolding tablesAfterRead left
   read-tables = tables-left (longTables n t s v h p) (reading bytes) refl refl ∙ ap (λ (b : Bool). left b (reading bytes) (jobTables n t s v h p)) long-is ∙ by (short (jobTables n t s v h p))
     where
       by : (b : Bool) → left (not b) (reading bytes) (jobTables n t s v h p) ≡ cond b (jobTables n t s v h p) (holding (reading bytes) (jobTables n t s v h p))

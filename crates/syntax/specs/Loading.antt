@@ -1,4 +1,4 @@
--- Loading a job from its bytes into lent tables: 1 to 10, which are apart from types, and what each of the tables holds afterwards.
+-- Loading a job from its bytes into lent tables: 1 to 10, which are apart from types, or reading alone, 1 to 7; and what each of the tables holds afterwards.
 use Prim.Native.Nat.{ℕ, _*_}
 use mathlib.Core.Bool.{Bool, cond}
 use mathlib.Core.List.{List}
@@ -74,6 +74,10 @@ loading s = inTree (reading s)
 unfoldable pub loadWith : JobTables → List ℕ → Read
 loadWith w s = cond (short w) (refusedAt 1 0) (loading s)
 
+-- reading alone, 1 to 7
+unfoldable pub readWith : JobTables → List ℕ → Read
+readWith w s = cond (short w) (refusedAt 1 0) (reading s)
+
 -- typing has made no entry yet
 unfoldable pub holding : Read → JobTables → JobTables
 holding (refused r) w = cleared w
@@ -82,3 +86,6 @@ holding (read J) w = filledWith (J .types) J w
 -- "1 writes nothing; every other refusal leaves all lent tables zero to their ends."
 unfoldable pub tablesAfterLoad : JobTables → List ℕ → JobTables
 tablesAfterLoad w s = cond (short w) w (holding (loading s) w)
+
+unfoldable pub tablesAfterRead : JobTables → List ℕ → JobTables
+tablesAfterRead w s = cond (short w) w (holding (reading s) w)
