@@ -33,6 +33,3 @@ pub record Encoded (w : JobTables) (c : Counts) (l m : List ℕ) (r : Pen) : Typ
 unfoldable pub alone : Item → Script
 alone (item r) = record { bytes = commandBytes r; fault = 0 }
 alone (fault n) = record { bytes = []; fault = n }
-
-abbrev pub countsOver : ℕ → ℕ → ℕ → ℕ → ℕ → Counts
-countsOver n t v e s = record { names = n; types = t; values = v; cmds = e; rights = s }

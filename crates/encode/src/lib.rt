@@ -6,6 +6,7 @@ mod push;
 use declared::name_bytes;
 use declared::type_bytes;
 use declared::value_bytes;
+use entry::Shape;
 use entry::section;
 use entry::width;
 use exprs::expr_bytes;
@@ -20,9 +21,10 @@ use table::at64;
 ghost use mathlib.Core.Path.{_≡_};
 ghost use Prim.Native.Nat.{_+_, _*_, _≤_, _<_};
 ghost use Rattle.table.specs.Lent.{jobBefore};
+ghost use Rattle.entry.specs.Shapes.{countsOf};
 ghost use Rattle.encode.specs.Laid.{most-scratch};
 ghost use Rattle.encode.specs.Entries.{foreignBy, limitOf, itemIn, entryItem};
-ghost use Rattle.encode.specs.Penned.{Penned, alone, penOver, Sectioned, Encoded, countsOver};
+ghost use Rattle.encode.specs.Penned.{Penned, alone, penOver, Sectioned, Encoded};
 
 // Room for the bytes of every entry that there can be: 896 commands of 14 bytes at most.
 pub const SCRATCH: usize = 12544;
@@ -129,7 +131,7 @@ fn section_bytes(
     pen_at(p, 0)
 }
 
-// All entries in the order of the job: n names, t types, v host values, the rights, e expressions, the end.
+// All entries in the order of the job, by its counts: names, types, host values, the rights, expressions, the end.
 pub fn encode(
     names: &[u16],
     types: &[u64],
@@ -137,29 +139,29 @@ pub fn encode(
     values: &[u64],
     heads: &[u64],
     slots: &[u16],
-    n: usize,
-    t: usize,
-    v: usize,
-    e: usize,
-    rights: u64,
+    g: Shape,
     out: &mut [u8; SCRATCH],
 ) -> Pen
-    ensures { λ r. ⌜ Encoded (jobBefore names types sets values heads slots) (countsOver n t v e rights) (now (out .entry)) (now (out .exit)) r ⌝ }
+    ensures { λ r. ⌜ Encoded (jobBefore names types sets values heads slots) (countsOf g) (now (out .entry)) (now (out .exit)) r ⌝ }
 {
+    let n = g.names;
     let a = section_bytes(0, n, names, types, sets, values, heads, slots, out, 0);
     if 0 < a.fault {
         return a;
     }
+    let t = g.types;
     let b = section_bytes(1, t, names, types, sets, values, heads, slots, out, a.at);
     if 0 < b.fault {
         return b;
     }
+    let v = g.values;
     let c = section_bytes(2, v, names, types, sets, values, heads, slots, out, b.at);
     if 0 < c.fault {
         return c;
     }
     let p = push8(out, c.at, 0x21);
-    let q = push64(out, p, rights);
+    let q = push64(out, p, g.rights);
+    let e = g.cmds;
     let d = section_bytes(4, e, names, types, sets, values, heads, slots, out, q);
     if 0 < d.fault {
         return d;

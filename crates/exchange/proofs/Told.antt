@@ -13,13 +13,13 @@ use Rattle.syntax.specs.Loading.{JobTables, readWith, tablesAfterRead}
 use Rattle.syntax.specs.Writing.{Sent, sent, unsent, writeWith, bufferAfter}
 use Rattle.table.specs.Told.{Tells}
 use Rattle.table.specs.declared.Refusal.{Refusal}
-use Rattle.entry.specs.Shapes.{shapeOf}
+use Rattle.entry.specs.Shapes.{shapeOf, countsOf}
 use Rattle.entry.specs.declared.Shape.{Shape}
 use Rattle.job.specs.Answer as jobs
 use Rattle.job.specs.declared.Answer.{Answer}
 use Rattle.job.specs.declared.Answer.the-variants as told
 use Rattle.writer.specs.Sends as sends
-use Rattle.writer.specs.Sends.{countsOf, WriteTo}
+use Rattle.writer.specs.Sends.{WriteTo}
 use Rattle.writer.specs.declared.Sent.{Sent as Answered}
 use Rattle.writer.specs.declared.Sent.the-variants as answered
 use Rattle.exchange.specs.Exchanges.{laidCounts, shapeIn, readBy, tablesReadBy, readNumber, countsAfter, Reads, writtenBy, sentNumber, sentWord, Writes}

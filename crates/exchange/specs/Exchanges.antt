@@ -8,9 +8,8 @@ use lib.Dec.{ltb}
 use Rattle.syntax.specs.Reading.{Read, refused, read, refusedAt}
 use Rattle.syntax.specs.Loading.{JobTables, readWith, tablesAfterRead}
 use Rattle.syntax.specs.Writing.{Sent, sent, unsent, unsentAt, writeWith, bufferAfter}
-use Rattle.entry.specs.Shapes.{shapeOf}
+use Rattle.entry.specs.Shapes.{shapeOf, countsOf}
 use Rattle.entry.specs.declared.Shape.{Shape}
-use Rattle.writer.specs.Sends.{countsOf}
 
 -- names, types, host values, expressions, rights
 abbrev pub count-words : ℕ

@@ -21,9 +21,8 @@ use Rattle.syntax.specs.WrittenBack.{sent-back}
 use Rattle.syntax.specs.WrittenRead.{Held, written-read, write-sent}
 use Rattle.syntax.specs.ScriptLaws.{Number, number-pos}
 use Rattle.syntax.specs.WrittenRefusals.{write-number}
-use Rattle.entry.specs.Shapes.{shapeOf}
+use Rattle.entry.specs.Shapes.{shapeOf, countsOf}
 use Rattle.entry.specs.declared.Shape.{Shape}
-use Rattle.writer.specs.Sends.{countsOf}
 use Rattle.exchange.specs.Exchanges.{laidCounts, shapeIn, readBy, tablesReadBy, readNumber, countsAfter, Reads, writtenBy, sentNumber, sentWord, Writes}
 
 -- Reading
@@ -82,7 +81,7 @@ sent-all {b = b} {o = o} h s e =
 -- (a): read, and written into a buffer that is long enough
 pub round-trip : {bytes : List ℕ} {r q : ℕ} {w x y : JobTables} {k k' b b' o o' : List ℕ} → Bytes bytes → Reads bytes r w x k k' → r ≡ 0
     → Writes x y k' q b b' o o' → length bytes ≤ length b → SentAll bytes q b b' o o'
-unfolding writtenBy countsOf back.countsOf shapeOf
+unfolding writtenBy back.countsOf shapeOf
 round-trip {bytes} {w = w} {x = x} {k = k} {k' = k'} {b = b} by h z g l =
     let j = job-read h z in
     let J = j .job in

@@ -6,7 +6,6 @@ use lib.ListN.{length}
 use Rattle.syntax.specs.Loading.{JobTables}
 use Rattle.syntax.specs.Writing as writing
 use Rattle.syntax.specs.Writing.{Counts, fitting, writeWith, bufferAfter}
-use Rattle.entry.specs.declared.Shape.{Shape}
 use Rattle.writer.specs.declared.Sent.{Sent}
 use Rattle.writer.specs.declared.Sent.the-variants as answers
 
@@ -22,9 +21,6 @@ answerOf (writing.unsent q) = refusedBy (q .number) (q .place)
 pub record Delivered (s : writing.Sent) (r : Sent) (b b' : List ℕ) : Type 0 where
   pub answer : r ≡ answerOf (fitting (length b) s)
   pub buffer : b' ≡ bufferAfter (fitting (length b) s) b
-
-unfoldable pub countsOf : Shape → Counts
-countsOf g = record { names = g .names; types = g .types; values = g .values; cmds = g .cmds; rights = g .rights }
 
 -- `write`: its answer, the buffer before and after, and the tables, which stay as they were
 pub record WriteTo (w x : JobTables) (c : Counts) (r : Sent) (b b' : List ℕ) : Type 0 where

@@ -13,7 +13,8 @@ ghost use lib.ListN.{length, drop};
 ghost use Rattle.syntax.specs.Reading.{reading};
 ghost use Rattle.syntax.specs.Writing.{judged};
 ghost use Rattle.table.specs.Lent.{jobBefore, jobAfter};
-ghost use Rattle.writer.specs.Sends.{refusedBy, Delivered, WriteTo, countsOf};
+ghost use Rattle.entry.specs.Shapes.{countsOf};
+ghost use Rattle.writer.specs.Sends.{refusedBy, Delivered, WriteTo};
 
 // How many bytes there are, or the refusal.
 pub enum Sent {
@@ -94,20 +95,7 @@ pub fn write(
         slots.len(),
     ) {
         let mut scratch = [0u8; SCRATCH];
-        let pen = encode(
-            names,
-            types,
-            sets,
-            values,
-            heads,
-            slots,
-            g.names,
-            g.types,
-            g.values,
-            g.cmds,
-            g.rights,
-            &mut scratch,
-        );
+        let pen = encode(names, types, sets, values, heads, slots, g, &mut scratch);
         return deliver(&scratch[..pen.at], pen.fault, buffer);
     }
     refused(1, 0)

@@ -1,5 +1,4 @@
 use Rattle.writer.proofs.Sending.{take-all, in-scratch, write-long, write-short}
-use Rattle.writer.specs.Sends.{countsOf}
 use Rattle.job.specs.ReadTables.{short-tables}
 use Prim.Native.Nat.{ℕ}
 use lib.ListN.{length-replicate}
@@ -34,7 +33,6 @@ same-length : tie.Need-same-length
 same-length c = search needs
 
 returns : tie.Need-returns
-unfolding countsOf
 returns c = write-long refl (short-tables _ _ _ _ _ _ ∙ ap not (sym (c .before .before .before .before .before .before .before .before .long-enough .ensures) ∙ (c .before .before .before .before .before .before .before .if1 .taken))) (c .before .before .before .before .before .encode .ensures) (in-scratch (c .before .before .before .before .before .encode .ensures) (length-replicate {A = ℕ} 12544 0)) (c .before .before .deliver .ensures)
 
 refused-requires : tie.Need-refused-requires
