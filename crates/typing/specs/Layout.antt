@@ -73,10 +73,6 @@ unfoldable pub rekeyed : ℕ → Option TypeEntry → TypeEntry
 unfolding byEntry
 rekeyed k o = byEntry (e-num k) (λ q. e-num k) (λ q a b. e-pair k a b) (λ q a. e-cell k a) (λ q a b s. e-fn k a b s) (λ q r. e-lim k r) (λ q r. e-grant k r) o
 
--- the most entries that an expression makes
-abbrev pub most-made : ℕ
-most-made = 1
-
 -- an expression's type: the last of the entries that it makes, in order, or an entry already there
 pub data Points : Type 0 where
   new : List TypeEntry → TypeEntry → Points

@@ -1,12 +1,12 @@
 -- Typing by numbers is typing by trees: each expression's entry has the tree that `Least` gives the expression, the effects are the same, the refusals are the same,
 -- and the entries are those of `Layout`.
 use mathlib.Core.Path.{_≡_, refl, sym, ap, _∙_, subst, subst⁻¹}
-use Prim.Native.Nat.{ℕ, zero, suc, _+_, _*_, _≤_, _<_}
+use Prim.Native.Nat.{ℕ, zero, suc, _+_, _-_, _*_, _≤_, _<_}
 use native.Mathlib.Omega.{arith}
 use mathlib.Core.Bool.{Bool, true, false}
 use mathlib.Core.List.{List, [], _∷_, _++_, map, append-assoc, append-nil, List·Memᴰ, List·Memᴰ·head, List·Memᴰ·eq-of-singleton}
 use mathlib.Core.Option.{Option, none, some, Option·none-ne-some}
-use lib.ListN.{drop, length, length-append, length-map, getD, getElem?, drop-of-length-le, List·getD-append}
+use lib.ListN.{drop, length, length-append, length-map, getD, getElem?, drop-of-length-le, List·getD-append, take}
 use lib.Seq.{getD-at, ext-getD}
 use lib.Dec.{ltb}
 use borrow.Author.Tests.{ltb-true, ltb-false}
@@ -20,7 +20,7 @@ use Rattle.syntax.specs.Commands.{Cmd, c-num, c-top, c-var, c-pair, c-part, c-f
 use Rattle.syntax.specs.Operands.{nth, plain, inner, children, usesVar, bindsName}
 use Rattle.syntax.specs.RowLaws.{bound-few, bound}
 use Rattle.syntax.specs.Job.{Name, Job, uppers, upOf, sourceOf}
-use Rattle.syntax.specs.Reading.{Refusal, most-names, most-types, most-expressions, most-depth}
+use Rattle.syntax.specs.Reading.{Refusal, most-names, most-types, most-depth}
 use Rattle.syntax.specs.ReadLaws.{JobOk}
 use Rattle.syntax.specs.ReadFormed.{nth-map, CmdFormed, cmds-formed, job-formed, tree-depth}
 use Rattle.syntax.specs.Tree.{Entry, treeRefusal}
@@ -30,7 +30,7 @@ use Rattle.syntax.specs.Context.{stands}
 use Rattle.syntax.specs.TreeExactly.{tree-ok}
 use Rattle.typing.specs.Subtype.{subTy}
 use Rattle.typing.specs.Least.{Typed, typed, untyped, varType, typeAt, get, typesTo, types, typeOf, firstUntyped}
-use Rattle.typing.specs.Layout.{newKeys, keyEntries, varEntry, firstPart, secondPart, rekeyed, most-made, Points, new, old, pointsTo, Layout, point, layoutFrom, layoutOf}
+use Rattle.typing.specs.Layout.{newKeys, keyEntries, varEntry, firstPart, secondPart, rekeyed, Points, new, old, pointsTo, Layout, point, layoutFrom, layoutOf}
 use Rattle.syntax.specs.Loading.{most-entries}
 use Rattle.typing.specs.Tables.{effectOf, effectIn, layoutFor}
 use Rattle.typing.specs.Filled.{typesTo-length, seen, typeOf-is, untyped-not, all-typed}
@@ -142,6 +142,59 @@ module _ (O : Ops) (var : ℕ → ℕ) (E : List TypeEntry) (of : ℕ → ℕ) (
   layout-at fin (c-assoc a b) h = layout-lim (getElem? E (of b)) _ (λ o. new [] (rekeyed (firstPart o) (getElem? E (of a)))) (λ q r. l-new)
   layout-at fin (c-access a b c t) h = layout-lim (getElem? E (of a)) _ (λ o. old t) (λ q r. layout-need 12 _ (layout-need 12 _ l-old))
 
+-- How many entries there are
+
+-- how many an expression makes
+unfoldable pub made : Points → ℕ
+made (new l x) = suc (length l)
+made (old i) = 0
+
+-- with the three of each name that it binds they are no more than four
+abbrev pub most-each : ℕ
+most-each = 4
+
+few-of : (k : Cmd ℕ) (m : ℕ) → m ≤ 1 → m + 3 * length (bindsName k) ≤ most-each
+few-of k m h = omega (arith, bound-few (bound k))
+
+pub points-few : (var : ℕ → ℕ) (eff : ℕ → Effect) (T : List TypeEntry) (of : ℕ → ℕ) (k : Cmd ℕ) → made (pointsTo var eff T of k) + 3 * length (bindsName k) ≤ most-each
+unfolding made pointsTo
+points-few var eff T of (c-num n) = few-of (c-num n) 1 (omega arith)
+points-few var eff T of c-top = few-of c-top 1 (omega arith)
+points-few var eff T of (c-var v) = few-of (c-var v) 0 (omega arith)
+points-few var eff T of (c-pair a b) = few-of (c-pair a b) 1 (omega arith)
+points-few var eff T of (c-part a true) = few-of (c-part a true) 0 (omega arith)
+points-few var eff T of (c-part a false) = few-of (c-part a false) 0 (omega arith)
+points-few var eff T of (c-fn v t b) = few-of (c-fn v t b) 1 (omega arith)
+points-few var eff T of (c-app f a) = few-of (c-app f a) 0 (omega arith)
+points-few var eff T of (c-new t a) = few-of (c-new t a) 1 (omega arith)
+points-few var eff T of (c-asg a b) = few-of (c-asg a b) 0 (omega arith)
+points-few var eff T of (c-read a) = few-of (c-read a) 0 (omega arith)
+points-few var eff T of (c-sum i a b) = few-of (c-sum i a b) 1 (omega arith)
+points-few var eff T of (c-test a b c t) = few-of (c-test a b c t) 0 (omega arith)
+points-few var eff T of (c-lim ks b) = few-of (c-lim ks b) 0 (omega arith)
+points-few var eff T of (c-grant a b) = few-of (c-grant a b) 0 (omega arith)
+points-few var eff T of (c-newkey v r a b t) = few-of (c-newkey v r a b t) 0 (omega arith)
+points-few var eff T of (c-assoc a b) = few-of (c-assoc a b) 1 (omega arith)
+points-few var eff T of (c-access a b c t) = few-of (c-access a b c t) 0 (omega arith)
+
+new-few : (l : List (Cmd ℕ)) → length (newKeys l) ≤ length l
+unfolding newKeys
+new-few [] = omega arith
+new-few (k ∷ l) = omega (arith, length-append (bindsName k) (newKeys l), bound-few (bound k), new-few l)
+
+-- the names that the first expressions bind: one expression more, and all of them
+keys-next : (l : List (Cmd ℕ)) (e : ℕ) → length (newKeys (take (suc e) l)) ≤ length (newKeys (take e l)) + length (bindsName (nth l e))
+unfolding newKeys nth
+keys-next [] e = omega arith
+keys-next (k ∷ l) zero = omega (arith, length-append (bindsName k) [])
+keys-next (k ∷ l) (suc e) = omega (arith, length-append (bindsName k) (newKeys (take (suc e) l)), length-append (bindsName k) (newKeys (take e l)), keys-next l e)
+
+keys-rest : (l : List (Cmd ℕ)) (e : ℕ) → length (newKeys l) ≤ length (newKeys (take e l)) + (length l - e)
+unfolding newKeys
+keys-rest l zero = omega (arith, new-few l)
+keys-rest [] (suc e) = omega arith
+keys-rest (k ∷ l) (suc e) = omega (arith, length-append (bindsName k) (newKeys l), length-append (bindsName k) (newKeys (take e l)), keys-rest l e)
+
 -- What holds when e expressions are done
 
 pub record Inv (J : Job) (e : ℕ) (σ : Sofar) : Type 0 where
@@ -150,7 +203,7 @@ pub record Inv (J : Job) (e : ℕ) (σ : Sofar) : Type 0 where
   -- the declared types and the entries of 0x3E come first
   pub more : List TypeEntry
   pub extended : σ .entries ≡ startOf J .entries ++ more
-  pub few : length more ≤ e * most-made
+  pub few : length more + 3 * length (newKeys (take e (J .cmds))) ≤ e * most-each
   pub table : TableOk (length (J .types)) (length (upOf (sourceOf J))) (σ .entries)
   -- each expression's entry has the expression's type, and its effect is the expression's
   pub each : (c : ℕ) → c < e → Operand (length (upOf (sourceOf J))) (σ .entries) (typeOf (sourceOf J)) (λ a. getD (σ .of) a 0) (λ a. getD (σ .effects) a pure) c
@@ -169,7 +222,7 @@ operand-on : {N : ℕ} {E F : List TypeEntry} {tab : ℕ → Typed} {of ov : ℕ
 operand-on {of = of} c p h a b d = record { is = p .is ∙ rw (b, d, a); low = rw b (omega (arith, p .low)); small = rw d (p .small) }
 
 -- one expression more, whose entry is i among the entries F
-extend-inv : (J : Job) (e : ℕ) (σ : Sofar) → Inv J e σ → (F U : List TypeEntry) → F ≡ σ .entries ++ U → length U ≤ most-made → TableOk (length (J .types)) (length (upOf (sourceOf J))) F
+extend-inv : (J : Job) (e : ℕ) (σ : Sofar) → Inv J e σ → (F U : List TypeEntry) → F ≡ σ .entries ++ U → length U + 3 * length (bindsName (nth (J .cmds) e)) ≤ most-each → TableOk (length (J .types)) (length (upOf (sourceOf J))) F
     → {A : Ty} {i : ℕ} → TreeAt F A i → {s t : Effect} → Same (length (upOf (sourceOf J))) s t → typeOf (sourceOf J) e ≡ typed A s
     → Inv J (suc e) (record { entries = F; of = σ .of ++ (i ∷ []); effects = σ .effects ++ (t ∷ []) })
 extend-inv J e σ v F U q u ok {A} {i} p {s} {t} same g =
@@ -178,7 +231,7 @@ extend-inv J e σ v F U q u ok {A} {i} p {s} {t} same g =
       count-effects = length-snoc (σ .effects) t ∙ ap suc (v .count-effects);
       more = v .more ++ U;
       extended = q ∙ ap (λ l. l ++ U) (v .extended) ∙ append-assoc (startOf J .entries) (v .more) U;
-      few = omega (arith, length-append (v .more) U, v .few);
+      few = omega (arith, length-append (v .more) U, v .few, keys-next (J .cmds) e);
       table = ok;
       each = λ c h. at c h (ltb c e) refl;
     }
@@ -231,12 +284,12 @@ var-used J e x m = cmd-at J e ∙ at (nth (J .cmds) e) m
     at (c-var v) m = ap (λ y. c-var y) (sym (List·Memᴰ·eq-of-singleton m))
 
 -- what is settled, by what trees and layout say
-settled : (J : Job) (e : ℕ) (σ : Sofar) (k : Cmd ℕ) → Inv J e σ → {o : Typed} {r : Result} {p : Points} → Match (length (J .types)) (length (upOf (sourceOf J))) (σ .entries) o r → LayoutAgrees r p
-    → typeOf (sourceOf J) e ≡ o → pointsTo (varEntry J) (effectIn J) (σ .entries) (λ a. getD (σ .of) a 0) k ≡ p → Stepped J e σ k (settle σ r)
-unfolding settle point
-settled J e σ k v (m-made {A = A} f t w a s) (l-new {l = l} {x = x}) g q =
+settled : (J : Job) (e : ℕ) (σ : Sofar) → Inv J e σ → {o : Typed} {r : Result} {p : Points} → Match (length (J .types)) (length (upOf (sourceOf J))) (σ .entries) o r → LayoutAgrees r p
+    → typeOf (sourceOf J) e ≡ o → pointsTo (varEntry J) (effectIn J) (σ .entries) (λ a. getD (σ .of) a 0) (nth (J .cmds) e) ≡ p → Stepped J e σ (nth (J .cmds) e) (settle σ r)
+unfolding settle point made
+settled J e σ v (m-made {A = A} t w a s) (l-new {l = l} {x = x}) g q =
     went _
-    (extend-inv J e σ v (σ .entries ++ (l ++ (x ∷ []))) (l ++ (x ∷ [])) refl (omega (arith, length-snoc l x)) (subst (λ F. TableOk (length (J .types)) (length (upOf (sourceOf J))) F) (append-assoc (σ .entries) l (x ∷ [])) (table-snoc t w))
+    (extend-inv J e σ v (σ .entries ++ (l ++ (x ∷ []))) (l ++ (x ∷ [])) refl (omega (arith, length-snoc l x, ap made q, points-few (varEntry J) (effectIn J) (σ .entries) (λ a. getD (σ .of) a 0) (nth (J .cmds) e))) (subst (λ F. TableOk (length (J .types)) (length (upOf (sourceOf J))) F) (append-assoc (σ .entries) l (x ∷ [])) (table-snoc t w))
     (subst (λ F. TreeAt F A (length l + length (σ .entries))) (append-assoc (σ .entries) l (x ∷ []))
     (record { is = ap (tree ((σ .entries ++ l) ++ (x ∷ []))) (at l) ∙ tree-new (table-earlier t) x (λ c p. part-low w p) ∙ sym a; low = omega (arith, length-snoc (σ .entries ++ l) x, at l) }))
     s g)
@@ -244,8 +297,8 @@ settled J e σ k v (m-made {A = A} f t w a s) (l-new {l = l} {x = x}) g q =
   where
     at : (l : List TypeEntry) → length l + length (σ .entries) ≡ length (σ .entries ++ l)
     at l = omega (arith, length-append (σ .entries) l)
-settled J e σ k v (m-old {i = i} a s) l-old g q = went _ (extend-inv J e σ v (σ .entries) [] (sym (append-nil (σ .entries))) (omega arith) (v .table) a s g) (ap (λ z. point z (layoutIn σ)) q)
-settled J e σ k v (m-no {n = n}) l-no g q = stopped n g
+settled J e σ v (m-old {i = i} a s) l-old g q = went _ (extend-inv J e σ v (σ .entries) [] (sym (append-nil (σ .entries))) (omega (arith, ap made q, points-few (varEntry J) (effectIn J) (σ .entries) (λ a. getD (σ .of) a 0) (nth (J .cmds) e))) (v .table) a s g) (ap (λ z. point z (layoutIn σ)) q)
+settled J e σ v (m-no {n = n}) l-no g q = stopped n g
 
 -- what all expressions come to, from a state on
 data Outcome (J : Job) (l : List (Cmd ℕ)) (σ : Sofar) : Whole → Type 0 where
@@ -316,7 +369,7 @@ module _ {J : Job} (j : JobOk J) (scoped : treeRefusal (sourceOf J) ≡ none) {O
   start-table = subst⁻¹ (λ n. TableOk (length (J .types)) n (startOf J .entries)) (up-length J) (start-ok j)
 
   pub inv-start : Inv J 0 (startOf J)
-  unfolding startOf
+  unfolding startOf newKeys
   inv-start =
       record { count-of = refl; count-effects = refl; more = []; extended = sym (append-nil _); few = omega arith; table = start-table; each = λ c h. absurd (omega arith) }
 
@@ -349,7 +402,7 @@ module _ {J : Job} (j : JobOk J) (scoped : treeRefusal (sourceOf J) ≡ none) {O
   pub step : (e : ℕ) → e < length (J .cmds) → (σ : Sofar) → Inv J e σ → Stepped J e σ (nth (J .cmds) e) (numberAt O (varEntry J) σ (nth (J .cmds) e))
   unfolding numberAt fits effectIn effectOf
   step e h σ v =
-      settled J e σ (nth (J .cmds) e) v
+      settled J e σ v
       (matches (sourceOf J) ag (J .types) (v .table) (omega (arith, up-length J)) (λ t l. later v (start-kept j t l)) (get (typesTo (sourceOf J) e)) (varEntry J)
       (λ a. getD (σ .of) a 0) (λ a. getD (σ .effects) a pure) (subtypes v) (nth (J .cmds) e)
       (record {
@@ -427,11 +480,6 @@ module _ {J : Job} (j : JobOk J) (scoped : treeRefusal (sourceOf J) ≡ none) {O
 
 -- What fits into the words of the tables
 
-new-few : (l : List (Cmd ℕ)) → length (newKeys l) ≤ length l
-unfolding newKeys
-new-few [] = omega arith
-new-few (k ∷ l) = omega (arith, length-append (bindsName k) (newKeys l), bound-few (bound k), new-few l)
-
 entry-wider : {D C N M n : ℕ} {x : TypeEntry} → EntryOk D N n x → D ≤ C → N ≤ M → EntryOk C M n x
 entry-wider {M = M} (ok-num {q = q} a) h l = let u : q < M = omega arith in ok-num u
 entry-wider {M = M} (ok-pair {q = q} a b c) h l = let u : q < M = omega arith in ok-pair u b c
@@ -447,15 +495,14 @@ pub record Fits (σ : Sofar) : Type 0 where
   pub entry : (i : ℕ) (x : TypeEntry) → getElem? (σ .entries) i ≡ some x → EntryOk most-types most-names i x
   pub effect : (e : ℕ) → e < length (σ .effects) → Within most-names (getD (σ .effects) e pure)
 
-start-few : {J : Job} → JobOk J → length (startOf J .entries) ≤ most-types + 3 * most-expressions
+start-length : {J : Job} → JobOk J → length (startOf J .entries) ≡ length (J .types) + 3 * length (newKeys (J .cmds))
 unfolding startOf
-start-few {J} j =
-    omega (arith, length-append (J .types) (keyEntries (length (J .types)) (newKeys (J .cmds))), keys-length (length (J .types)) (newKeys (J .cmds)), new-few (J .cmds), j .few-types, j .few-cmds)
+start-length {J} j = length-append (J .types) (keyEntries (length (J .types)) (newKeys (J .cmds))) ∙ omega (arith, keys-length (length (J .types)) (newKeys (J .cmds)))
 
 pub inv-fits : {J : Job} → JobOk J → {e : ℕ} {σ : Sofar} → e ≤ length (J .cmds) → Inv J e σ → Fits σ
 inv-fits {J} j {e} {σ} h v =
     record {
-      few = omega (arith, ap length (v .extended), length-append (startOf J .entries) (v .more), v .few, start-few j, j .few-cmds);
+      few = omega (arith, ap length (v .extended), length-append (startOf J .entries) (v .more), v .few, start-length j, keys-rest (J .cmds) e, j .few-types, j .few-cmds);
       of = λ c l. v .each c (omega (arith, v .count-of)) .low;
       entry = λ i x g. entry-wider (v .table .each i x g) (j .few-types) (omega (arith, up-length J, j .few-names));
       effect = λ c l. within-wider {k = most-names} (v .each c (omega (arith, v .count-effects)) .small) (omega (arith, up-length J, j .few-names));

@@ -16,7 +16,7 @@ use Rattle.syntax.specs.Operands.{plain, inner, children, typesOf, usesVar, bin
 use Rattle.syntax.specs.Job.{Src, upOf}
 use Rattle.typing.specs.Subtype.{subTy}
 use Rattle.typing.specs.Least.{Typed, typed, untyped, with, wantNum, wantPair, wantCell, wantFn, wantLim, wantGrant, require, varType, ofVar, keysAt, typeAt}
-use Rattle.typing.specs.Layout.{most-made, rekeyed}
+use Rattle.typing.specs.Layout.{rekeyed}
 use Rattle.typing.specs.Numbered.{Ops, Result, makes, points, wrong, needNum, needPair, needCell, needFn, needLim, needGrant, need, keyIn, fits, keysFrom, resultAt}
 use Rattle.typing.specs.NumberedOps.{Agree}
 use Rattle.typing.specs.NumberedTables.{EntryOk, ok-num, ok-pair, ok-cell, ok-fn, ok-lim, ok-grant, TableOk, key-low, table-earlier, TreeAt}
@@ -28,7 +28,7 @@ pub record Same (N : ℕ) (s t : Effect) : Type 0 where
 
 -- what typing by trees and typing by numbers come to for one expression, when the entries so far are E
 pub data Match (D N : ℕ) (E : List TypeEntry) : Typed → Result → Type 0 where
-  m-made : {l : List TypeEntry} {x : TypeEntry} {A : Ty} {s t : Effect} → length l < most-made → TableOk D N (E ++ l) → EntryOk D N (length (E ++ l)) x → A ≡ entryTree (some x) (tree (E ++ l)) → Same N s t
+  m-made : {l : List TypeEntry} {x : TypeEntry} {A : Ty} {s t : Effect} → TableOk D N (E ++ l) → EntryOk D N (length (E ++ l)) x → A ≡ entryTree (some x) (tree (E ++ l)) → Same N s t
       → Match D N E (typed A s) (makes l x t)
   m-old : {i : ℕ} {A : Ty} {s t : Effect} → TreeAt E A i → Same N s t → Match D N E (typed A s) (points i t)
   m-no : {n : ℕ} → Match D N E (untyped n) (wrong n)
@@ -106,7 +106,7 @@ module _ (S : Src) {O : Ops} (ag : Agree (upOf S) O) (ts : List TypeEntry) {E : 
   m-new : {x : TypeEntry} {A : Ty} {s t : Effect} → EntryOk D N (length E) x → A ≡ entryTree (some x) (tree E) → Same N s t → M (typed A s) (makes [] x t)
   m-new {x} {A} w a z =
       let e = sym (append-nil E) in
-      m-made {l = []} (omega arith) (subst (λ F. TableOk D N F) e ok) (subst (λ F. EntryOk D N (length F) x) e w) (subst (λ F. A ≡ entryTree (some x) (tree F)) e a) z
+      m-made {l = []} (subst (λ F. TableOk D N F) e ok) (subst (λ F. EntryOk D N (length F) x) e w) (subst (λ F. A ≡ entryTree (some x) (tree F)) e a) z
 
   abbrev Op : ℕ → Type 0
   Op a = Operand N E tab of eff a
