@@ -1,6 +1,5 @@
 // Numbers into bytes, the low byte first.
 use super::SCRATCH;
-ghost use mathlib.Core.Path.{_≡_};
 ghost use Prim.Native.Nat.{_+_, _≤_};
 ghost use mathlib.Core.List.{_++_};
 ghost use Rattle.syntax.specs.JobBytes.{bytesOf};

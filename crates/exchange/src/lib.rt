@@ -7,7 +7,6 @@ use table::wide;
 use writer::Sent;
 use writer::Shape;
 ghost use mathlib.Core.Path.{_≡_};
-ghost use lib.ListN.{set};
 ghost use Rattle.table.specs.Lent.{jobBefore, jobAfter};
 ghost use Rattle.exchange.specs.Exchanges.{shapeIn, laidCounts, Reads, Writes};
 

@@ -127,11 +127,11 @@ fn hex_digit(d: u8) -> u8
 }
 
 // The line of a refused job.
-pub fn refused(number: u8, place: u32) -> Text
+pub fn refused(number: u8, place: u64) -> Text
     ensures { λ r. ⌜ textOf r ≡ refusedLine (record { number = number; place = place }) ⌝ }
 {
     let a = empty().put(b"refused ").decimal(20, number as u64);
-    let b = a.put(b" at ").decimal(20, place as u64);
+    let b = a.put(b" at ").decimal(20, place);
     b.push(b'\n')
 }
 

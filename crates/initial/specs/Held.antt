@@ -108,7 +108,7 @@ values-all T types values (h ∷ l) v f =
     (values-all T types values l (suc v) (λ k x e. let b : v + suc k ≡ suc v + k = omega arith in sym (ap (λ (i : ℕ). hostOf types (getD values i 0)) b) ∙ f (suc k) x e))
 
 module _ {J : Job} (j : JobOk J) {names : List ℕ} {nnames : ℕ} {types values : List ℕ} {nvalues rights : ℕ} (o : Holds J names nnames types values nvalues rights) where
-  names-are : namesIn names (length (J .names)) ≡ J .names
+  pub names-are : namesIn names (length (J .names)) ≡ J .names
   names-are = names-held names (J .names) (λ i d e. (o .name i d e, small i d (getElem?-lt (J .names) i d e) (upper-ok (take i (J .names)) d (built-at _ (j .names) i d e) .earlier)))
     where
       small : (i : ℕ) (d : Name) → i < length (J .names) → d .upper < 2 + length (take i (J .names)) → d .upper < 256
@@ -128,7 +128,7 @@ module _ {J : Job} (j : JobOk J) {names : List ℕ} {nnames : ℕ} {types values
       ∙ head-of (J .names) (h .ty) (h .init) (treeIn (h .ty) (getElem? (J .types))) (getElem? (J .types) (h .ty)) (getD types (h .ty) 0) (omega (arith, j .few-names)) (omega (arith, j .few-types)) (entry-parts (J .names) (j .types) (h .ty)) (o .type (h .ty)) (and-r _ _ k))
       n
 
-  values-are : valuesFrom types values 0 (length (J .values)) ≡ map (valueOf (J .types)) (J .values)
+  pub values-are : valuesFrom types values 0 (length (J .values)) ≡ map (valueOf (J .types)) (J .values)
   values-are = values-all (J .types) types values (J .values) 0 (λ k h e. let a : 0 + k ≡ k = omega arith in ap (λ (i : ℕ). hostOf types (getD values i 0)) a ∙ value-is k h e)
 
 -- the start looks at the names, the host values, the rights and how many expressions there are

@@ -10,7 +10,7 @@ use borrow.Author.Tests.{ltb-false}
 use Rattle.order.specs.Bools.{_or_}
 use Rattle.syntax.specs.Types.{tree}
 use Rattle.syntax.specs.Job.{Job, sourceOf}
-use Rattle.syntax.specs.Reading.{refused, read, reading, most-expressions}
+use Rattle.syntax.specs.Reading.{read, reading, most-expressions}
 use Rattle.syntax.specs.ReadLaws.{JobOk, read-ok, or-none}
 use Rattle.syntax.specs.Tree.{predecessor, treeRefusal}
 use Rattle.order.specs.Effects.{Effect, ofWord}

@@ -1,5 +1,5 @@
 -- A load keeps the length of each lent table.
-use mathlib.Core.Path.{_≡_, refl, subst⁻¹, _∙_}
+use mathlib.Core.Path.{_≡_, refl, subst⁻¹}
 use Prim.Native.Nat.{ℕ, suc, _*_}
 use native.Mathlib.Omega.{arith}
 use mathlib.Core.Bool.{Bool, true, false}
@@ -10,7 +10,7 @@ use Rattle.syntax.specs.Operands.{nth}
 use Rattle.syntax.specs.Job.{Job}
 use Rattle.syntax.specs.Words.{nameWord, typeWord, setWord, valueWord, headWord, slots, nameWords, typeWords, setWords, valueWords, headWords, slotWords}
 use Rattle.syntax.specs.WordLaws.{Bytes, CmdFits, JobFits, job-fits, slots-length, filled-length}
-use Rattle.syntax.specs.Reading.{Read, refused, read, reading}
+use Rattle.syntax.specs.Reading.{Read, refused, read}
 use Rattle.syntax.specs.ReadLaws.{JobOk, read-ok}
 use Rattle.syntax.specs.Loading.{JobTables, short, zeros, cleared, filledWith, loading, holding, tablesAfterLoad}
 use Rattle.syntax.specs.LoadLaws.{loaded, long-after, short-after, Long, long-is, Lengths}

@@ -13,13 +13,11 @@ use mathlib.Core.Option.{none, some}
 use Rattle.syntax.specs.Types.{Ty, e-num, entryTree, treeIn}
 use Rattle.syntax.specs.Commands.{Cmd}
 use Rattle.syntax.specs.Job.{Job, sourceOf}
-use Rattle.syntax.specs.Reading.{Refusal, read, reading}
+use Rattle.syntax.specs.Reading.{read, reading}
 use Rattle.syntax.specs.Words.{codeIn, entryBits, entryIn}
 use Rattle.syntax.specs.WordLaws.{Bytes}
-use Rattle.syntax.specs.ReadLaws.{read-ok}
-use Rattle.typing.specs.RefusalLaws.{Stands, by-reading, by-expression, refusal-stands}
-use Rattle.typing.specs.Verdict.{Verdict, accept, refuse, verdictOf}
-use Rattle.typing.specs.Tables.{Tables, short, verdictWith}
+use Rattle.typing.specs.Verdict.{Verdict, accept, verdictOf}
+use Rattle.typing.specs.Tables.{Tables, short}
 use Rattle.semantics.specs.Machine.{hand, Machine as Clean}
 use Rattle.semantics.specs.Start.{startOf}
 use Rattle.semantics.specs.Room.{isDone, doneAt}
@@ -44,8 +42,8 @@ use Rattle.format.specs.Text.{joined, typeSort, kindSort, kindNumber, acceptedA
 use Rattle.format.specs.Laws.{accepted-line, accepted-done, accepted-spent, accepted-no-room}
 use Rattle.checker.specs.declared.Checked.{Checked}
 use Rattle.judge.specs.declared.Verdict.the-variants as verdicts
-use Rattle.checker.specs.Answer.{treeOf, verdictIn, CheckTo}
-use Rattle.safety.specs.Accepting.{Accepting, accepting}
+use Rattle.checker.specs.Answer.{treeOf, CheckTo}
+use Rattle.safety.specs.Accepting.{Accepting, accepting, refusing}
 use Rattle.start.specs.Starts.{Ready}
 
 -- the kind of a type, by its byte
@@ -158,24 +156,11 @@ ran-line J h p m o e f g =
     (e ∙ ap (λ (z : ℕ → Cmd ℕ). run (stepsOf z) most-steps 0 m) (fun-ext g) ∙ ap (λ z. run (stepsIn J) most-steps 0 z) f
     ∙ ap (λ K. run K most-steps 0 (startOf (sourceOf J))) (sym (same-steps J)))
 
-refused-with : (b : Bool) (q : Refusal) (v : Verdict) (r : Refusal) → b ≡ false → refuse r ≡ cond b (refuse q) v → v ≡ refuse r
-refused-with b q v r e h = sym (rw e at h)
-
--- the place of a refusal is a place in the input, or an expression's number
-refusal-place : (s : List ℕ) (q : Refusal) → length s ≤ most-bytes → verdictOf s ≡ refuse q → q .place ≤ most-bytes
-refusal-place s q h e = at (refusal-stands s q e)
-  where
-    at : {r : Refusal} → Stands s r → r .place ≤ most-bytes
-    at (by-reading r a b c) = omega arith
-    at (by-expression r J i a b c) = omega (arith, read-ok s J i .few-cmds)
-
-pub told-refused : (bytes : List ℕ) (r : Checked) (w x : Tables) (n p : ℕ) (text : List ℕ) → CheckTo bytes r w x → r .verdict ≡ verdicts.Refused n p
-    → (p ≤ most-bytes → text ≡ refusedLine (record { number = n; place = p })) → length bytes ≤ most-bytes → short w ≡ false → text ≡ deskOf bytes
-unfolding verdictIn verdictWith deskOf reported
-told-refused bytes r w x n p text c v f h l =
-    let e : refuse (record { number = n; place = p }) ≡ verdictWith w bytes = sym (ap (verdictIn (x .job .types) (x .job .sets)) v) ∙ c .verdict in
-    let d : verdictOf bytes ≡ refuse (record { number = n; place = p }) = refused-with (short w) _ (verdictOf bytes) _ l e in
-    f (refusal-place bytes _ h d) ∙ sym (ap (λ z. reported z (reading bytes)) d)
+pub told-refused : (bytes : List ℕ) (r : Checked) (w x : Tables) (n p q : ℕ) (text : List ℕ) → CheckTo bytes r w x → r .verdict ≡ verdicts.Refused n p → q ≡ p
+    → text ≡ refusedLine (record { number = n; place = q }) → short w ≡ false → text ≡ deskOf bytes
+unfolding deskOf reported
+told-refused bytes r w x n p q text c v z f l =
+    f ∙ ap (λ (k : ℕ). refusedLine (record { number = n; place = k })) z ∙ sym (ap (λ k. reported k (reading bytes)) (refusing bytes r w x n p c v l))
 
 desk-accepted : (bytes : List ℕ) (J : Job) (T : Ty) (s : Effect) → verdictOf bytes ≡ accept T s → reading bytes ≡ read J → deskOf bytes ≡ acceptedLine T s ++ runLine (sourceOf J)
 unfolding deskOf reported runRead
@@ -199,9 +184,6 @@ accepted-ran T s e f = e ∙ ap (λ z. acceptedLine T s ++ z) f
 -- the first bytes of a longer input
 pub head-length : (n : ℕ) (l : List ℕ) → n < length l → n ≡ length (take n l)
 head-length n l h = sym (length-take-le n l (omega arith))
-
-pub head-small : (n : ℕ) (l : List ℕ) → n < length l → length (take n l) ≤ n
-head-small n l h = omega (arith, length-take-le n l (omega arith))
 
 pub printed-head : (l : List ℕ) → deskOf (take most-bytes l) ≡ printed l
 unfolding printed

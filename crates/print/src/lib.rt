@@ -7,16 +7,17 @@ use machine::Answer;
 use machine::Control;
 use machine::Outcome;
 use store::Kind;
+use table::MOST_BYTES;
 use table::MOST_EXPRESSIONS;
 use table::MOST_NAMES;
 use table::MOST_VARIABLES;
 use table::PLACES;
 use table::TYPE_ENTRIES;
+use table::wide;
 ghost use mathlib.Core.Path.{_≡_};
 ghost use mathlib.Core.Bool.{true};
 ghost use mathlib.Core.List.{List, _++_};
-ghost use Prim.Native.Nat.{ℕ, _<_, _≤_};
-ghost use lib.ListN.{length};
+ghost use Prim.Native.Nat.{ℕ};
 ghost use Rattle.order.specs.Effects.{Effect, ofWord};
 ghost use Rattle.syntax.specs.Types.{Ty, entryTree};
 ghost use Rattle.syntax.specs.Job.{Job, sourceOf};
@@ -27,14 +28,12 @@ ghost use Rattle.semantics.specs.Demand3.{exprOf};
 ghost use Rattle.store.specs.Meaning.{kindIn};
 ghost use Rattle.acts.specs.Meaning.{answerIn};
 ghost use Rattle.machine.specs.View.{seen, ranIn};
-ghost use Rattle.output.specs.Lines.{refusedLine, acceptedLine, ranLine, ranOf, runLine, deskOf, most-bytes, printed};
+ghost use Rattle.output.specs.Lines.{acceptedLine, ranLine, ranOf, runLine, deskOf, printed};
 ghost use Rattle.format.specs.Text.{textOf, typeSort, kindSort, kindNumber, acceptedAs};
 ghost use Rattle.checker.specs.Answer.{treeOf};
 ghost use Rattle.start.specs.Starts.{Ready};
 
-// So many bytes of the input are read, and so many steps are run.
-pub const MOST_BYTES: usize = 16384;
-
+// So many steps are run.
 pub const MOST_STEPS: u64 = 100000;
 
 // The kind of a type, by the command byte of its word.
@@ -144,19 +143,9 @@ fn accepted(
     ended(first, o)
 }
 
-// The line of a refusal whose place is a place in the job or an expression's number.
-fn refused(n: u8, p: usize) -> Text
-    ensures { λ r. ⌜ (p ≤ most-bytes → textOf r ≡ refusedLine (record { number = n; place = p })) ⌝ }
-{
-    if p <= MOST_BYTES {
-        return format::refused(n, p as u32);
-    }
-    format::refused(n, 0)
-}
-
-// The lines for a job of at most 16,384 bytes.
+// The lines for a job.
 fn told(job: &[u8]) -> Text
-    ensures { λ r. ⌜ (length (now (job .entry)) ≤ most-bytes → textOf r ≡ deskOf (now (job .entry))) ⌝ }
+    ensures { λ r. ⌜ textOf r ≡ deskOf (now (job .entry)) ⌝ }
 {
     let mut names = [0u16; MOST_NAMES];
     let mut types = [0u64; TYPE_ENTRIES];
@@ -180,7 +169,7 @@ fn told(job: &[u8]) -> Text
     let v = c.verdict;
     let g = c.shape;
     match v {
-        Verdict::Refused(n, p) => refused(n, p),
+        Verdict::Refused(n, p) => format::refused(n, wide(p)),
         Verdict::Accepted(i, s) => accepted(i, s, g, &names, &types, &values, &heads, &slots),
     }
 }

@@ -1,4 +1,4 @@
--- What an accepted job's tables say: the job that its bytes are, held by the tables, and demand 3 of its calls.
+-- What an accepted job's tables say: the job that its bytes are, held by the tables, and demand 3 of its calls. And what a refusal says, where no table is too short.
 use mathlib.Core.Path.{_≡_, refl, sym, ap, _∙_}
 use Prim.Native.Nat.{ℕ, zero, suc}
 use native.Mathlib.Omega.{arith}
@@ -112,3 +112,13 @@ accepting bytes by r w x i s c v =
       ready = ready-of J (r .shape) x w o f g t;
       code = code-of J x w o f t;
     }
+
+-- a refused job: the check's answer is the verdict on its bytes
+refused-with : (b : Bool) (q : Refusal) (v : Verdict) (r : Refusal) → b ≡ false → refuse r ≡ cond b (refuse q) v → v ≡ refuse r
+refused-with b q v r e h = sym (rw e at h)
+
+pub refusing : (bytes : List ℕ) (r : Checked) (w x : Tables) (n p : ℕ) → CheckTo bytes r w x → r .verdict ≡ verdicts.Refused n p → short w ≡ false → verdictOf bytes ≡ refuse (record { number = n; place = p })
+unfolding verdictIn verdictWith
+refusing bytes r w x n p c v l =
+    let e : refuse (record { number = n; place = p }) ≡ verdictWith w bytes = sym (ap (verdictIn (x .job .types) (x .job .sets)) v) ∙ c .verdict in
+    refused-with (short w) _ (verdictOf bytes) _ l e

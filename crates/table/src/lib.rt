@@ -3,6 +3,7 @@ ghost use mathlib.Core.Path.{_≡_};
 ghost use Prim.Native.Nat.{_*_, _/_, _%_};
 ghost use lib.ListN.{length, getD, set, replicate};
 ghost use Rattle.syntax.specs.Words.{typeBits};
+ghost use Rattle.table.specs.Copied.{copied};
 ghost use Rattle.table.specs.Told.{Tells};
 
 // The limits of document 01: names with 0 and 1, types, variables, expressions, the depth of a type.
@@ -15,6 +16,9 @@ pub const MOST_VARIABLES: usize = 64;
 pub const MOST_EXPRESSIONS: usize = 512;
 
 pub const MOST_DEPTH: u8 = 16;
+
+// So many bytes of their input the programs read.
+pub const MOST_BYTES: usize = 16384;
 
 // The names that a job may declare: all but 0 and 1.
 pub const MOST_DECLARED: usize = 62;
@@ -80,6 +84,20 @@ pub fn put64(s: &mut [u64], i: usize, x: u64)
 {
     if i < s.len() {
         s[i] = x;
+    }
+}
+
+// The bytes at the start of the buffer; what is past them stays. Nothing where the buffer is too short for them all.
+pub fn copy(bytes: &[u8], buffer: &mut [u8])
+    ensures { λ _. ⌜ now (buffer .exit) ≡ copied (now (bytes .entry)) (now (buffer .entry)) ⌝ }
+{
+    if buffer.len() < bytes.len() {
+        return;
+    }
+    let mut i: usize = 0;
+    while i < bytes.len() {
+        buffer[i] = bytes[i];
+        i = i + 1;
     }
 }
 

@@ -3,9 +3,9 @@ use mathlib.Core.Path.{_≡_, refl, sym, ap, ap₂, _∙_}
 use Prim.Native.Nat.{ℕ, zero, suc, _+_, _≤_, _<_}
 use native.Mathlib.Omega.{arith}
 use mathlib.Core.Bool.{Bool, true, false, cond}
-use mathlib.Core.List.{List, [], _∷_, _++_, append-assoc}
-use lib.ListN.{length, getD, set, take, drop}
-use lib.Seq.{sets, sets-eq, length-sets, take-append-seam, take-suc, take-length, length-take-le, drop-cons, set-at}
+use mathlib.Core.List.{List, _++_}
+use lib.ListN.{length, take, drop}
+use lib.Seq.{sets, sets-eq, length-sets, take-append-seam, length-take-le}
 use borrow.Author.Tests.{lt-ltb, le-ltb}
 use Rattle.syntax.specs.Reading as asked
 use Rattle.syntax.specs.Reading.{Read, refused, read, reading}
@@ -151,16 +151,3 @@ module _ {w x : JobTables} {c : Counts} {b b' : List ℕ} {r : Sent} (same : x �
   write-short h z y =
       let all : writeWith w c (length b) ≡ unsentAt 1 0 = ap (λ (q : Bool). cond q (unsentAt 1 0) (fitting (length b) (writing.writing w c))) h in
       record { answer = z ∙ ap answerOf (sym all); buffer = y ∙ ap (λ t. bufferAfter t b) (sym all); tables = same }
-
--- The copy
-
-pub copy-next : (t b u : List ℕ) (i : ℕ) → u ≡ take i t ++ drop i b → i < length t → length t ≤ length b → set u i (getD t i 0) ≡ take (i + 1) t ++ drop (i + 1) b
-copy-next t b u i e h k =
-    let z : i + 1 ≡ suc i = omega arith in
-    ap (λ l. set l i (getD t i 0)) (e ∙ ap (λ l. take i t ++ l) (drop-cons b i 0 (omega (arith, h, k))))
-    ∙ set-at (take i t) (getD b i 0) (drop (suc i) b) (getD t i 0) i (length-take-le i t (omega (arith, h)))
-    ∙ sym (ap (λ l. l ++ drop (suc i) b) (take-suc t i 0 h) ∙ append-assoc (take i t) (getD t i 0 ∷ []) (drop (suc i) b))
-    ∙ ap (λ (n : ℕ). take n t ++ drop n b) (sym z)
-
-pub copy-end : (t b u : List ℕ) (i : ℕ) → u ≡ take i t ++ drop i b → i ≤ length t → length t ≤ i → u ≡ t ++ drop (length t) b
-copy-end t b u i e h k = let z : i ≡ length t = omega arith in e ∙ ap (λ (n : ℕ). take n t ++ drop n b) z ∙ ap (λ l. l ++ drop (length t) b) (take-length t)

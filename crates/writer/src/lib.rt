@@ -6,10 +6,8 @@ use job::Answer;
 pub use job::Refusal;
 use job::long_enough;
 use job::would_read;
+use table::copy;
 ghost use mathlib.Core.Path.{_≡_};
-ghost use Prim.Native.Nat.{_≤_};
-ghost use mathlib.Core.List.{_++_};
-ghost use lib.ListN.{length, drop};
 ghost use Rattle.syntax.specs.Reading.{reading};
 ghost use Rattle.syntax.specs.Writing.{judged};
 ghost use Rattle.table.specs.Lent.{jobBefore, jobAfter};
@@ -29,18 +27,6 @@ fn refused(number: u8, place: usize) -> Sent
         number: number,
         place: place,
     })
-}
-
-// The bytes at the start of the buffer; what is past them stays.
-fn copy(bytes: &[u8], buffer: &mut [u8])
-    requires { ⌜ length (now bytes) ≤ length (now buffer) ⌝ }
-    ensures { λ _. ⌜ now (buffer .exit) ≡ now (bytes .entry) ++ drop (length (now (bytes .entry))) (now (buffer .entry)) ⌝ }
-{
-    let mut i: usize = 0;
-    while i < bytes.len() {
-        buffer[i] = bytes[i];
-        i = i + 1;
-    }
 }
 
 // The bytes of the tables, after which they have this fault, 0 for none: where they are a job and the buffer is long enough, they go there. The first fault decides.

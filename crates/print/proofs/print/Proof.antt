@@ -1,6 +1,6 @@
 use Rattle.output.specs.Lines.{most-bytes}
 use mathlib.Core.Path.{_∙_}
-use Rattle.print.proofs.Prints.{whole, head-length, head-small, printed-head}
+use Rattle.print.proofs.Prints.{whole, head-length, printed-head}
 use borrow.Author.Needs.{needs}
 use Rattle.print.proofs.print.Statement.{statement}
 use Rattle.print.proofs.print.Tie as tie
@@ -15,13 +15,13 @@ told-requires : tie.Need-told-requires
 told-requires c κs = search needs
 
 returns : tie.Need-returns
-returns c = c .told .ensures (head-small most-bytes (c .before .before .before .before .args .job .now) (c .before .before .if1 .taken)) ∙ printed-head _
+returns c = c .told .ensures ∙ printed-head _
 
 told-requires-2 : tie.Need-told-requires-2
 told-requires-2 c κs = search needs
 
 returns-2 : tie.Need-returns-2
-returns-2 c = c .told2 .ensures (c .before .if1 .left) ∙ whole _ (c .before .if1 .left)
+returns-2 c = c .told2 .ensures ∙ whole _ (c .before .if1 .left)
 
 pub print-spec : {M : Type 1} → statement M
 print-spec =

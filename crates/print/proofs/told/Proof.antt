@@ -10,8 +10,9 @@ use Rattle.print.proofs.told.Tie as tie
 use Rattle.print.proofs.told.Reads as reads
 use Rattle.print.proofs.told.Lts as lts
 use Rattle.checker.proofs.check.Reads as check-reads
+use Rattle.format.proofs.refused.Reads as refused-reads
 use Rattle.print.proofs.accepted.Reads as accepted-reads
-use Rattle.print.proofs.refused.Reads as refused-reads
+use Rattle.table.proofs.wide.Reads as wide-reads
 
 slice-aggregate-check : tie.Need-slice-aggregate-check
 slice-aggregate-check c = search needs
@@ -43,6 +44,9 @@ check-requires c κs = search needs
 enum-known-v : tie.Need-enum-known-v
 enum-known-v c = search needs
 
+wide-requires : tie.Need-wide-requires
+wide-requires c κs = search needs
+
 refused-requires : tie.Need-refused-requires
 refused-requires c κs = search needs
 
@@ -69,10 +73,10 @@ accepted-requires c κs = search needs
 
 returns : tie.Need-returns
 unfolding short loads.short _or_
-returns c = λ h. told-refused _ _ _ _ _ _ _ (c .before .before .before .before .before .before .before .before .before .before .before .before .before .check .ensures) (c .before .before .v .given .1) (c .refused .ensures) h refl
+returns c = told-refused _ _ _ _ _ _ _ _ (c .before .before .before .before .before .before .before .before .before .before .before .before .before .before .check .ensures) (c .before .before .before .v .given .1) (c .before .wide .ensures) (c .refused .ensures) refl
 
 returns-2 : tie.Need-returns-2
-returns-2 c = λ h. told-accepted _ _ _ _ _ _ _ (c .before .before .before .before .before .before .before .before .before .before .before .before .before .before .before .before .before .before .check .ensures) (c .before .before .before .before .before .before .before .v2 .given .1) (c .accepted .ensures) (λ i. omega (arith, c .before .before .before .before .before .before .before .before .before .before .before .before .before .before .before .before .before .before .before .before .before .before .before .before .before .before .before .shared-slice-known .given i))
+returns-2 c = told-accepted _ _ _ _ _ _ _ (c .before .before .before .before .before .before .before .before .before .before .before .before .before .before .before .before .before .before .check .ensures) (c .before .before .before .before .before .before .before .v2 .given .1) (c .accepted .ensures) (λ i. omega (arith, c .before .before .before .before .before .before .before .before .before .before .before .before .before .before .before .before .before .before .before .before .before .before .before .before .before .before .before .shared-slice-known .given i))
 
 pub told-spec : {M : Type 1} → statement M
 told-spec =
@@ -88,6 +92,7 @@ told-spec =
     slice-aggregate-check-8
     check-requires
     enum-known-v
+    wide-requires
     refused-requires
     enum-known-v-2
     slice-aggregate-accepted

@@ -1,12 +1,13 @@
 use Rattle.writer.proofs.Sending.{whole-refused, whole-short, whole-sent, fault-job, fault-later, fault-first}
-use mathlib.Core.Path.{refl}
+use mathlib.Core.Path.{refl, _∙_}
+use Rattle.table.specs.Copied.{copied-all}
 use borrow.Author.Needs.{needs}
 use Rattle.writer.proofs.deliver.Statement.{statement}
 use Rattle.writer.proofs.deliver.Tie as tie
 use Rattle.writer.proofs.deliver.Reads as reads
 use Rattle.writer.proofs.deliver.Lts as lts
 use Rattle.job.proofs.would_read.Reads as would-read-reads
-use Rattle.writer.proofs.copy.Reads as copy-reads
+use Rattle.table.proofs.copy.Reads as copy-reads
 use Rattle.writer.proofs.refused.Reads as refused-reads
 
 would-read-requires : tie.Need-would-read-requires
@@ -43,7 +44,7 @@ same-length : tie.Need-same-length
 same-length c = search needs
 
 returns-4 : tie.Need-returns-4
-returns-4 c = whole-sent _ (c .before .before .before .before .before .before .before .before .would-read .ensures) (c .before .before .before .before .before .if1 .left) _ (c .before .before .before .before .before .before .enum-told .given .1) (c .before .before .before .before .if2 .left) refl (c .before .before .copy .ensures)
+returns-4 c = whole-sent _ (c .before .before .before .before .before .before .before .before .would-read .ensures) (c .before .before .before .before .before .if1 .left) _ (c .before .before .before .before .before .before .enum-told .given .1) (c .before .before .before .before .if2 .left) refl (c .before .before .copy .ensures ∙ copied-all _ _ (c .before .before .before .before .if2 .left))
 
 returns-5 : tie.Need-returns-5
 returns-5 c = fault-first _ (c .before .before .before .before .before .before .would-read .ensures) (c .before .before .if3 .taken) _ (c .before .before .before .before .q .given .1) (c .if4 .left) refl

@@ -1,8 +1,9 @@
 use borrow.Author.Needs.{needs}
 use mathlib.Core.Path.{sym}
+use mathlib.Core.Bool.{false≢true}
 use lib.Seq.{length-take-le}
-use Rattle.desk.proofs.write.Statement.{statement}
-use Rattle.desk.proofs.write.Tie as tie
+use Rattle.stream.proofs.write.Statement.{statement}
+use Rattle.stream.proofs.write.Tie as tie
 
 slice-aggregate-write-all : tie.Need-slice-aggregate-write-all
 slice-aggregate-write-all c = sym (length-take-le (c .before .before .before .args .n) (c .before .before .before .args .bytes .now) (c .before .if1 .taken))
@@ -20,7 +21,7 @@ returns-2 : tie.Need-returns-2
 returns-2 c = search needs
 
 returns-3 : tie.Need-returns-3
-returns-3 c = search needs
+returns-3 c = λ e. absurd (false≢true e)
 
 pub write-spec : {M : Type 1} → statement M
 write-spec = tie.close (tie.spec slice-aggregate-write-all write-all-requires close-requires returns returns-2 returns-3)

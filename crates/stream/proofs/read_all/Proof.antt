@@ -2,10 +2,10 @@ use native.Mathlib.Omega.{arith}
 use Prim.Native.Nat.{_-_, _≤_}
 use mathlib.Core.Path.{_≡_, refl, _∙_}
 use lib.ListN.{length}
-use Rattle.desk.proofs.Reading.{counted}
+use Rattle.stream.proofs.Reading.{counted}
 use borrow.Author.Needs.{needs}
-use Rattle.desk.proofs.read_all.Statement.{statement}
-use Rattle.desk.proofs.read_all.Tie as tie
+use Rattle.stream.proofs.read_all.Statement.{statement}
+use Rattle.stream.proofs.read_all.Tie as tie
 
 abbrev Inv-loop : tie.InvT-loop
 Inv-loop job₀ n₀ job n = (n ≤ length job) × (length job ≡ length job₀)
