@@ -1,9 +1,13 @@
--- The lines of document 01 as bytes, for values that stand here: computed, and equal to what is written out.
+-- The lines of document 01 and of the sheet as bytes, for values that stand here: computed, and equal to what is written out.
 use mathlib.Core.Path.{_≡_, refl, ap}
 use Prim.Native.Nat.{ℕ}
+use mathlib.Core.Bool.{true, false}
 use mathlib.Core.List.{List, [], _∷_}
-use Rattle.order.specs.Effects.{ofWord}
-use Rattle.syntax.specs.Types.{num, pair, cell, fn, lim, grant}
+use Rattle.order.specs.Order.{onUpper, belowIn, below}
+use Rattle.order.specs.Sets.{members, membersFrom, consIf, keep, some-of}
+use Rattle.order.specs.Effects.{setNames, names, ofWord}
+use Rattle.syntax.specs.Types.{Ty, num, pair, cell, fn, lim, grant, byType, onCell}
+use Rattle.syntax.specs.Job.{HostValue, Src, uppers}
 use Rattle.semantics.specs.Machine.{Kind, k-num, k-pair, k-fn, k-cell, k-lim, k-grant, Control, hand, Machine}
 use Rattle.semantics.specs.Calls.{finished, spent, noroom}
 use Rattle.output.specs.Lines.{
@@ -32,6 +36,7 @@ use Rattle.output.specs.Lines.{
   acceptedLine,
   ranLine,
 }
+use Rattle.output.specs.Sheet.{isUsed, carries, countOf, rowOf, rowsFrom, rowsOf, aligned, w-yes, w-no, rowLine, laid, sheetText}
 
 -- `refused 14 at 1`, `refused 4 at 10309`
 pub refused-lines :
@@ -96,3 +101,35 @@ done-lines = (
   where
     at : (n : ℕ) (k : Kind) → Prints n k (line (space w-done (space (decimal n) (valueKind k))))
     at n k = record { prints = λ m q e. ap (λ (c : Control). line (space w-done (space (decimal n) (handed c)))) e }
+
+-- ` 2  1 yes   1`, `63 10 no   64`: the narrowest numbers and the widest
+pub sheet-lines :
+    (rowLine (record { name = 2; upper = 1; used = true; cells = 1 }) ≡ 0x20 ∷ 0x32 ∷ 0x20 ∷ 0x20 ∷ 0x31 ∷ 0x20 ∷ 0x79 ∷ 0x65 ∷ 0x73 ∷ 0x20 ∷ 0x20 ∷ 0x20 ∷ 0x31 ∷ 0x0A ∷ [])
+    × (rowLine (record { name = 63; upper = 10; used = false; cells = 64 }) ≡ 0x36 ∷ 0x33 ∷ 0x20 ∷ 0x31 ∷ 0x30 ∷ 0x20 ∷ 0x6E ∷ 0x6F ∷ 0x20 ∷ 0x20 ∷ 0x20 ∷ 0x36 ∷ 0x34 ∷ 0x0A ∷ [])
+unfolding decimalIn decimal space line aligned w-yes w-no rowLine
+sheet-lines = (refl, refl)
+
+-- host names 2 and 5, and 4 under 2; 3 is local. Host values: a cell of 4, a grant key of 2 keyed by 4, a cell of 2, an unkeyed one, another of 4, and one of the top
+abbrev a-job : Src
+a-job = record {
+  names = record { host = true; upper = 1 } ∷ record { host = false; upper = 2 } ∷ record { host = true; upper = 2 } ∷ record { host = true; upper = 1 } ∷ [];
+  values = value (cell 4 (num 0)) ∷ value (grant 4 2) ∷ value (cell 2 (num 0)) ∷ value (cell 0 (num 0)) ∷ value (cell 4 (num 0)) ∷ value (cell 1 (num 0)) ∷ [];
+  rights = ofWord 2;
+  cmds = [];
+}
+  where
+    value : Ty → HostValue Ty
+    value T = record { ty = T; init = 7 }
+
+-- with the effect {2} its sheet is ` 2  1 yes   1`, ` 4  2 yes   2`, ` 5  1 no    0`; with {4} the first line says `no `
+pub sheet-lines-of-a-job :
+    (sheetText (rowsOf a-job (ofWord 4)) ≡
+    0x20 ∷ 0x32 ∷ 0x20 ∷ 0x20 ∷ 0x31 ∷ 0x20 ∷ 0x79 ∷ 0x65 ∷ 0x73 ∷ 0x20 ∷ 0x20 ∷ 0x20 ∷ 0x31 ∷ 0x0A ∷
+    0x20 ∷ 0x34 ∷ 0x20 ∷ 0x20 ∷ 0x32 ∷ 0x20 ∷ 0x79 ∷ 0x65 ∷ 0x73 ∷ 0x20 ∷ 0x20 ∷ 0x20 ∷ 0x32 ∷ 0x0A ∷
+    0x20 ∷ 0x35 ∷ 0x20 ∷ 0x20 ∷ 0x31 ∷ 0x20 ∷ 0x6E ∷ 0x6F ∷ 0x20 ∷ 0x20 ∷ 0x20 ∷ 0x20 ∷ 0x30 ∷ 0x0A ∷ [])
+    × (sheetText (rowsOf a-job (ofWord 16)) ≡
+    0x20 ∷ 0x32 ∷ 0x20 ∷ 0x20 ∷ 0x31 ∷ 0x20 ∷ 0x6E ∷ 0x6F ∷ 0x20 ∷ 0x20 ∷ 0x20 ∷ 0x20 ∷ 0x31 ∷ 0x0A ∷
+    0x20 ∷ 0x34 ∷ 0x20 ∷ 0x20 ∷ 0x32 ∷ 0x20 ∷ 0x79 ∷ 0x65 ∷ 0x73 ∷ 0x20 ∷ 0x20 ∷ 0x20 ∷ 0x32 ∷ 0x0A ∷
+    0x20 ∷ 0x35 ∷ 0x20 ∷ 0x20 ∷ 0x31 ∷ 0x20 ∷ 0x6E ∷ 0x6F ∷ 0x20 ∷ 0x20 ∷ 0x20 ∷ 0x20 ∷ 0x30 ∷ 0x0A ∷ [])
+unfolding decimalIn decimal space line aligned w-yes w-no rowLine laid sheetText isUsed carries countOf rowOf rowsFrom rowsOf uppers onCell byType some-of names setNames keep members membersFrom consIf below belowIn onUpper
+sheet-lines-of-a-job = (refl, refl)

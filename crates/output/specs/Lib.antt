@@ -1,4 +1,9 @@
 pub mod Lines
+pub mod Sheet
 pub mod LineLaws
+pub mod ColumnLaws
+pub mod SheetLaws
+pub mod SheetExactly
+pub mod SheetSays
 pub mod DeskLines
 pub mod Examples
