@@ -2,3 +2,4 @@ pub mod Runs
 pub mod Checks
 pub mod Sessions
 pub mod RunSafety
+pub mod Sheets

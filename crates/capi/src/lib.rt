@@ -1,4 +1,4 @@
-// The check, the machine, reading and writing for C and Rust: plain numbers and slices.
+// The check, the machine, reading, writing and the sheet for C and Rust: plain numbers and slices.
 use machine::Machine;
 use session::Held;
 use start::Told;
@@ -11,6 +11,7 @@ ghost use Rattle.checker.specs.Lent.{after};
 ghost use Rattle.exchange.specs.Exchanges.{Reads, Writes};
 ghost use Rattle.capi.specs.Checks.{Checks};
 ghost use Rattle.capi.specs.Runs.{Goes, Runs};
+ghost use Rattle.capi.specs.Sheets.{Sheets};
 ghost use Rattle.capi.specs.Sessions.{lentBefore, lentAfter, Reported, Sessions};
 
 // The calls on a machine, and the room that the last machine uses.
@@ -219,4 +220,16 @@ pub extern "C" fn jobdesk_write(
         buffer,
         out,
     )
+}
+
+// The sheet of a job for the wall file, as text at the start of `text`; bytes past it stay. Returns 0 where the job is accepted, or the number of the refusal: then
+// the text is the desk program's line. out[0] is how many bytes the text has, and out[1] the place of the refusal. 1 where `text` has fewer than 868 bytes; nothing is
+// written to it then. Where `out` has fewer than two words, it gets those that it has.
+#[no_mangle]
+pub extern "C" fn jobdesk_sheet(job: &[u8], text: &mut [u8], out: &mut [u64]) -> u64
+    ensures { λ r. ⌜ Sheets (now (job .entry)) r (now (text .entry)) (now (text .exit)) (now (out .entry)) (now (out .exit)) ⌝ }
+{
+    let told = wall::sheet(job, text);
+    table::put64(out, 1, table::wide(told.place));
+    table::tell(told.number, told.len, out)
 }

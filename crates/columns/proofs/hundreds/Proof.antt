@@ -1,0 +1,24 @@
+use Rattle.output.specs.ColumnLaws.{column}
+use borrow.Author.Tests.{le-ltb, lt-ltb}
+use borrow.Author.Needs.{needs}
+use Rattle.columns.proofs.hundreds.Statement.{statement}
+use Rattle.columns.proofs.hundreds.Tie as tie
+use Rattle.columns.proofs.hundreds.Reads as reads
+use Rattle.columns.proofs.hundreds.Lts as lts
+
+returns : tie.Need-returns
+unfolding column
+returns c = simp (lt-ltb _ _ (c .if1 .taken))
+
+cast-result : tie.Need-cast-result
+cast-result c = search needs
+
+add-result : tie.Need-add-result
+add-result c = search needs
+
+returns-2 : tie.Need-returns-2
+unfolding column
+returns-2 c = simp (le-ltb _ _ (c .if1 .left))
+
+pub hundreds-spec : {M : Type 1} → statement M
+hundreds-spec = tie.close (tie.spec returns cast-result add-result returns-2)

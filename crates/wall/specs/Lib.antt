@@ -1,0 +1,3 @@
+pub mod Listed
+pub mod HeldSheet
+pub mod SheetTold
