@@ -41,13 +41,14 @@ extern "C" {
 #define JOBDESK_VALUE 2
 #define JOBDESK_CELLS 512
 
-/* No job has more bytes than this. */
+/* The most bytes of a job; and of a sheet, which has a line of 14 bytes for each of at most 62 names. */
 #define JOBDESK_BYTES 10310
+#define JOBDESK_SHEET_BYTES 868
 
 /* What a function returns: 0, or the number of a refusal. The place of 1 and of 15 is 0, that of 2 to 7
  * an offset in the job's bytes, that of 8 to 14 the number of an expression. */
 #define JOBDESK_OK 0
-#define JOBDESK_SHORT_TABLE 1       /* a lent work table is shorter than its least length */
+#define JOBDESK_SHORT_TABLE 1       /* a lent work table, or the text of a sheet, is too short */
 #define JOBDESK_NO_COMMAND 2        /* a byte is no command */
 #define JOBDESK_WRONG_SECTION 3     /* a command stands outside its section */
 #define JOBDESK_CUT_OFF 4           /* the input ends too soon */
@@ -284,7 +285,41 @@ uint64_t jobdesk_write(
     uint8_t *buffer, size_t buffer_length,
     uint64_t *out, size_t out_length);
 
-/* Work tables of the least lengths, and the same functions with them. They can be used for any
+/* The sheet of a job for the wall file: what the program `sheet` prints for these bytes. No work tables
+ * are lent.
+ *
+ * Returns 0 if the job is accepted. Then `text` begins with the sheet, which has a line of 14 bytes for
+ * each host name, by ascending number (none for names 0 and 1 and for local names):
+ *   columns 1 and 2   the name's number,
+ *   columns 4 and 5   the number of its upper name,
+ *   columns 7 to 9    "yes" if the name is below a name of the job's effect, or is one, else "no ",
+ *   columns 11 to 13  how many host cells carry exactly this name: cells of a name below it, and limit
+ *                     and grant keys, do not count. Cells without a key or with the top's are in no line.
+ * Numbers are decimal and stand at the right end of their columns; columns 3, 6 and 10 are spaces, and
+ * byte 0A (hexadecimal) follows column 13. out[0] is how many bytes the sheet has, 0 for a job without
+ * host names, and out[1] is 0.
+ *
+ * "no " IS NO PROMISE that such a cell stays closed. It says that the job need not be lent the name. A
+ * grant key among the host values, or a command 40 (hexadecimal) with a key that the rights lend, can
+ * open the cell all the same.
+ *
+ * Returns 2 to 14, the number of the refusal, if the job is refused. Then `text` begins with the desk
+ * program's line, "refused N at P" and byte 0A; out[0] is how many bytes the line has, and out[1] is the
+ * place P.
+ *
+ * Bytes of `text` past these stay as they were: no byte 0 ends it.
+ *
+ * Returns 1 if `text` has fewer than JOBDESK_SHEET_BYTES bytes, whatever the job. Then out[0] and out[1]
+ * are 0, and no byte of `text` is written.
+ *
+ * Where `out` has fewer than JOBDESK_OUT entries, it gets those that it has.
+ */
+uint64_t jobdesk_sheet(
+    const uint8_t *job, size_t job_length,
+    uint8_t *text, size_t text_length,
+    uint64_t *out, size_t out_length);
+
+/* Work tables of the least lengths, and the functions that use them. The tables can be used for any
  * number of jobs, one after the other. */
 struct jobdesk_tables {
     uint64_t types[JOBDESK_TYPES];

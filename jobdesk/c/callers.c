@@ -180,18 +180,19 @@ static void sessions(void)
 /* A job that asks for key 2: the number in its cell where the key is enabled, else 5. Both are accepted
  * with no effect. Byte 26 has the rights. */
 #define ASKING_RIGHTS 26
+static const uint8_t asking[] = {
+    0x01, 1, 0x10, 0, 0x12, 2, 0, 0,       /* name 2; type 0: number; type 1: cell with key 2 */
+    0x14, 0, 2,                            /* type 2: limit key of name 2 */
+    0x20, 1, 0, 7, 0, 0, 0,                /* variable 0: the cell */
+    0x20, 2, 0, 0, 0, 0, 0,                /* variable 1: the limit key */
+    0x21, 4, 0, 0, 0, 0, 0, 0, 0,          /* rights: name 2 */
+    0x32, 1, 0x32, 0, 0x39, 1, 0,          /* expressions 0 to 2: the key, the cell, what it holds */
+    0x30, 5, 0, 0, 0,                      /* expression 3: 5 */
+    0x40, 0, 0, 2, 0, 3, 0, 0, 0, 0xFF,    /* expression 4: 2 if key 0 is enabled, else 3; type 0 */
+};
+
 static void asks(void)
 {
-    static const uint8_t asking[] = {
-        0x01, 1, 0x10, 0, 0x12, 2, 0, 0,       /* name 2; type 0: number; type 1: cell with key 2 */
-        0x14, 0, 2,                            /* type 2: limit key of name 2 */
-        0x20, 1, 0, 7, 0, 0, 0,                /* variable 0: the cell */
-        0x20, 2, 0, 0, 0, 0, 0,                /* variable 1: the limit key */
-        0x21, 4, 0, 0, 0, 0, 0, 0, 0,          /* rights: name 2 */
-        0x32, 1, 0x32, 0, 0x39, 1, 0,          /* expressions 0 to 2: the key, the cell, what it holds */
-        0x30, 5, 0, 0, 0,                      /* expression 3: 5 */
-        0x40, 0, 0, 2, 0, 3, 0, 0, 0, 0xFF,    /* expression 4: 2 if key 0 is enabled, else 3; type 0 */
-    };
     const uint64_t calls[] = { JOBDESK_RUN(100000) };
     uint64_t answers[2], value[JOBDESK_VALUE], cells[JOBDESK_CELLS], out[JOBDESK_OUT];
     uint8_t job[sizeof asking];
@@ -460,6 +461,79 @@ static void short_reads(void)
     }
 }
 
+/* The text for a job: what is wanted, how many bytes that has, the place, and nothing past it. */
+static void same_sheet(const char *what, const uint8_t *job, size_t length, const char *wanted,
+                       uint64_t number, uint64_t place)
+{
+    uint8_t text[JOBDESK_SHEET_BYTES + 1];
+    uint64_t out[JOBDESK_OUT] = { 99, 99 };
+    size_t bytes = strlen(wanted);
+    memset(text, 0xA5, sizeof text);
+    same(what, jobdesk_sheet(job, length, text, sizeof text, out, JOBDESK_OUT), number);
+    same(what, out[0], bytes);
+    same(what, out[1], place);
+    same(what, (uint64_t)(memcmp(text, wanted, bytes) == 0), 1);
+    for (size_t i = bytes; i < sizeof text; i++)
+        same(what, text[i], 0xA5);
+}
+
+/* A name below one of the effect, a local name, two cells of one name, a cell of another, and one
+ * without a key. */
+static void sheets(void)
+{
+    static const uint8_t tree[] = {
+        0x01, 1, 0x02, 1, 0x01, 2, 0x01, 2,    /* host name 2, local name 3, host names 4 and 5 below 2 */
+        0x10, 0, 0x12, 0, 0, 0,                /* type 0: number; type 1: cell without a key */
+        0x12, 2, 0, 0, 0x12, 4, 0, 0,          /* types 2 and 3: cells with keys 2 and 4 */
+        0x14, 5, 4,                            /* type 4: limit key of name 4, with key 5 */
+        0x20, 2, 0, 7, 0, 0, 0,                /* variable 0, a cell of name 2 */
+        0x20, 3, 0, 7, 0, 0, 0,                /* variables 1 and 2, cells of name 4 */
+        0x20, 3, 0, 7, 0, 0, 0,
+        0x20, 1, 0, 7, 0, 0, 0,                /* variable 3, a cell without a key */
+        0x20, 4, 0, 0, 0, 0, 0,                /* variable 4, a limit key: not counted */
+        0x21, 4, 0, 0, 0, 0, 0, 0, 0,          /* rights: name 2 */
+        0x32, 1, 0x39, 0, 0, 0xFF,             /* what variable 1 holds */
+    };
+    same_sheet("sheet", example, sizeof example, " 2  1 yes   1\n", JOBDESK_OK, 0);
+    same_sheet("sheet of a tree", tree, sizeof tree,
+               " 2  1 no    1\n 4  2 yes   2\n 5  2 no    0\n", JOBDESK_OK, 0);
+    /* The rights lend the key that it asks for, so the cell is read. */
+    same_sheet("sheet, asking", asking, sizeof asking, " 2  1 no    1\n", JOBDESK_OK, 0);
+}
+
+static void sheets_without_lines(void)
+{
+    static const uint8_t bare[] = { 0x21, 0, 0, 0, 0, 0, 0, 0, 0, 0x31, 0xFF };
+    uint8_t job[sizeof example];
+    memcpy(job, example, sizeof example);
+    job[RIGHTS] = 0;
+    same_sheet("sheet, no host names", bare, sizeof bare, "", JOBDESK_OK, 0);
+    same_sheet("sheet, no rights", job, sizeof job, "refused 14 at 1\n", JOBDESK_BEYOND_RIGHTS, 1);
+    same_sheet("sheet, no end", job, sizeof job - 1, "refused 4 at 29\n", JOBDESK_CUT_OFF, 29);
+    same_sheet("sheet, no bytes", job, 0, "refused 4 at 0\n", JOBDESK_CUT_OFF, 0);
+}
+
+/* The text one byte too short: 1, and nothing is written. `out` gets no more entries than it has. */
+static void short_sheets(void)
+{
+    uint8_t text[JOBDESK_SHEET_BYTES];
+    uint64_t out[JOBDESK_OUT] = { 99, 99 };
+    memset(text, 0xA5, sizeof text);
+    same("short sheet", jobdesk_sheet(example, sizeof example, text, sizeof text - 1, out, JOBDESK_OUT),
+         JOBDESK_SHORT_TABLE);
+    same("short sheet, out", out[0] | out[1], 0);
+    same("short sheet, refused", jobdesk_sheet(example, 0, text, 0, out, JOBDESK_OUT), JOBDESK_SHORT_TABLE);
+    for (size_t i = 0; i < sizeof text; i++)
+        same("short sheet, nothing written", text[i], 0xA5);
+    out[0] = out[1] = 99;
+    same("sheet, one word", jobdesk_sheet(example, sizeof example, text, sizeof text, out, 1), JOBDESK_OK);
+    same("sheet, one word, bytes", out[0], 14);
+    same("sheet, one word, no other", out[1], 99);
+    out[0] = 99;
+    same("sheet, no word", jobdesk_sheet(example, 0, text, sizeof text, out, 0), JOBDESK_CUT_OFF);
+    same("sheet, no word, nothing told", out[0] & out[1], 99);
+}
+
 int main(void)
 {
     accepted();
@@ -479,6 +553,9 @@ int main(void)
     writes_refused();
     short_writes();
     short_reads();
+    sheets();
+    sheets_without_lines();
+    short_sheets();
     printf("jobdesk.h: %d differences\n", differences);
     return differences > 0;
 }

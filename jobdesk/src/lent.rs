@@ -81,6 +81,11 @@ unsafe extern "C" {
         buffer: *mut u8, buffer_length: usize,
         out: *mut u64, out_length: usize,
     ) -> u64;
+    fn jobdesk_sheet(
+        job: *const u8, job_length: usize,
+        text: *mut u8, text_length: usize,
+        out: *mut u64, out_length: usize,
+    ) -> u64;
 }
 
 /// Calls one of them with a job, the tables that hold it, and its own slices, each the pair of a
@@ -190,6 +195,24 @@ pub fn write(held: Held, counts: &[u64], buffer: &mut [u8], out: &mut [u64; 1]) 
             slots.as_ptr(), slots.len(),
             counts.as_ptr(), counts.len(),
             buffer.as_mut_ptr(), buffer.len(),
+            out.as_mut_ptr(), out.len(),
+        )
+    };
+    number
+}
+
+/// The sheet of a job, written to the start of `text`. 0: it is accepted, and `out` has how many bytes
+/// the sheet has, and 0. 2 to 14: it is refused, `text` has the desk program's line, and `out` how many
+/// bytes that has, and the place. 1: `text` has fewer than 868 bytes, no byte is written, and `out` has
+/// two zeros. Where `out` has fewer than two words, it gets those that it has.
+pub fn sheet(job: &[u8], text: &mut [u8], out: &mut [u64]) -> u64 {
+    // SAFETY: every pointer goes with the length of the slice that it was taken from. The two that
+    // are written to come from `&mut`, so they overlap nothing else.
+    #[rustfmt::skip]
+    let number = unsafe {
+        jobdesk_sheet(
+            job.as_ptr(), job.len(),
+            text.as_mut_ptr(), text.len(),
             out.as_mut_ptr(), out.len(),
         )
     };

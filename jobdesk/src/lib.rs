@@ -39,6 +39,8 @@
 //! assert_eq!(buffer[..length], job[..]);
 //! # Ok::<(), jobdesk::Refusal>(())
 //! ```
+//!
+//! [`sheet()`] gives the page for the wall file: a line for each host name.
 #![deny(unsafe_code)]
 #![warn(missing_docs)]
 
@@ -46,9 +48,11 @@ mod calls;
 mod counts;
 pub mod lent;
 mod refusal;
+mod sheet;
 mod tables;
 
 pub use calls::{Answer, Answered, Call, Ran, Rooms};
 pub use counts::Counts;
 pub use refusal::{Place, Refusal};
+pub use sheet::{SHEET_BYTES, Sheet, sheet};
 pub use tables::{Accepted, BYTES, Kind, LENGTHS, Session, Tables, Value};

@@ -7,7 +7,8 @@ use std::fmt;
 /// Why and where a job is refused, or tables that are to be written as one.
 #[derive(Clone, Copy, Debug, PartialEq, Eq, Hash)]
 pub struct Refusal {
-    /// 1 to 15. A start gives only 1 to 10, reading 1 to 7, and writing 1, 2, 3, 5, 6 and 15.
+    /// 1 to 15. A start gives only 1 to 10, reading 1 to 7, writing 1, 2, 3, 5, 6 and 15, and a sheet
+    /// 2 to 14.
     pub number: u8,
     /// What it means is told by [`Refusal::at`].
     pub place: usize,
@@ -25,6 +26,11 @@ pub enum Place {
 }
 
 impl Refusal {
+    /// What two words of the library say.
+    pub(crate) fn of(number: u64, place: u64) -> Refusal {
+        Refusal { number: number as u8, place: place as usize }
+    }
+
     /// What the refusal points at.
     pub fn at(&self) -> Place {
         match self.number {

@@ -66,7 +66,7 @@ impl Tables {
         let lent = Lent { names, types, sets, values, heads, slots };
         match lent::check(job, lent, entries, effects, &mut out) {
             0 => Ok(Accepted { tables: self, entry: out[0] as u16, effect: out[1] }),
-            number => Err(refusal(number, out[0])),
+            number => Err(Refusal::of(number, out[0])),
         }
     }
 
@@ -105,7 +105,7 @@ impl Tables {
                 value: Value::of(value),
                 cells: cells.as_chunks().0.iter().map_while(|&words| Value::of(words)).collect(),
             }),
-            number => Err(refusal(number, out[0])),
+            number => Err(Refusal::of(number, out[0])),
         }
     }
 
@@ -152,7 +152,7 @@ impl Tables {
         let lent = Lent { names, types, sets, values, heads, slots };
         match lent::run(job, lent, calls, answers, &mut rooms) {
             0 => Ok(rooms.into()),
-            number => Err(refusal(number, rooms[0])),
+            number => Err(Refusal::of(number, rooms[0])),
         }
     }
 
@@ -173,7 +173,7 @@ impl Tables {
         let lent = Lent { names, types, sets, values, heads, slots };
         match lent::read(job, lent, &mut counts) {
             0 => Ok(Counts::of(counts)),
-            number => Err(refusal(number, counts[0])),
+            number => Err(Refusal::of(number, counts[0])),
         }
     }
 
@@ -206,13 +206,9 @@ impl Tables {
         let held = Held { names, types, sets, values, heads, slots };
         match lent::write(held, &counts.words(), buffer, &mut out) {
             0 => Ok(out[0] as usize),
-            number => Err(refusal(number, out[0])),
+            number => Err(Refusal::of(number, out[0])),
         }
     }
-}
-
-fn refusal(number: u64, place: u64) -> Refusal {
-    Refusal { number: number as u8, place: place as usize }
 }
 
 /// The kinds of types and of values.

@@ -3,7 +3,7 @@
 use std::error::Error;
 
 use jobdesk::{Answer, Answered, BYTES, Call, Counts, Kind, LENGTHS};
-use jobdesk::{Place, Refusal, Rooms, Tables, Value};
+use jobdesk::{Place, Refusal, Rooms, SHEET_BYTES, Tables, Value};
 
 /// The read of a host cell that holds 7 and whose key is name 2, with some rights.
 fn example(rights: u8) -> Vec<u8> {
@@ -205,6 +205,7 @@ fn numbers_of_the_header() {
     assert_eq!(answers.map(defined), Answer::ALL.map(|answer| answer.number() as usize));
     assert_eq!(["OUT", "ROOMS", "ANSWER", "VALUE", "CELLS"].map(defined), [2, 6, 2, 2, 512]);
     assert_eq!(["COUNTS", "BYTES", "SHORT_BUFFER"].map(defined), [5, BYTES, 15]);
+    assert_eq!(defined("SHEET_BYTES"), SHEET_BYTES);
     let kinds = ["NUMBER", "PAIR", "CELL", "FUNCTION", "LIMIT", "GRANT"];
     assert_eq!(kinds.map(defined), Kind::ALL.map(|kind| kind as usize + 1));
 }
