@@ -1,7 +1,7 @@
 //! The jobs that are measured. Each is accepted.
 
 use second::bytes_of;
-use second::generate::{example, heavy, ladder};
+use second::generate::{example, heavy, ladder, largest};
 use second::job::{Expr, HostValue, Job, Shape, Type, UNUSED};
 use second::names::Names;
 
@@ -81,20 +81,4 @@ fn turn(exprs: &mut Vec<Expr>, turn: u8, function: u16, sum: u16) -> u16 {
     let tested = add(Expr::Test(part, yes, no, 0));
     let one = add(Expr::Number(1));
     add(Expr::Difference(tested, one))
-}
-
-/// Every section full of the longest commands that can stand there together.
-fn largest() -> Job {
-    let names = chain(62);
-    let mut types = vec![Type::unkeyed(Shape::Number), Type::unkeyed(Shape::Cell(0))];
-    for ty in 0..254u64 {
-        let key = (ty % 64) as u8;
-        types.push(Type { key, shape: Shape::Function(0, 1, 1 << (1 + ty % 63)) });
-    }
-    let hosts = vec![HostValue { ty: 1, number: 7 }; 64];
-    let mut exprs = vec![Expr::Number(9)];
-    for body in 0..511 {
-        exprs.push(Expr::Limit(0, [UNUSED; 4], body));
-    }
-    Job { names, types, hosts, rights: 2, exprs, ..Job::default() }
 }

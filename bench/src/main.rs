@@ -1,7 +1,7 @@
 //! Measures the proved code beside the second implementation.
 //!
-//! `bench check JOB WHO [TIMES]`, the same with `read` or `write`, `bench start WHO [TIMES]` and
-//! `bench run WHO [TIMES]` do one thing so many times, for a tool that counts instructions. `bench
+//! `bench check JOB WHO [TIMES]`, the same with `read`, `write` or `sheet`, `bench start WHO [TIMES]`
+//! and `bench run WHO [TIMES]` do one thing so many times, for a tool that counts instructions. `bench
 //! times` prints a line for each thing: its name, the job's bytes, and the nanoseconds of the proved
 //! code and of the second.
 #![forbid(unsafe_code)]
@@ -12,7 +12,7 @@ use std::hint::black_box;
 use std::process::ExitCode;
 use std::time::Instant;
 
-use jobdesk::{BYTES, Call, Counts, Tables};
+use jobdesk::{BYTES, Call, Counts, Tables, lent};
 use second::{Fields, Machine};
 
 /// The steps of a run.
@@ -31,6 +31,8 @@ enum What {
     Read,
     /// The same job from tables into a buffer.
     Write,
+    /// The sheet of a job into a buffer.
+    Sheet,
     /// A start and a run of so many steps; a start alone makes no call.
     Run(u64),
 }
@@ -40,7 +42,8 @@ struct Work {
     what: What,
     job: Vec<u8>,
     tables: Tables,
-    /// What writing takes beside the tables, and the tables of the second implementation.
+    /// What writing takes beside the tables, and the tables of the second implementation. The buffer
+    /// is lent for sheets too.
     counts: Counts,
     buffer: Vec<u8>,
     fields: Fields,
@@ -56,7 +59,7 @@ impl Work {
     }
 
     /// Does it once. The result is the same for both: a refusal's number, and the steps taken or the
-    /// bytes written.
+    /// bytes written, those of a sheet too.
     fn once(&mut self, who: Who) -> (u64, u64) {
         match who {
             Who::Proved => self.once_proved(),
@@ -77,6 +80,7 @@ impl Work {
                 black_box(&self.buffer);
                 written.map(|length| length as u64)
             }
+            What::Sheet => return self.once_sheet(),
             What::Run(steps) => {
                 let mut answers = [0; 2];
                 let count = (steps > 0) as usize;
@@ -86,6 +90,13 @@ impl Work {
             }
         };
         told.map_or_else(|refusal| (refusal.number.into(), 0), |told| (0, told))
+    }
+
+    fn once_sheet(&mut self) -> (u64, u64) {
+        let mut out = [0; 2];
+        let number = lent::sheet(black_box(&self.job), &mut self.buffer, &mut out);
+        black_box(&self.buffer);
+        (number, out[0])
     }
 
     /// Tables are part of the result.
@@ -98,6 +109,7 @@ impl Work {
                 let written = black_box(second::write(black_box(&self.fields), BYTES));
                 written.map(|bytes| bytes.len() as u64)
             }
+            What::Sheet => Ok(black_box(second::sheet(job)).len() as u64),
             What::Run(steps) => Machine::start(job).map(|mut machine| {
                 let taken = if steps > 0 { machine.run(steps).1 } else { 0 };
                 black_box(&machine);
@@ -107,9 +119,13 @@ impl Work {
         told.map_or_else(|refusal| (refusal.number.into(), 0), |told| (0, told))
     }
 
-    /// Whether a job that is written is the one that was read.
+    /// Whether a job that is written is the one that was read, and a sheet is the second's.
     fn is_same(&self) -> bool {
-        !matches!(self.what, What::Write) || self.buffer.starts_with(&self.job)
+        match self.what {
+            What::Write => self.buffer.starts_with(&self.job),
+            What::Sheet => self.buffer.starts_with(second::sheet(&self.job).as_bytes()),
+            _ => true,
+        }
     }
 
     /// The least time of one in nanoseconds, proved and second in turn.
@@ -142,6 +158,7 @@ fn work(name: &[&str]) -> Option<Work> {
         ["check", job] => Work::new(What::Check, jobs::job(job)?),
         ["read", job] => Work::new(What::Read, jobs::job(job)?),
         ["write", job] => Work::new(What::Write, jobs::job(job)?),
+        ["sheet", job] => Work::new(What::Sheet, jobs::job(job)?),
         ["start"] => Work::new(What::Run(0), jobs::job("loop")?),
         ["run"] => Work::new(What::Run(STEPS), jobs::job("loop")?),
         _ => return None,
@@ -149,7 +166,7 @@ fn work(name: &[&str]) -> Option<Work> {
 }
 
 /// Every thing that is measured.
-const ALL: [&[&str]; 12] = [
+const ALL: [&[&str]; 13] = [
     &["check", "small"],
     &["check", "medium"],
     &["check", "largest"],
@@ -160,6 +177,7 @@ const ALL: [&[&str]; 12] = [
     &["write", "small"],
     &["write", "medium"],
     &["write", "largest"],
+    &["sheet", "medium"],
     &["start"],
     &["run"],
 ];
@@ -198,7 +216,7 @@ fn main() -> ExitCode {
     };
     let (Some(who), Some(mut work)) = (who, work(&words)) else {
         eprintln!(
-            "usage: bench times | bench check|read|write JOB WHO [TIMES] | \
+            "usage: bench times | bench check|read|write|sheet JOB WHO [TIMES] | \
              bench start|run WHO [TIMES]\n\
              JOB is small, medium, largest or ladder; WHO is proved or second"
         );

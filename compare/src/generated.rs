@@ -13,6 +13,7 @@ use second::observe::{acts, refused_at, wanted_of_acts};
 use second::{Job, Machine, Refusal, check, read, to_hex, tree};
 
 use crate::sessions::{END, compare_session};
+use crate::sheets::{self, compare_sheet};
 use crate::writing::{self, compare_back, compare_checked, compare_tables};
 
 /// The steps that a job is mostly run for, and sometimes.
@@ -94,6 +95,7 @@ fn wanted() -> Vec<String> {
     }
     wanted.extend(wanted_of_acts());
     wanted.extend(writing::wanted());
+    wanted.extend(sheets::wanted());
     wanted
 }
 
@@ -104,6 +106,7 @@ fn compare_job(job: &[u8], rng: &mut Rng, met: &mut Met) -> Result<Option<Vec<u8
         compare_short(job, rng, met)?;
     }
     compare_back(job, rng, met)?;
+    compare_sheet(job, rng, met)?;
     compare_run(job, accepted, rng, met)
 }
 

@@ -1,11 +1,12 @@
 //! Compares the proved code with the second implementation on generated jobs and tables.
 //!
-//! `compare [COUNT] [SEED]` compares verdicts, tables, answers, rooms and what is written; it fails on
-//! the first difference, and if a refusal, an answer or a kind of room was not met.
+//! `compare [COUNT] [SEED]` compares verdicts, tables, answers, rooms, what is written, and sheets; it
+//! fails on the first difference, and if a refusal, an answer or a kind of room was not met.
 #![forbid(unsafe_code)]
 
 mod generated;
 mod sessions;
+mod sheets;
 mod writing;
 
 use std::process::ExitCode;

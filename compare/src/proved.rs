@@ -112,6 +112,12 @@ pub fn write(tables: &Tables, counts: &[u64], buffer: &mut [u8]) -> (u64, u64) {
     (lent::write(tables.hold(), counts, buffer, &mut out), out[0])
 }
 
+/// The sheet of a job, into `text`: 0 or a refusal's number; `out` has its length and the place, as far
+/// as it has words.
+pub fn sheet(job: &[u8], text: &mut [u8], out: &mut [u64]) -> u64 {
+    lent::sheet(job, text, out)
+}
+
 /// Checks a job: 0 or a refusal's number, and the two words of `out`.
 pub fn check(job: &[u8], tables: &mut Tables) -> (u64, [u64; 2]) {
     let mut out = [0xDEAD; 2];

@@ -7,7 +7,7 @@ use std::path::{Path, PathBuf};
 use std::{env, fs};
 
 /// The files of edits, each named after the file that its edits change unless they say another.
-const PARTS: [&str; 5] = ["read", "tree", "check", "machine", "write"];
+const PARTS: [&str; 6] = ["read", "tree", "check", "machine", "write", "sheet"];
 
 /// A text to be put in place of another.
 #[derive(Default)]
@@ -124,9 +124,18 @@ fn write_modules(number: u32, made: &BTreeMap<String, String>, out: &Path, modul
 /// The entry of a fault in the list.
 fn write_entry(fault: &Fault, made: &BTreeMap<String, String>, list: &mut String) {
     let Fault { number, text, wide, .. } = fault;
-    let writes = made.contains_key("write");
-    write!(list, "    Fault {{ number: {number}, text: {text:?}, writes: {writes}, wide: {wide}, ")
-        .unwrap();
+    let told = if made.contains_key("write") {
+        "Tables"
+    } else if made.contains_key("sheet") {
+        "Sheets"
+    } else {
+        "Jobs"
+    };
+    write!(
+        list,
+        "    Fault {{ number: {number}, text: {text:?}, told: Told::{told}, wide: {wide}, "
+    )
+    .unwrap();
     list.push_str("parts: Parts { ");
     let parts = [
         ("read", "read"),
@@ -134,6 +143,7 @@ fn write_entry(fault: &Fault, made: &BTreeMap<String, String>, list: &mut String
         ("check", "check_job"),
         ("machine", "runs"),
         ("write", "write"),
+        ("sheet", "sheet"),
     ];
     for (name, function) in parts {
         let part = if name == "machine" { "run" } else { name };

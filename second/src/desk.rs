@@ -1,7 +1,7 @@
 //! The desk: what is printed for a job.
 
 use crate::check::check;
-use crate::job::Kind;
+use crate::job::{Kind, Refusal};
 use crate::machine::{Machine, Outcome};
 
 /// How much of the input the desk reads.
@@ -13,7 +13,7 @@ pub const STEPS: u64 = 100_000;
 pub fn desk(job: &[u8]) -> String {
     let verdict = check(job).and_then(|accepted| Ok((accepted, Machine::start(job)?)));
     match verdict {
-        Err(refusal) => format!("refused {} at {}\n", refusal.number, refusal.place),
+        Err(refusal) => refused(refusal),
         Ok((accepted, mut machine)) => format!(
             "accepted {:016x} {}\n{}\n",
             accepted.effect,
@@ -21,6 +21,11 @@ pub fn desk(job: &[u8]) -> String {
             run_line(&mut machine)
         ),
     }
+}
+
+/// The line of a refused job, with its line end.
+pub fn refused(Refusal { number, place }: Refusal) -> String {
+    format!("refused {number} at {place}\n")
 }
 
 fn run_line(machine: &mut Machine) -> String {

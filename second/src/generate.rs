@@ -2,6 +2,7 @@
 
 mod build;
 mod damage;
+mod hosts;
 mod limits;
 mod looks;
 mod tables;
@@ -57,12 +58,20 @@ pub enum Source {
     Damaged,
     /// Looks at keys, with something around them and in their branches.
     Looks,
+    /// Many host names and host values, some of them used.
+    Hosts,
     /// Near one of the limits.
     Limits,
 }
 
 /// The job of a seed.
 pub fn job(seed: u64) -> (Source, Vec<u8>) {
+    let mut rng = Rng::new(seed ^ 1 << 63);
+    if rng.chance(2) { (Source::Hosts, hosts::job(&mut rng)) } else { desk_job(seed) }
+}
+
+/// The same from all other sources: many host names and values show nothing more at the desk.
+pub fn desk_job(seed: u64) -> (Source, Vec<u8>) {
     let mut rng = Rng::new(seed);
     let rng = &mut rng;
     match rng.below(100) {
@@ -109,5 +118,5 @@ pub fn looped(rng: &mut Rng) -> Job {
     build::job(rng, true)
 }
 
-pub use limits::{heavy, ladder, tower};
+pub use limits::{heavy, ladder, largest, tower};
 pub use tables::{COMMANDS, MOST, Writing, commands, room, tables};

@@ -8,6 +8,7 @@ use crate::fields::Fields;
 use crate::job::{Expr, Job, Refusal};
 use crate::machine::{Machine, runs};
 use crate::read::read;
+use crate::sheet::sheet;
 use crate::tree::tree;
 use crate::value::{Answer, Outcome, Rooms, Value};
 use crate::verdict::Accepted;
@@ -48,11 +49,13 @@ pub struct Parts {
     pub run: fn(&Job, &[u64]) -> Vec<Ran>,
     /// The bytes of tables, with room for so many; refusals 2, 3, 5, 6 and 15.
     pub write: fn(&Fields, usize) -> Result<Vec<u8>, Refusal>,
+    /// What the sheet program prints for a job.
+    pub sheet: fn(&[u8]) -> String,
 }
 
 impl Parts {
     /// The parts of this crate.
-    pub const OWN: Parts = Parts { read, tree, check: check_job, run: runs, write };
+    pub const OWN: Parts = Parts { read, tree, check: check_job, run: runs, write, sheet };
 
     /// Checks a job and runs it for the given numbers of steps, one run after the other.
     pub fn observe(&self, job: &[u8], steps: &[u64]) -> Seen {

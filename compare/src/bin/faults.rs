@@ -14,8 +14,8 @@ use jobdesk::{Call, LENGTHS};
 use second::fields::TypeEntry;
 use second::generate::{Rng, Writing, job};
 use second::observe::{Ran, Seen, observe};
-use second::{Fields, Kind, Refusal, read, write};
-use second_faults::{ALL, Fault};
+use second::{Fields, Kind, Refusal, read, sheet, write};
+use second_faults::{ALL, Fault, Told};
 
 /// What is seen of a job on either side.
 #[derive(PartialEq, Eq)]
@@ -90,6 +90,8 @@ struct Case {
     job: Vec<u8>,
     steps: Vec<u64>,
     proved: Observed,
+    /// The sheet that the proved code gives.
+    sheet: String,
 }
 
 /// The jobs of a seed with its probes, and what the proved code does with them.
@@ -106,7 +108,8 @@ fn cases(seed: u64, tables: &mut Tables, cases: &mut Vec<Case>) {
         next = result.and_then(|value| probe(&read(&job).ok()?, value, &mut rng));
         let steps = vec![0, taken / 2, taken - taken / 2, 0, 3];
         let proved = proved(&job, &steps, tables);
-        cases.push(Case { job, steps, proved });
+        let sheet = jobdesk::sheet(&job).text().to_string();
+        cases.push(Case { job, steps, proved, sheet });
     }
 }
 
@@ -162,7 +165,9 @@ impl Cases {
 
     /// A difference without a fault, in words.
     fn difference(&self) -> Option<String> {
-        let differs_at = |case: &&Case| differs(case, observe(&case.job, &case.steps));
+        let differs_at = |case: &&Case| {
+            differs(case, observe(&case.job, &case.steps)) || sheet(&case.job) != case.sheet
+        };
         let job = self.jobs.iter().find(differs_at);
         let tables = self.tables.iter().find(|case| case.differs(write));
         job.map(|case| format!("job: {}", second::to_hex(&case.job)))
@@ -171,13 +176,16 @@ impl Cases {
 
     /// What catches a fault, in words.
     fn catches(&self, fault: &Fault) -> Option<String> {
-        if fault.writes {
+        if fault.told == Told::Tables {
             let mut tables = self.tables.iter();
             let case =
                 tables.find(|case| case.differs(|fields, room| fault.write(fields, room)))?;
             return Some(format!("tables of seed {}", case.seed));
         }
-        let differs_at = |case: &&Case| differs(case, fault.observe(&case.job, &case.steps));
+        let differs_at = |case: &&Case| match fault.told {
+            Told::Sheets => fault.sheet(&case.job) != case.sheet,
+            _ => differs(case, fault.observe(&case.job, &case.steps)),
+        };
         let case = self.jobs.iter().find(differs_at)?;
         Some(format!("{:5} bytes", case.job.len()))
     }

@@ -6,7 +6,7 @@
 use std::collections::HashMap;
 use std::process::ExitCode;
 
-use second::generate::{example, job};
+use second::generate::{desk_job, example};
 use second::observe::{acts, refused_at};
 use second::{Machine, Outcome, check, desk, read};
 
@@ -84,7 +84,7 @@ type Shown = (Vec<u8>, Vec<String>);
 
 /// The generated jobs, the shortest first, each once.
 fn jobs() -> Vec<Shown> {
-    let mut jobs: Vec<Vec<u8>> = SEEDS.map(|seed| job(seed).1).collect();
+    let mut jobs: Vec<Vec<u8>> = SEEDS.map(|seed| desk_job(seed).1).collect();
     jobs.sort_by(|a, b| (a.len(), a).cmp(&(b.len(), b)));
     jobs.dedup();
     let shown = |job: Vec<u8>| {

@@ -1,4 +1,5 @@
-//! Single faults in the reader, the checker, the machine and the writer of the second implementation.
+//! Single faults in the reader, the checker, the machine, the writer and the sheet of the second
+//! implementation.
 //!
 //! A fault is a small edit of the source (`edits/`). The build makes a copy of each file that a
 //! fault changes, with the change, and puts it in place of the part that it is a copy of. So the
@@ -9,6 +10,17 @@
 use second::observe::{Parts, Seen};
 use second::{Fields, Refusal};
 
+/// What tells a fault from the faultless implementation.
+#[derive(Clone, Copy, Debug, PartialEq, Eq)]
+pub enum Told {
+    /// What is seen of jobs.
+    Jobs,
+    /// What is written of tables.
+    Tables,
+    /// The sheets of jobs.
+    Sheets,
+}
+
 /// A fault, and the parts that a job goes through with it.
 #[derive(Clone, Copy)]
 pub struct Fault {
@@ -16,8 +28,8 @@ pub struct Fault {
     pub number: u32,
     /// What it is.
     pub text: &'static str,
-    /// Whether it is in the writer: then tables tell it, else jobs.
-    pub writes: bool,
+    /// What tells it.
+    pub told: Told,
     /// Whether only a field that holds more than the proved code's words have room for tells it.
     pub wide: bool,
     parts: Parts,
@@ -32,6 +44,11 @@ impl Fault {
     /// What writing tables gives with the fault.
     pub fn write(&self, fields: &Fields, room: usize) -> Result<Vec<u8>, Refusal> {
         (self.parts.write)(fields, room)
+    }
+
+    /// The sheet of a job with the fault.
+    pub fn sheet(&self, job: &[u8]) -> String {
+        (self.parts.sheet)(job)
     }
 }
 

@@ -1,16 +1,16 @@
-//! Compares the desk, the machine and writing with files of cases.
+//! Compares the desk, the machine, writing and the sheet with files of cases.
 //!
 //! `cases desk FILE`: job in hexadecimal, tab, the desk's lines joined by ` | `.
 //! `cases machine FILE`: job, tab, steps asked for, tab, the run's words and the rooms in use.
-//! `cases queries FILE`: job, tab, query, tab, answer. A query is `desk`, `machine STEPS`, or `back`
-//! or `back ROOM`: the job read and written back, with room enough or for so many bytes, is the same
-//! or refused. Other queries are passed over.
+//! `cases queries FILE`: job, tab, query, tab, answer. A query is `desk`, `machine STEPS`,
+//! `sheet`, or `back` or `back ROOM`: the job read and written back, with room enough or for so many
+//! bytes, is the same or refused. Other queries are passed over.
 #![forbid(unsafe_code)]
 
 use std::process::ExitCode;
 
 use second::observe::Ran;
-use second::{Fields, Machine, Refusal, desk, from_hex, read, write};
+use second::{Fields, Machine, Refusal, desk, from_hex, read, sheet, write};
 
 /// What a line of a file comes to.
 enum Line {
@@ -20,8 +20,9 @@ enum Line {
     NoCase,
 }
 
-fn desk_answer(job: &[u8]) -> String {
-    desk(job).lines().collect::<Vec<_>>().join(" | ")
+/// Printed lines, joined as in a file.
+fn joined(printed: &str) -> String {
+    printed.lines().collect::<Vec<_>>().join(" | ")
 }
 
 fn machine_answer(job: &[u8], steps: u64) -> String {
@@ -50,7 +51,8 @@ fn refused(Refusal { number, place }: Refusal) -> String {
 fn answer(job: &[u8], query: &str) -> Option<String> {
     let (word, number) = query.split_once(' ').unwrap_or((query, ""));
     match word {
-        "desk" => Some(desk_answer(job)),
+        "desk" => Some(joined(&desk(job))),
+        "sheet" => Some(joined(&sheet(job))),
         "machine" => Some(machine_answer(job, number.parse().ok()?)),
         "back" if number.is_empty() => Some(back_answer(job, usize::MAX)),
         "back" => Some(back_answer(job, number.parse().ok()?)),

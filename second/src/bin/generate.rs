@@ -1,8 +1,9 @@
 //! Generates jobs and says what they reach.
 //!
-//! `generate [COUNT] [SEED]` prints how often each refusal, outcome and kind of room is reached;
-//! it fails if one is not; so for the reasons for which generated tables are not written. `generate COUNT SEED desk` prints each job and the desk's lines instead,
-//! and `generate COUNT SEED machine STEPS` each job that starts and its run.
+//! `generate [COUNT] [SEED]` prints how often each refusal, outcome and kind of room is reached, and
+//! what sheets show; it fails if one is not; so for the reasons for which generated tables are not
+//! written. `generate COUNT SEED desk` prints each job and the desk's lines instead, and `generate
+//! COUNT SEED machine STEPS` each job that starts and its run.
 #![forbid(unsafe_code)]
 
 use std::collections::{BTreeMap, BTreeSet};
@@ -10,7 +11,7 @@ use std::process::ExitCode;
 
 use second::generate::{job, tables};
 use second::observe::{acts, observe, refused_at, wanted_of_acts};
-use second::{Expr, Outcome, desk, read, to_hex, tree, write, written};
+use second::{Expr, Outcome, desk, read, shown, to_hex, tree, write, written};
 
 /// How often each thing was reached.
 type Reached = BTreeMap<String, u64>;
@@ -41,6 +42,7 @@ fn reach(seed: u64, reached: &mut Reached) {
         kinds.into_iter().for_each(|kind| reach(format!("accepted with type {kind}")));
     }
     reach_acts(&job, seen.verdict.is_ok(), &mut reach);
+    shown::words(&job).into_iter().for_each(&mut reach);
     for run in seen.runs.iter().flatten() {
         let accepted = if seen.verdict.is_ok() { "accepted" } else { "refused" };
         reach(format!("outcome of {accepted} {}", run.outcome.words()));
@@ -80,6 +82,7 @@ fn wanted() -> Vec<String> {
             .map(|room| format!("no room in {room} alone")),
     );
     wanted.extend(wanted_of_acts());
+    wanted.extend(shown::wanted());
     wanted.extend(written::wanted(|_, _| true, true));
     wanted
 }

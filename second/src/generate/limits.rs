@@ -336,6 +336,25 @@ fn full(rng: &mut Rng) -> Vec<u8> {
     bytes_of(&Job { names, types, hosts, rights, exprs, ..Job::default() })
 }
 
+/// Every section full of the longest commands that can stand there together.
+pub fn largest() -> Job {
+    let mut names = Names::default();
+    while !names.is_full() {
+        names.declare(names.count() as u8 - 1, true);
+    }
+    let mut types = vec![number(0), Type::unkeyed(Shape::Cell(0))];
+    for ty in 0..TYPES as u64 - 2 {
+        let key = (ty % 64) as u8;
+        types.push(Type { key, shape: Shape::Function(0, 1, 1 << (1 + ty % 63)) });
+    }
+    let hosts = vec![HostValue { ty: 1, number: 7 }; VARIABLES];
+    let mut exprs = vec![Expr::Number(9)];
+    for body in 0..EXPRESSIONS as u16 - 1 {
+        exprs.push(Expr::Limit(0, [UNUSED; 4], body));
+    }
+    Job { names, types, hosts, rights: 2, exprs, ..Job::default() }
+}
+
 /// As many expressions as there may be, or nearly, that use host values.
 fn full_of_uses(rng: &mut Rng, types: &[Type], hosts: &[HostValue]) -> Vec<Expr> {
     let mut e = Exprs(Vec::new());
