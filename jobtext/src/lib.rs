@@ -1,4 +1,5 @@
-//! Jobs as text: `assemble` text to bytes, `dump` bytes to text, `explain` the verdict in words.
+//! Jobs as text: `assemble` text to bytes, `dump` bytes to text, `explain` the verdict in words, `sheet`
+//! the page for the wall file.
 
 #![forbid(unsafe_code)]
 
@@ -15,6 +16,7 @@ pub mod opens;
 pub mod parse;
 pub mod problem;
 pub mod scope;
+pub mod sheet;
 pub mod subtype;
 pub mod symbols;
 pub mod typing;
@@ -24,6 +26,7 @@ pub mod words;
 pub use assemble::{Assembled, assemble};
 pub use dump::dump;
 pub use explain::{Explained, explain};
+pub use sheet::sheet;
 
 /// Whether a word is one of the language and so no symbol.
 pub fn reserved(word: &str) -> bool {

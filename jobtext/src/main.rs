@@ -10,7 +10,7 @@ use std::process::ExitCode;
 
 use jobtext::problem::Problem;
 use jobtext::symbols::Symbols;
-use jobtext::{assemble, dump, explain, hex};
+use jobtext::{assemble, dump, explain, hex, sheet};
 use options::{Action, HELP, Options, options};
 
 /// The text has mistakes, the bytes do not read, or the job is refused.
@@ -62,13 +62,16 @@ fn run(options: &Options) -> Result<u8, Failure> {
             Ok(if whole { 0 } else { FAULT })
         }
         Action::Explain | Action::Help => {
-            let (bytes, symbols) = match options.text {
-                true => from_text(options).map(|(bytes, symbols)| (bytes, Some(symbols)))?,
-                false => (from_bytes(options)?, None),
-            };
+            let (bytes, symbols) = from_either(options)?;
             let explained = explain(&bytes, symbols.as_ref(), options.all);
             put(options.output.as_deref(), explained.text.as_bytes())?;
             Ok(if explained.accepted { 0 } else { FAULT })
+        }
+        Action::Sheet => {
+            let (bytes, symbols) = from_either(options)?;
+            let (text, accepted) = sheet(&bytes, symbols.as_ref());
+            put(options.output.as_deref(), text.as_bytes())?;
+            Ok(if accepted { 0 } else { FAULT })
         }
     }
 }
@@ -122,6 +125,14 @@ fn from_bytes(options: &Options) -> Result<Vec<u8>, Failure> {
         return Err(Failure(USAGE, words.to_string()));
     }
     get(options)
+}
+
+/// The bytes of the input, and its symbols if it is text.
+fn from_either(options: &Options) -> Result<(Vec<u8>, Option<Symbols>), Failure> {
+    match options.text {
+        true => from_text(options).map(|(bytes, symbols)| (bytes, Some(symbols))),
+        false => Ok((from_bytes(options)?, None)),
+    }
 }
 
 /// The first problems, and how many there are beside them.

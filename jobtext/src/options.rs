@@ -8,18 +8,20 @@ jobtext: jobs as text
   jobtext dump [--hex] [--force] [-o FILE] [FILE]      bytes to text
   jobtext explain [--hex | --text] [--all] [--force] [-o FILE] [FILE]
                                                        the verdict in words
+  jobtext sheet [--hex | --text] [--force] [-o FILE] [FILE]
+                                                       a line for each host name, with its symbol
 
 Without FILE, or with -, the input is standard input. The output goes to standard output, or with
 -o to a file.
 
   --hex     the bytes are hexadecimal text, two digits each, with comments from # on
-  --text    explain: the input is text; its own symbols and lines are shown
+  --text    explain, sheet: the input is text; its own symbols and lines are shown
   --all     explain: the type and effect of each expression too
   --force   bytes may go to a terminal, or come from one
   --help    this page
 
-Status: 0 done (explain: accepted); 1 the text has mistakes, the bytes do not read whole, or the
-job is refused; 2 wrong words on the command line; 3 a file cannot be read or written.
+Status: 0 done (explain, sheet: accepted); 1 the text has mistakes, the bytes do not read whole, or
+the job is refused; 2 wrong words on the command line; 3 a file cannot be read or written.
 The text form is described in docs/JOBS.md.
 ";
 
@@ -29,6 +31,7 @@ pub enum Action {
     Asm,
     Dump,
     Explain,
+    Sheet,
     Help,
 }
 
@@ -64,7 +67,7 @@ pub fn options(words: &[String]) -> Result<Options, String> {
         match (word.as_str(), options.action) {
             ("--hex", _) => options.hex = true,
             ("--force", _) => options.force = true,
-            ("--text", Action::Explain) => options.text = true,
+            ("--text", Action::Explain | Action::Sheet) => options.text = true,
             ("--all", Action::Explain) => options.all = true,
             ("-o", _) => options.output = Some(rest.next().ok_or("-o needs a FILE")?.clone()),
             (other, _) if other.starts_with('-') && other != "-" => {
@@ -89,8 +92,9 @@ fn action(words: &[String]) -> Result<Action, String> {
         Some("asm") => Ok(Action::Asm),
         Some("dump") => Ok(Action::Dump),
         Some("explain") => Ok(Action::Explain),
+        Some("sheet") => Ok(Action::Sheet),
         Some("help") => Ok(Action::Help),
-        Some(other) => Err(format!("`{other}` is none of asm, dump and explain")),
-        None => Err("asm, dump or explain is wanted".to_string()),
+        Some(other) => Err(format!("`{other}` is none of asm, dump, explain and sheet")),
+        None => Err("asm, dump, explain or sheet is wanted".to_string()),
     }
 }

@@ -7,7 +7,7 @@ use std::path::{Path, PathBuf};
 
 use jobtext::commands::ROWS;
 use jobtext::decode::decode;
-use jobtext::{assemble, dump, explain, hex};
+use jobtext::{assemble, dump, explain, hex, sheet};
 
 /// Every text of a job.
 fn jobs() -> Vec<PathBuf> {
@@ -33,7 +33,14 @@ fn as_recorded() {
         assert_eq!(explained.text, text(&path, "explain"), "{path:?}");
         let back = assemble(&dump(&made.bytes).0).expect("the dump is a text");
         assert_eq!(back.bytes, made.bytes, "{path:?}");
+        assert_eq!(second::sheet(&made.bytes), recorded_sheet(&path), "{path:?}");
     }
+}
+
+/// The sheet of a job; of a refused one it is the desk's line.
+fn recorded_sheet(path: &Path) -> String {
+    let out = text(path, "out");
+    if out.starts_with("refused") { out } else { text(path, "sheet") }
 }
 
 #[test]
@@ -74,23 +81,48 @@ fn the_guide_has_every_command() {
     }
 }
 
+/// Whether a page shows a text, as a block or set in.
+fn shows(page: &str, text: &str) -> bool {
+    let page = fs::read_to_string(format!("../{page}")).expect("a page");
+    let set_in: String = text.lines().map(|line| format!("    {line}\n")).collect();
+    page.contains(&format!("```\n{text}```\n")) || page.contains(&set_in)
+}
+
 /// What the pages show of sample jobs is what is recorded.
 #[test]
 fn the_pages_show_what_is_recorded() {
     let shown = [
-        ("JOBS.md", "payroll_week.explain"),
-        ("JOBS.md", "payroll_week.out"),
-        ("JOBS.md", "rest_over.out"),
-        ("VERDICTS.md", "two_agencies.explain"),
-        ("VERDICTS.md", "two_agencies.out"),
-        ("VERDICTS.md", "agency_bill_lent.explain"),
-        ("VERDICTS.md", "agency_bill_closed.explain"),
-        ("VERDICTS.md", "refused/13_limit.explain"),
+        ("README.md", "rest_sum.out"),
+        ("README.md", "wall_file.sheet"),
+        ("docs/JOBS.md", "payroll_week.explain"),
+        ("docs/JOBS.md", "payroll_week.out"),
+        ("docs/JOBS.md", "rest_over.out"),
+        ("docs/VERDICTS.md", "two_agencies.explain"),
+        ("docs/VERDICTS.md", "two_agencies.out"),
+        ("docs/VERDICTS.md", "agency_bill_lent.explain"),
+        ("docs/VERDICTS.md", "agency_bill_closed.explain"),
+        ("docs/VERDICTS.md", "refused/13_limit.explain"),
     ];
     for (page, file) in shown {
-        let page = fs::read_to_string(format!("../docs/{page}")).expect("a page");
         let text = fs::read_to_string(format!("../examples/{file}")).expect("a recorded file");
-        assert!(page.contains(&text), "{file}");
+        assert!(shows(page, &text), "{page}: {file}");
+    }
+}
+
+/// The guide for managers shows the sheet with symbols, and of the verdict in words what the sheet
+/// does not say.
+#[test]
+fn the_sheet_for_managers() {
+    let path = Path::new("../examples/wall_file");
+    let made = assemble(&text(path, "job")).expect("a text");
+    assert!(shows("docs/VERDICTS.md", &sheet(&made.bytes, Some(&made.symbols)).0));
+    let explained = text(path, "explain");
+    let lines: Vec<&str> = explained.split_inclusive('\n').collect();
+    let at = |start: &str| lines.iter().position(|line| line.starts_with(start)).expect(start);
+    let rights = at("rights: ")..at("cells that the effect opens:");
+    let beside = at("cells that the rights open")..lines.len();
+    for part in [rights, beside] {
+        assert!(shows("docs/VERDICTS.md", &lines[part].concat()));
     }
 }
 

@@ -56,10 +56,38 @@ fn verdicts() {
 }
 
 #[test]
+fn sheets() {
+    let said = |words: &[&str], input: &[u8]| {
+        let said = run(words, input);
+        (said.status.code(), String::from_utf8(said.stdout).expect("text"))
+    };
+    let accepted = second::generate::example(4);
+    assert_eq!(said(&["sheet"], &accepted), (Some(0), " 2  1 yes   1  host2\n".to_string()));
+    let refused = second::generate::example(0);
+    assert_eq!(said(&["sheet"], &refused), (Some(1), "refused 14 at 1\n".to_string()));
+    assert_eq!(said(&["sheet"], &[]), (Some(1), "refused 4 at 0\n".to_string()));
+    let of_text = said(&["sheet", "--text"], TEXT.as_bytes());
+    assert_eq!(of_text, (Some(0), " 2  1 yes   1  depot\n".to_string()));
+    let hex = run(&["asm", "--hex"], TEXT.as_bytes()).stdout;
+    assert_eq!(said(&["sheet", "--hex", "-"], &hex), said(&["sheet"], &accepted));
+    let bare = said(&["sheet", "--text"], b"rights {}\njob 5\n");
+    assert_eq!(bare, (Some(0), String::new()));
+    assert_eq!(status(&["sheet", "--text"], b"job (read x)\nrights {}\n"), 1);
+}
+
+#[test]
 fn wrong_words() {
-    for words in
-        [&["as"][..], &[], &["asm", "--all"], &["dump", "a", "b"], &["asm", "-o"], &["dump", "-x"]]
-    {
+    for words in [
+        &["as"][..],
+        &[],
+        &["asm", "--all"],
+        &["dump", "a", "b"],
+        &["asm", "-o"],
+        &["dump", "-x"],
+        &["dump", "--text"],
+        &["sheet", "--all"],
+        &["sheet", "--hex", "--text"],
+    ] {
         assert_eq!(status(words, b""), 2, "{words:?}");
     }
     assert_eq!(status(&["--help"], b""), 0);
