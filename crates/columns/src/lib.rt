@@ -1,29 +1,21 @@
 // A line of the sheet for the wall file: thirteen columns and the line's end, byte by byte.
 ghost use mathlib.Core.Path.{_≡_};
 ghost use mathlib.Core.Bool.{cond};
+ghost use Prim.Native.Nat.{_<_};
 ghost use Rattle.output.specs.ColumnLaws.{column, last, columns};
 
 // The bytes of a line.
 pub const LINE_BYTES: usize = 14;
 
-// The digit of n at the place of 100, or a space where n has none there.
-fn hundreds(n: usize) -> u8
-    ensures { λ r. ⌜ r ≡ column 100 n ⌝ }
+// The digit of n at the place of p, 10 or 100, or a space where n has none there.
+fn digit(p: usize, n: usize) -> u8
+    requires { ⌜ 0 < p ⌝ }
+    ensures { λ r. ⌜ r ≡ column p n ⌝ }
 {
-    if n < 100 {
+    if n < p {
         return b' ';
     }
-    48 + (n / 100 % 10) as u8
-}
-
-// The digit of n at the place of 10, or a space where n has none there.
-fn tens(n: usize) -> u8
-    ensures { λ r. ⌜ r ≡ column 10 n ⌝ }
-{
-    if n < 10 {
-        return b' ';
-    }
-    48 + (n / 10 % 10) as u8
+    48 + (n / p % 10) as u8
 }
 
 // The last digit of n.
@@ -45,18 +37,18 @@ pub fn line(name: usize, upper: usize, used: bool, cells: usize) -> [u8; LINE_BY
     ensures { λ r. ⌜ r ≡ columns (record { name = name; upper = upper; used = used; cells = cells }) ⌝ }
 {
     [
-        tens(name),
+        digit(10, name),
         ones(name),
         b' ',
-        tens(upper),
+        digit(10, upper),
         ones(upper),
         b' ',
         pick(used, b'y', b'n'),
         pick(used, b'e', b'o'),
         pick(used, b's', b' '),
         b' ',
-        hundreds(cells),
-        tens(cells),
+        digit(100, cells),
+        digit(10, cells),
         ones(cells),
         b'\n',
     ]

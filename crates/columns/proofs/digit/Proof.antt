@@ -1,14 +1,17 @@
 use Rattle.output.specs.ColumnLaws.{column}
 use borrow.Author.Tests.{le-ltb, lt-ltb}
 use borrow.Author.Needs.{needs}
-use Rattle.columns.proofs.tens.Statement.{statement}
-use Rattle.columns.proofs.tens.Tie as tie
-use Rattle.columns.proofs.tens.Reads as reads
-use Rattle.columns.proofs.tens.Lts as lts
+use Rattle.columns.proofs.digit.Statement.{statement}
+use Rattle.columns.proofs.digit.Tie as tie
+use Rattle.columns.proofs.digit.Reads as reads
+use Rattle.columns.proofs.digit.Lts as lts
 
 returns : tie.Need-returns
 unfolding column
 returns c = simp (lt-ltb _ _ (c .if1 .taken))
+
+div-result : tie.Need-div-result
+div-result c = search needs
 
 cast-result : tie.Need-cast-result
 cast-result c = search needs
@@ -20,5 +23,5 @@ returns-2 : tie.Need-returns-2
 unfolding column
 returns-2 c = simp (le-ltb _ _ (c .if1 .left))
 
-pub tens-spec : {M : Type 1} → statement M
-tens-spec = tie.close (tie.spec returns cast-result add-result returns-2)
+pub digit-spec : {M : Type 1} → statement M
+digit-spec = tie.close (tie.spec returns div-result cast-result add-result returns-2)
