@@ -1,6 +1,6 @@
 -- The start of the job that words hold, for all words.
 use mathlib.Core.Path.{_≡_}
-use Prim.Native.Nat.{ℕ, _+_, _-_, _≤_}
+use Prim.Native.Nat.{ℕ, _+_, _≤_}
 use mathlib.Core.Bool.{Bool, cond}
 use mathlib.Core.List.{List, map}
 use lib.ListN.{replicate}
@@ -10,7 +10,7 @@ use Rattle.order.specs.Sets.{setOf}
 use Rattle.order.specs.Effects as effects
 use Rattle.syntax.specs.Commands.{c-top}
 use Rattle.syntax.specs.Job.{Src}
-use Rattle.syntax.specs.Reading.{most-names, most-variables, most-expressions}
+use Rattle.syntax.specs.Reading.{most-declared, most-variables, most-expressions}
 use Rattle.syntax.specs.Tree.{root}
 use Rattle.semantics.specs.Machine.{most-keys}
 use Rattle.semantics.specs.Start.{named, keyNamed, valued}
@@ -26,10 +26,6 @@ use Rattle.initial.specs.declared.Initial.{Initial}
 unfoldable pub wordSource : List ℕ → ℕ → List ℕ → List ℕ → ℕ → ℕ → ℕ → Src
 wordSource names nnames types values nvalues rights cmds =
     record { names = namesIn names nnames; values = valuesFrom types values 0 nvalues; rights = effects.ofWord rights; cmds = replicate cmds c-top }
-
--- names 0 and 1 are not declared
-abbrev pub most-declared : ℕ
-most-declared = most-names - 2
 
 -- counts that a job can have
 unfoldable pub isJob : ℕ → ℕ → ℕ → Bool

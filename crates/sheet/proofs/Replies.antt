@@ -5,11 +5,11 @@ use mathlib.Core.Bool.{Bool, true, false, cond}
 use mathlib.Core.List.{List, []}
 use lib.ListN.{length, take}
 use Rattle.output.specs.Sheet.{sheetOf}
-use Rattle.wall.specs.declared.Told.{Told}
-use Rattle.wall.specs.Listed.{SheetTo}
+use Rattle.wall.specs.declared.Listing.{Listing}
+use Rattle.wall.specs.Listed.{sheet-bytes, SheetTo}
 use Rattle.wall.specs.SheetTold.{long-says}
 
-pub whole-sheet : (w : Bool) (bytes : List ℕ) (r : Told) (t u : List ℕ) → w ≡ true → 868 ≤ length t → SheetTo bytes r t u → (r .len ≡ length (cond w (sheetOf bytes) [])) × (take (r .len) u ≡ cond w (sheetOf bytes) [])
+pub whole-sheet : (w : Bool) (bytes : List ℕ) (r : Listing) (t u : List ℕ) → w ≡ true → sheet-bytes ≤ length t → SheetTo bytes r t u → (r .len ≡ length (cond w (sheetOf bytes) [])) × (take (r .len) u ≡ cond w (sheetOf bytes) [])
 whole-sheet w bytes r t u e h s =
     let z = long-says bytes r t u s h in
     let g : sheetOf bytes ≡ cond w (sheetOf bytes) [] = ap (λ (b : Bool). cond b (sheetOf bytes) []) (sym e) in

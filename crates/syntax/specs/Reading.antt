@@ -29,6 +29,10 @@ pub record State : Type 0 where
 abbrev pub most-names : ℕ
 most-names = 64
 
+-- names 0 and 1 are not declared
+abbrev pub most-declared : ℕ
+most-declared = most-names - 2
+
 abbrev pub most-types : ℕ
 most-types = 256
 

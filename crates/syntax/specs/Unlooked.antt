@@ -11,7 +11,7 @@ use lib.Seq.{getD-take, getD-set-same, getD-set-other, take-take}
 use lib.Dec.{eqb, ltb}
 use borrow.Author.Tests.{ltb-true, ltb-false, eqb-true, eqb-false}
 use Rattle.syntax.specs.Commands.{Op, o-rights, o-end, opOf, findOp, commands, operands, sectionOf}
-use Rattle.syntax.specs.Reading.{most-names, most-types, most-variables, most-expressions, reading}
+use Rattle.syntax.specs.Reading.{most-declared, most-types, most-variables, most-expressions, reading}
 use Rattle.syntax.specs.Words.{filled}
 use Rattle.syntax.specs.Loading.{JobTables}
 use Rattle.syntax.specs.ReadPlaces.{op-byte}
@@ -38,7 +38,7 @@ SameCmd w v i = SameRow 4 (headAt w i % 256) (headAt v i % 256) (cmdNumbers w i)
 
 -- the tables w and v are the same wherever writing looks: in the entries that are counted, up to the limits
 pub record SameLooked (w v : JobTables) (c : Counts) : Type 0 where
-  pub names : (i : ℕ) → i < c .names → i < most-names - 2 → SameName w v i
+  pub names : (i : ℕ) → i < c .names → i < most-declared → SameName w v i
   pub types : (i : ℕ) → i < c .types → i < most-types → SameType w v i
   pub values : (i : ℕ) → i < c .values → i < most-variables → SameValue w v i
   pub cmds : (i : ℕ) → i < c .cmds → i < most-expressions → SameCmd w v i
@@ -73,7 +73,7 @@ each-same f g i (suc k) h = ap₂ (λ (x : Item) (y : List Item). x ∷ y) (h i 
 items-same : {w v : JobTables} {c : Counts} → SameLooked w v c → items w c ≡ items v c
 unfolding items nameItem typeItem valueItem cmdItem
 items-same {w} {v} {c} s =
-    let n = all (nameItem w) (nameItem v) (c .names) (λ i h. entry-same (most-names - 2) i (s .names i h)) in
+    let n = all (nameItem w) (nameItem v) (c .names) (λ i h. entry-same most-declared i (s .names i h)) in
     let t = all (typeItem w) (typeItem v) (c .types) (λ i h. entry-same most-types i (s .types i h)) in
     let x = all (valueItem w) (valueItem v) (c .values) (λ i h. entry-same most-variables i (s .values i h)) in
     let k = all (cmdItem w) (cmdItem v) (c .cmds) (λ i h. entry-same most-expressions i (s .cmds i h)) in

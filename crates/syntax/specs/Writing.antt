@@ -9,7 +9,7 @@ use lib.Dec.{eqb, ltb}
 use Rattle.order.specs.Bools.{_and_}
 use Rattle.syntax.specs.Commands.{Op, o-rights, o-end, Role, r-type, traits, form, opOf, operands, sectionOf}
 use Rattle.syntax.specs.Operands.{wanted, someWanted}
-use Rattle.syntax.specs.Reading.{Refusal, Read, refused, read, reading, most-names, most-types, most-variables, most-expressions}
+use Rattle.syntax.specs.Reading.{Refusal, Read, refused, read, reading, most-declared, most-types, most-variables, most-expressions}
 use Rattle.syntax.specs.Words.{headRoles, placesIn}
 use Rattle.syntax.specs.Loading.{JobTables, short}
 use Rattle.syntax.specs.JobBytes.{commandBytes}
@@ -71,7 +71,7 @@ nameFields d = itemOf 0 (opOf (d / 256)) (nameNumbers d)
 
 unfoldable pub nameItem : JobTables → ℕ → Item
 unfolding itemOf within
-nameItem w i = within (most-names - 2) i (nameFields (nameAt w i))
+nameItem w i = within most-declared i (nameFields (nameAt w i))
 
 -- a type of word d and set s: its command, its key, its first part; its second part is all that is left of the word. A command has as many of these, and of the set, as it has operands
 abbrev pub typeNumbers : ℕ → ℕ → Op → List ℕ

@@ -13,7 +13,7 @@ use Rattle.order.specs.Bools.{_and_, _or_, and-l, and-r}
 use Rattle.syntax.specs.Commands.{Op, o-pair, o-function, o-limit, o-grant, o-value, o-rights, o-end, opOf, findOp, commands, operands, total, width, sectionOf}
 use Rattle.syntax.specs.Commands.{x-number, x-variable, x-part, x-function, x-sum, x-limit, x-newkey}
 use Rattle.syntax.specs.Job.{Job}
-use Rattle.syntax.specs.Reading.{Refusal, Read, refused, read, refusedAt, reading, most-names, most-types, most-variables, most-expressions}
+use Rattle.syntax.specs.Reading.{Refusal, Read, refused, read, refusedAt, reading, most-declared, most-types, most-variables, most-expressions}
 use Rattle.syntax.specs.Reading.{State, written, enter, misplaced, full, refuse, finish, settle, command, ended, onward, onOp, readFrom}
 use Rattle.syntax.specs.Loading.{JobTables}
 use Rattle.syntax.specs.Words.{codeIn}
@@ -129,7 +129,7 @@ end-alone (suc f) pos st h = at (misplaced st 5) (λ next. readFrom f (pos + 1 +
 
 module _ (w : JobTables) (c : Counts) where
   -- the first entry at fault has its own number at the place of its command
-  pub name-fault : {n : ℕ} (i : ℕ) → i < c .names → Own 0 (most-names - 2) i (nameAt w i / 256) (nameNumbers (nameAt w i)) n → Answers w c (each (nameItem w) 0 i) n
+  pub name-fault : {n : ℕ} (i : ℕ) → i < c .names → Own 0 most-declared i (nameAt w i / 256) (nameNumbers (nameAt w i)) n → Answers w c (each (nameItem w) 0 i) n
   unfolding items nameItem
   name-fault {n} i l o = faulted w c _ n (number-pos (own-number o)) (in-table (nameItem w) (λ i. positive (name-entry w i)) 0 (c .names) i _ n l (from-0 (nameItem w) i n (own-is o)))
 
@@ -152,8 +152,8 @@ module _ (w : JobTables) (c : Counts) where
   cmd-fault {n} i l o = faulted w c _ n (number-pos (own-number o)) (rights-on w c _ _ _ n (in-table (cmdItem w) (λ i. positive (cmd-entry w i)) 0 (c .cmds) i _ n l (from-0 (cmdItem w) i n (own-is o))))
 
   -- so a count above its limit is 5 where the entry past the limit would begin, whatever stands there
-  pub too-many-names : most-names - 2 < c .names → Answers w c (each (nameItem w) 0 (most-names - 2)) 5
-  too-many-names l = name-fault (most-names - 2) l (past-limit (omega arith))
+  pub too-many-names : most-declared < c .names → Answers w c (each (nameItem w) 0 most-declared) 5
+  too-many-names l = name-fault most-declared l (past-limit (omega arith))
 
   pub too-many-types : most-types < c .types → Answers w c (afterNames w c (each (typeItem w) 0 most-types)) 5
   too-many-types l = type-fault most-types l (past-limit (omega arith))
@@ -193,7 +193,7 @@ module _ (w : JobTables) (c : Counts) where
       at (inr h) = absurd (no-job _ (judged-so _ (h .1)))
 
 -- a name's command field is no command where it is wider than a byte
-pub wide-command : (w : JobTables) (i : ℕ) → i < most-names - 2 → 65536 ≤ nameAt w i → nameItem w i ≡ fault 2
+pub wide-command : (w : JobTables) (i : ℕ) → i < most-declared → 65536 ≤ nameAt w i → nameItem w i ≡ fault 2
 unfolding nameItem
 wide-command w i l h = own-is {numbers = nameNumbers (nameAt w i)} (no-command l (at (opOf (nameAt w i / 256)) refl))
   where

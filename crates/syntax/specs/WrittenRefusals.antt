@@ -14,7 +14,7 @@ use borrow.Author.Tests.{ltb-true, ltb-false, lt-ltb, le-ltb}
 use Rattle.order.specs.Bools.{_and_, _or_}
 use Rattle.syntax.specs.Commands.{Op, o-rights, o-end, opOf, operands, width, sectionOf}
 use Rattle.syntax.specs.Job.{Job}
-use Rattle.syntax.specs.Reading.{Refusal, State, most-names, most-types, most-variables, most-expressions, misplaced, full, enter, written, settle}
+use Rattle.syntax.specs.Reading.{Refusal, State, most-declared, most-types, most-variables, most-expressions, misplaced, full, enter, written, settle}
 use Rattle.syntax.specs.Reading.{Step, refuse, finish, Read, refused, read, refusedAt, ended, onward, onOp, readFrom, reading}
 use Rattle.syntax.specs.Loading.{JobTables, short}
 use Rattle.syntax.specs.JobBytes.{operandBytes, commandBytes}
@@ -28,7 +28,7 @@ use Rattle.syntax.specs.ScriptLaws.{inner-item, inner-fault, Closed, clo
 
 -- the entry at fault, the entries before it, its command field and the number of its fault
 pub data AtFault (w : JobTables) (c : Counts) : List Item → ℕ → ℕ → Type 0 where
-  in-names : {n : ℕ} (i : ℕ) → i < c .names → Own 0 (most-names - 2) i (nameAt w i / 256) (nameNumbers (nameAt w i)) n → AtFault w c (each (nameItem w) 0 i) (nameAt w i / 256) n
+  in-names : {n : ℕ} (i : ℕ) → i < c .names → Own 0 most-declared i (nameAt w i / 256) (nameNumbers (nameAt w i)) n → AtFault w c (each (nameItem w) 0 i) (nameAt w i / 256) n
   in-types : {n : ℕ} (i : ℕ) → i < c .types → Own 1 most-types i (typeAt w i % 256) (typeNumbers (typeAt w i) (setAt w i)) n → AtFault w c (afterNames w c (each (typeItem w) 0 i)) (typeAt w i % 256) n
   in-values : {n : ℕ} (i : ℕ) → i < c .values → Own 2 most-variables i (valueAt w i % 256) (valueNumbers (valueAt w i)) n → AtFault w c (afterTypes w c (each (valueItem w) 0 i)) (valueAt w i % 256) n
   in-rights : 256 ^ 8 ≤ c .rights → AtFault w c (afterTypes w c (each (valueItem w) 0 (c .values))) 0x21 6

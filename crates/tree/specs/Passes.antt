@@ -7,7 +7,7 @@ use lib.ListN.{getD, set, replicate}
 use lib.Dec.{eqb, ltb}
 use lib.Bits.{bitOr}
 use Rattle.order.specs.Sets.{bit}
-use Rattle.syntax.specs.Reading.{Refusal, most-names, most-types, most-variables, most-expressions}
+use Rattle.syntax.specs.Reading.{Refusal, most-declared, most-types, most-variables, most-expressions}
 use Rattle.syntax.specs.Tree.{firstBad, orElse, numbered}
 use Rattle.names.specs.Ancestors.{oneOf}
 use Rattle.uses.specs.Passes.{isOperand, isBody, boundOf, typePlace, countsBy, rightCount, isNew}
@@ -85,10 +85,6 @@ tableRefusal heads slots n names nnames types sets ntypes nvalues =
     orElse (numbered 8 (firstBad (rightCount (countsBy heads slots n) n) 0 n))
     (orElse (numbered 9 (firstBad (isNew heads) 0 n))
     (scopeRefusal heads slots n names nnames types sets ntypes nvalues))
-
--- the names that a job may declare: all but 0 and 1
-abbrev pub most-declared : ℕ
-most-declared = most-names - 2
 
 -- a job has an expression, and no more entries than the limits
 unfoldable pub inLimits : ℕ → ℕ → ℕ → Bool

@@ -26,7 +26,7 @@ ghost use Prim.Native.Nat.{_+_, _*_, _≤_, _<_};
 ghost use mathlib.Core.Bool.{true, false};
 ghost use lib.Bits.{bitOr};
 ghost use lib.Dec.{eqb};
-ghost use Rattle.syntax.specs.Reading.{most-types, most-expressions};
+ghost use Rattle.syntax.specs.Reading.{most-declared, most-types, most-expressions};
 ghost use Rattle.syntax.specs.Job.{Job, sourceOf};
 ghost use Rattle.syntax.specs.ReadLaws.{JobOk};
 ghost use Rattle.syntax.specs.Tree.{firstBad, numbered, treeRefusal};
@@ -59,7 +59,7 @@ fn host_name(word: u16, n: u8) -> u64
 
 // 0, 1 and the host's names.
 fn host_names(names: &[u16], n: usize) -> u64
-    requires { ⌜ n ≤ 62 ⌝ }
+    requires { ⌜ n ≤ most-declared ⌝ }
     ensures { λ r. ⌜ r ≡ hostNames (now (names .entry)) n ⌝ }
 {
     let mut s: u64 = 3;
@@ -326,7 +326,7 @@ fn scope_check<'a>(
     ntypes: usize,
     nvalues: usize,
 ) -> Answer
-    requires { ⌜ (0 < cmds) × (cmds ≤ most-expressions) × (nnames ≤ 62) × (ntypes ≤ most-types) ⌝ }
+    requires { ⌜ (0 < cmds) × (cmds ≤ most-expressions) × (nnames ≤ most-declared) × (ntypes ≤ most-types) ⌝ }
     ensures { λ r. ⌜ refusalOf r
         ≡ scopeRefusal (now (heads .entry)) (now (slots .entry)) cmds (now (names .entry)) nnames (now (types .entry)) (now (sets .entry)) ntypes nvalues ⌝ }
 {
@@ -370,7 +370,7 @@ fn table_check<'a>(
     ntypes: usize,
     nvalues: usize,
 ) -> Answer
-    requires { ⌜ (0 < cmds) × (cmds ≤ most-expressions) × (nnames ≤ 62) × (ntypes ≤ most-types) ⌝ }
+    requires { ⌜ (0 < cmds) × (cmds ≤ most-expressions) × (nnames ≤ most-declared) × (ntypes ≤ most-types) ⌝ }
     ensures { λ r. ⌜ refusalOf r
         ≡ tableRefusal (now (heads .entry)) (now (slots .entry)) cmds (now (names .entry)) nnames (now (types .entry)) (now (sets .entry)) ntypes nvalues ⌝ }
 {

@@ -10,7 +10,7 @@ use lib.Dec.{eqb}
 use borrow.Author.Tests.{eq-eqb, ne-eqb}
 use Rattle.syntax.specs.Types.{Ty, num, lim, grant, onCell, byType}
 use Rattle.syntax.specs.Job.{Name, HostValue}
-use Rattle.syntax.specs.Reading.{Refusal}
+use Rattle.syntax.specs.Reading.{Refusal, most-declared}
 use Rattle.table.specs.Copied.{copied, copied-all}
 use Rattle.names.specs.Ancestors.{nameOf, namesIn, effBelowBy, oneOf}
 use Rattle.names.specs.Tables.{namesIn-length}
@@ -22,7 +22,7 @@ use Rattle.output.specs.ColumnLaws.{columns, columns-length}
 use Rattle.output.specs.SheetLaws.{rows-few}
 use Rattle.format.specs.declared.Text.{Text}
 use Rattle.format.specs.Text.{textOf}
-use Rattle.wall.specs.Listed.{rowBy, Laid, NameLaid}
+use Rattle.wall.specs.Listed.{sheet-bytes, rowBy, Laid, NameLaid}
 
 -- Host cells
 
@@ -152,13 +152,13 @@ module _ (f : ℕ → Name → Row) (names t : List ℕ) (n : ℕ) where
   lines-first = record { lines = record { reach = refl; text = refl }; within = omega arith }
 
   -- the text is as long as it was
-  pub lines-length : {u : List ℕ} {at k : ℕ} → Lining f names t u n at k → n ≤ 62 → 868 ≤ length t → length u ≡ length t
+  pub lines-length : {u : List ℕ} {at k : ℕ} → Lining f names t u n at k → n ≤ most-declared → sheet-bytes ≤ length t → length u ≡ length t
   lines-length {u} {at} {k} h few room =
       ap length (h .lines .text) ∙ length-append (lined f names k) (drop (length (lined f names k)) t)
       ∙ omega (arith, length-drop (length (lined f names k)) t, lined-few f names k, h .within)
 
   -- there is room for one more
-  pub lines-room : {u : List ℕ} {at k : ℕ} → Lining f names t u n at k → k < n → n ≤ 62 → 868 ≤ length t → at + 14 ≤ length u
+  pub lines-room : {u : List ℕ} {at k : ℕ} → Lining f names t u n at k → k < n → n ≤ most-declared → sheet-bytes ≤ length t → at + 14 ≤ length u
   lines-room {u} {at} {k} h l few room = omega (arith, h .lines .reach, lined-few f names k, lines-length h few room)
 
   -- a host name has a line
@@ -269,11 +269,11 @@ pub text-short : (said : Text) (q : Refusal) → length (said .bytes) ≡ 128 �
 unfolding textOf
 text-short said q room e = omega (arith, length-take (said .len) (said .bytes), ap length e, refused-length q)
 
-text-room : (said : Text) (q : Refusal) (t : List ℕ) → length (said .bytes) ≡ 128 → textOf said ≡ refusedLine q → 868 ≤ length t → length (take (said .len) (said .bytes)) ≤ length t
+text-room : (said : Text) (q : Refusal) (t : List ℕ) → length (said .bytes) ≡ 128 → textOf said ≡ refusedLine q → sheet-bytes ≤ length t → length (take (said .len) (said .bytes)) ≤ length t
 unfolding textOf
 text-room said q t room e h = omega (arith, ap length e, refused-length q)
 
-pub text-laid : (said : Text) (n p k : ℕ) (t u : List ℕ) → length (said .bytes) ≡ 128 → k ≡ p → textOf said ≡ refusedLine (record { number = n; place = k }) → 868 ≤ length t → u ≡ copied (take (said .len) (said .bytes)) t
+pub text-laid : (said : Text) (n p k : ℕ) (t u : List ℕ) → length (said .bytes) ≡ 128 → k ≡ p → textOf said ≡ refusedLine (record { number = n; place = k }) → sheet-bytes ≤ length t → u ≡ copied (take (said .len) (said .bytes)) t
     → Laid (refusedLine (record { number = n; place = p })) (said .len) t u
 unfolding textOf
 text-laid said n p k t u room z e h f =

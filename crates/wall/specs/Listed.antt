@@ -1,23 +1,19 @@
 -- What `sheet` comes to: the lines by the words of the tables, a text laid into a lent buffer, and the answer.
 use mathlib.Core.Path.{_≡_}
-use Prim.Native.Nat.{ℕ, _+_, _-_}
+use Prim.Native.Nat.{ℕ, _+_}
 use mathlib.Core.Bool.{Bool, cond}
 use mathlib.Core.List.{List, [], _++_}
 use lib.ListN.{length, take, drop}
 use lib.Dec.{ltb}
 use Rattle.syntax.specs.Types.{Ty}
 use Rattle.syntax.specs.Job.{Name, HostValue}
-use Rattle.syntax.specs.Reading.{most-names}
 use Rattle.typing.specs.Verdict.{Verdict, accept, refuse, verdictOf}
 use Rattle.names.specs.Ancestors.{effBelowBy, oneOf}
 use Rattle.output.specs.Sheet.{Row, carries, countOf, sheetOf}
 use Rattle.output.specs.ColumnLaws.{columns}
-use Rattle.wall.specs.declared.Told.{Told}
+use Rattle.wall.specs.declared.Listing.{Listing}
 
--- the names that a job may declare, and a line for each of them
-abbrev pub most-declared : ℕ
-most-declared = most-names - 2
-
+-- a line for each name that a job may declare
 abbrev pub sheet-bytes : ℕ
 sheet-bytes = 868
 
@@ -49,7 +45,7 @@ unfoldable pub sheetIn : ℕ → List ℕ → List ℕ
 sheetIn n s = cond (ltb n sheet-bytes) [] (sheetOf s)
 
 -- `sheet`, with a lent text t, which is t' afterwards: 1 where it is too short
-pub record SheetTo (bytes : List ℕ) (r : Told) (t t' : List ℕ) : Type 0 where
+pub record SheetTo (bytes : List ℕ) (r : Listing) (t t' : List ℕ) : Type 0 where
   pub number : r .number ≡ cond (ltb (length t) sheet-bytes) 1 (numberOf (verdictOf bytes))
   pub place : r .place ≡ cond (ltb (length t) sheet-bytes) 0 (placeOf (verdictOf bytes))
   pub sheet : Laid (sheetIn (length t) bytes) (r .len) t t'

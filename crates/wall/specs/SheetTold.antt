@@ -21,15 +21,15 @@ use Rattle.output.specs.LineLaws.{refused-length}
 use Rattle.output.specs.ColumnLaws.{sheet-length}
 use Rattle.output.specs.SheetLaws.{rows-few}
 use Rattle.output.specs.SheetExactly.{sheet-exactly, refused-sheet}
-use Rattle.wall.specs.declared.Told.{Told}
-use Rattle.wall.specs.Listed.{numberOf, placeOf, sheetIn, SheetTo}
+use Rattle.wall.specs.declared.Listing.{Listing}
+use Rattle.wall.specs.Listed.{sheet-bytes, numberOf, placeOf, sheetIn, SheetTo}
 
 -- a text of 868 bytes has room for every sheet
-pub sheet-room : (s : List ℕ) → length (sheetOf s) ≤ 868
+pub sheet-room : (s : List ℕ) → length (sheetOf s) ≤ sheet-bytes
 unfolding rowsOf sourceOf
 sheet-room s = at (verdictOf s) refl
   where
-    at : (v : Verdict) → verdictOf s ≡ v → length (sheetOf s) ≤ 868
+    at : (v : Verdict) → verdictOf s ≡ v → length (sheetOf s) ≤ sheet-bytes
     at (refuse q) e = omega (arith, ap length (refused-sheet s e .1), refused-length q)
     at (accept T f) e =
         let z = sheet-exactly s e in
@@ -54,26 +54,26 @@ unfolding numberOf
 own-0 s (accept T f) e h = (T, f, e)
 own-0 s (refuse q) e h = absurd (omega (arith, own-number s q e))
 
-module _ (bytes : List ℕ) (r : Told) (t u : List ℕ) (s : SheetTo bytes r t u) where
-  long-number : 868 ≤ length t → r .number ≡ numberOf (verdictOf bytes)
-  long-number h = s .number ∙ ap (λ (b : Bool). cond b 1 (numberOf (verdictOf bytes))) (le-ltb (length t) 868 h)
+module _ (bytes : List ℕ) (r : Listing) (t u : List ℕ) (s : SheetTo bytes r t u) where
+  long-number : sheet-bytes ≤ length t → r .number ≡ numberOf (verdictOf bytes)
+  long-number h = s .number ∙ ap (λ (b : Bool). cond b 1 (numberOf (verdictOf bytes))) (le-ltb (length t) sheet-bytes h)
 
-  long-place : 868 ≤ length t → r .place ≡ placeOf (verdictOf bytes)
-  long-place h = s .place ∙ ap (λ (b : Bool). cond b 0 (placeOf (verdictOf bytes))) (le-ltb (length t) 868 h)
+  long-place : sheet-bytes ≤ length t → r .place ≡ placeOf (verdictOf bytes)
+  long-place h = s .place ∙ ap (λ (b : Bool). cond b 0 (placeOf (verdictOf bytes))) (le-ltb (length t) sheet-bytes h)
 
   -- 1: the text is too short, and nothing else is 1
-  pub told-short : (r .number ≡ 1) ↔ (length t < 868)
+  pub told-short : (r .number ≡ 1) ↔ (length t < sheet-bytes)
   told-short = (
-    λ e. at (ltb (length t) 868) refl e,
-    λ h. s .number ∙ ap (λ (b : Bool). cond b 1 (numberOf (verdictOf bytes))) (lt-ltb (length t) 868 h),
+    λ e. at (ltb (length t) sheet-bytes) refl e,
+    λ h. s .number ∙ ap (λ (b : Bool). cond b 1 (numberOf (verdictOf bytes))) (lt-ltb (length t) sheet-bytes h),
   )
     where
-      at : (b : Bool) → ltb (length t) 868 ≡ b → r .number ≡ 1 → length t < 868
-      at true e h = ltb-true (length t) 868 e
-      at false e h = absurd (own-not-1 bytes (verdictOf bytes) refl (sym (long-number (ltb-false (length t) 868 e)) ∙ h))
+      at : (b : Bool) → ltb (length t) sheet-bytes ≡ b → r .number ≡ 1 → length t < sheet-bytes
+      at true e h = ltb-true (length t) sheet-bytes e
+      at false e h = absurd (own-not-1 bytes (verdictOf bytes) refl (sym (long-number (ltb-false (length t) sheet-bytes e)) ∙ h))
 
   -- 0: the job is accepted, and no refused one is 0
-  pub told-accepted : 868 ≤ length t → (r .number ≡ 0) ↔ ((T : Ty) × (f : Effect) × (verdictOf bytes ≡ accept T f))
+  pub told-accepted : sheet-bytes ≤ length t → (r .number ≡ 0) ↔ ((T : Ty) × (f : Effect) × (verdictOf bytes ≡ accept T f))
   unfolding numberOf
   told-accepted h = (
     λ e. own-0 bytes (verdictOf bytes) refl (sym (long-number h) ∙ e),
@@ -81,33 +81,33 @@ module _ (bytes : List ℕ) (r : Told) (t u : List ℕ) (s : SheetTo bytes r t u
   )
 
   -- the number and the place of a refused job are its refusal's; the place is 0 of an accepted job and of a text that is too short
-  pub told-refused : 868 ≤ length t → (q : Refusal) → verdictOf bytes ≡ refuse q → (r .number ≡ q .number) × (r .place ≡ q .place)
+  pub told-refused : sheet-bytes ≤ length t → (q : Refusal) → verdictOf bytes ≡ refuse q → (r .number ≡ q .number) × (r .place ≡ q .place)
   unfolding numberOf placeOf
   told-refused h q e = (long-number h ∙ ap numberOf e, long-place h ∙ ap placeOf e)
 
   pub told-nowhere : (T : Ty) (f : Effect) → verdictOf bytes ≡ accept T f → r .place ≡ 0
   unfolding placeOf
-  told-nowhere T f e = s .place ∙ at (ltb (length t) 868)
+  told-nowhere T f e = s .place ∙ at (ltb (length t) sheet-bytes)
     where
       at : (b : Bool) → cond b 0 (placeOf (verdictOf bytes)) ≡ 0
       at true = refl
       at false = ap placeOf e
 
-  pub short-nowhere : length t < 868 → r .place ≡ 0
-  short-nowhere h = s .place ∙ ap (λ (b : Bool). cond b 0 (placeOf (verdictOf bytes))) (lt-ltb (length t) 868 h)
+  pub short-nowhere : length t < sheet-bytes → r .place ≡ 0
+  short-nowhere h = s .place ∙ ap (λ (b : Bool). cond b 0 (placeOf (verdictOf bytes))) (lt-ltb (length t) sheet-bytes h)
 
   -- a text that is too short stays, and no byte is told of
-  pub short-stays : length t < 868 → (u ≡ t) × (r .len ≡ 0)
+  pub short-stays : length t < sheet-bytes → (u ≡ t) × (r .len ≡ 0)
   unfolding sheetIn
   short-stays h =
-      let e : sheetIn (length t) bytes ≡ [] = ap (λ (b : Bool). cond b [] (sheetOf bytes)) (lt-ltb (length t) 868 h) in
+      let e : sheetIn (length t) bytes ≡ [] = ap (λ (b : Bool). cond b [] (sheetOf bytes)) (lt-ltb (length t) sheet-bytes h) in
       (s .sheet .text ∙ ap (λ (b : List ℕ). b ++ drop (length b) t) e, s .sheet .reach ∙ ap length e)
 
   -- the bytes told of are the sheet; those past it stay
-  pub long-says : 868 ≤ length t → (r .len ≡ length (sheetOf bytes)) × (take (r .len) u ≡ sheetOf bytes) × (u ≡ sheetOf bytes ++ drop (r .len) t)
+  pub long-says : sheet-bytes ≤ length t → (r .len ≡ length (sheetOf bytes)) × (take (r .len) u ≡ sheetOf bytes) × (u ≡ sheetOf bytes ++ drop (r .len) t)
   unfolding sheetIn
   long-says h =
-      let e : sheetIn (length t) bytes ≡ sheetOf bytes = ap (λ (b : Bool). cond b [] (sheetOf bytes)) (le-ltb (length t) 868 h) in
+      let e : sheetIn (length t) bytes ≡ sheetOf bytes = ap (λ (b : Bool). cond b [] (sheetOf bytes)) (le-ltb (length t) sheet-bytes h) in
       let n : r .len ≡ length (sheetOf bytes) = s .sheet .reach ∙ ap length e in
       let w : u ≡ sheetOf bytes ++ drop (length (sheetOf bytes)) t = s .sheet .text ∙ ap (λ (b : List ℕ). b ++ drop (length b) t) e in
       (n, ap₂ take n w ∙ take-append-seam (sheetOf bytes) (drop (length (sheetOf bytes)) t), w ∙ ap (λ (k : ℕ). sheetOf bytes ++ drop k t) (sym n))

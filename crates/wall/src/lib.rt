@@ -24,6 +24,7 @@ ghost use Prim.Native.Nat.{_+_, _≤_};
 ghost use lib.ListN.{length, take, drop};
 ghost use Rattle.order.specs.Effects.{ofWord};
 ghost use Rattle.syntax.specs.Job.{Job, sourceOf};
+ghost use Rattle.syntax.specs.Reading.{most-declared};
 ghost use Rattle.names.specs.Ancestors.{nameOf, namesIn, ancestorsBy};
 ghost use Rattle.initial.specs.Entries.{headOf, valuesFrom};
 ghost use Rattle.start.specs.Starts.{Ready};
@@ -31,13 +32,13 @@ ghost use Rattle.output.specs.Lines.{refusedLine};
 ghost use Rattle.output.specs.Sheet as sheets;
 ghost use Rattle.output.specs.Sheet.{countOf, rowsFrom, rowsOf, sheetText, laid};
 ghost use Rattle.output.specs.ColumnLaws.{columns};
-ghost use Rattle.wall.specs.Listed.{sheet-bytes, most-declared, rowBy, Laid, NameLaid, SheetTo};
+ghost use Rattle.wall.specs.Listed.{sheet-bytes, rowBy, Laid, NameLaid, SheetTo};
 
 // Room for a line of each host name that a job may declare.
 pub const SHEET_BYTES: usize = 868;
 
 // The number of the refusal, 0 for an accepted job, and its place; how many bytes the text has.
-pub struct Told {
+pub struct Listing {
     pub number: u8,
     pub place: usize,
     pub len: usize,
@@ -173,11 +174,11 @@ fn refused(n: u8, p: usize, text: &mut [u8]) -> usize
 
 // The sheet program's text for a job: for an accepted one a line for each host name, for a refused one the desk program's line. It stands at the start of
 // the buffer, and bytes past it stay. A buffer of fewer than 868 bytes is too short, 1: nothing is written.
-pub fn sheet(job: &[u8], text: &mut [u8]) -> Told
+pub fn sheet(job: &[u8], text: &mut [u8]) -> Listing
     ensures { λ r. ⌜ SheetTo (now (job .entry)) r (now (text .entry)) (now (text .exit)) ⌝ }
 {
     if text.len() < SHEET_BYTES {
-        return Told {
+        return Listing {
             number: 1,
             place: 0,
             len: 0,
@@ -205,12 +206,12 @@ pub fn sheet(job: &[u8], text: &mut [u8]) -> Told
     let v = c.verdict;
     let g = c.shape;
     match v {
-        Verdict::Refused(n, p) => Told {
+        Verdict::Refused(n, p) => Listing {
             number: n,
             place: p,
             len: refused(n, p, text),
         },
-        Verdict::Accepted(_, s) => Told {
+        Verdict::Accepted(_, s) => Listing {
             number: 0,
             place: 0,
             len: accepted(s, g, &names, &types, &values, text),
