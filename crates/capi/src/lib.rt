@@ -230,6 +230,6 @@ pub extern "C" fn jobdesk_sheet(job: &[u8], text: &mut [u8], out: &mut [u64]) ->
     ensures { λ r. ⌜ Sheets (now (job .entry)) r (now (text .entry)) (now (text .exit)) (now (out .entry)) (now (out .exit)) ⌝ }
 {
     let told = wall::sheet(job, text);
-    table::put64(out, 1, table::wide(told.place));
-    table::tell(told.number, told.len, out)
+    table::put_two(out, 0, table::wide(told.len), table::wide(told.place));
+    table::wide8(told.number)
 }

@@ -11,7 +11,9 @@ use Rattle.order.specs.Bools.{_and_, and-l, and-r}
 use Rattle.order.specs.Sets.{setOf}
 use Rattle.order.specs.Effects as effects
 use Rattle.syntax.specs.Job.{Src}
+use Rattle.syntax.specs.Reading.{most-expressions}
 use Rattle.syntax.specs.Tree.{root, predecessor}
+use Rattle.syntax.specs.Context.{predecessor-minus}
 use Rattle.semantics.specs.Start.{Named, named, keyNamed, Valued, valued, addValues}
 use Rattle.names.specs.Ancestors.{namesIn}
 use Rattle.store.specs.Meaning.{keysIn}
@@ -55,9 +57,8 @@ module _ (n m k : ℕ) where
       let b = and-l _ _ a in
       (leb-true n 62 (and-l _ _ b), leb-true m 64 (and-r _ _ b), leb-true k 512 (and-r _ _ e))
 
-pub predecessor-none : (n : ℕ) → n ≡ 0 → 0 ≡ predecessor n
-unfolding predecessor
-predecessor-none n e = rw e
+pub root-small : (n : ℕ) {r : ℕ} → r ≡ predecessor n → n ≤ most-expressions → r < 65536
+root-small n e h = omega (arith, e, predecessor-minus n)
 
 -- what the passes over names, host values and rights give together
 pub begun :

@@ -6,7 +6,6 @@ ghost use Prim.Native.Nat.{_<_, _≤_, _+_};
 ghost use Rattle.order.specs.Sets.{setOf};
 ghost use Rattle.order.specs.Effects as effects;
 ghost use Rattle.syntax.specs.Reading.{most-names, most-declared, most-variables, most-expressions};
-ghost use Rattle.syntax.specs.Tree.{predecessor};
 ghost use Rattle.semantics.specs.Machine.{most-cells, most-bindings, unkeyed, k-num};
 ghost use Rattle.semantics.specs.Start.{hostValue};
 ghost use Rattle.names.specs.Ancestors.{namesIn};
@@ -30,6 +29,7 @@ use table::Name;
 use table::at8;
 use table::at16;
 use table::at64;
+use table::last;
 
 // The tables, how many entries each has, the enabled keys, and the expression to enter.
 pub struct Initial {
@@ -241,17 +241,6 @@ fn enabled_keys(of: &[u8; MOST_NAMES], n: usize, nkeys: u16, rights: u64) -> Key
     on
 }
 
-// The last of so many expressions.
-fn last(cmds: usize) -> u16
-    requires { ⌜ cmds ≤ most-expressions ⌝ }
-    ensures { λ r. ⌜ r ≡ predecessor cmds ⌝ }
-{
-    if cmds == 0 {
-        return 0;
-    }
-    (cmds - 1) as u16
-}
-
 // The start by the words of so many names, types and host values, with counts within the limits.
 fn entered(
     names: &[u16],
@@ -290,7 +279,7 @@ fn entered(
         ncells: ncells,
         nbindings: first + (nvalues as u16),
         on: on,
-        root: last(cmds),
+        root: last(cmds) as u16,
     }
 }
 

@@ -3,11 +3,11 @@ use elaborate::Passed;
 use job::Shape;
 use table::at16;
 use table::at64;
+use table::last;
 ghost use mathlib.Core.Path.{_≡_};
 ghost use mathlib.Core.List.{List};
 ghost use Prim.Native.Nat.{ℕ, _%_};
 ghost use Rattle.syntax.specs.Job.{Job};
-ghost use Rattle.syntax.specs.Tree.{predecessor};
 ghost use Rattle.judge.specs.Answer.{Given, Untyped, Judged};
 ghost use Rattle.judge.specs.Lent.{before, typedAfter};
 
@@ -15,16 +15,6 @@ ghost use Rattle.judge.specs.Lent.{before, typedAfter};
 pub enum Verdict {
     Accepted(u16, u64),
     Refused(u8, usize),
-}
-
-// The last of n.
-fn last(n: usize) -> usize
-    ensures { λ r. ⌜ r ≡ predecessor n ⌝ }
-{
-    if n == 0 {
-        return 0;
-    }
-    n - 1
 }
 
 fn narrow(n: usize) -> u16

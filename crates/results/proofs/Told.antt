@@ -8,6 +8,7 @@ use borrow.Author.Tests.{lt-ltb, le-ltb, ltb-false}
 use lib.ListN.{length, set}
 use lib.Dec.{ltb}
 use Rattle.order.specs.Bools.{_or_}
+use Rattle.table.specs.Told.{TwoPut}
 use Rattle.semantics.specs.Machine.{most-cells, most-keys, most-pairs, most-functions, most-frames, most-bindings}
 use Rattle.store.specs.Tables.{capped}
 use Rattle.store.specs.Words.{cellIn, pairIn, functionIn, linkIn, upIn}
@@ -24,18 +25,15 @@ use Rattle.judge.specs.declared.Verdict.{Verdict}
 use Rattle.judge.specs.declared.Verdict.the-variants as verdict
 use Rattle.results.specs.Told.{numberFor, outWords, roomWords, countWords, cell-words, lentShort}
 
-two : (l : List ℕ) (a b : ℕ) {m k : List ℕ} → m ≡ set l 0 a → k ≡ set m 1 b → k ≡ over l (a ∷ b ∷ [])
-two l a b g h = h ∙ ap (λ (z : List ℕ). set z 1 b) g ∙ sets-over l (a ∷ b ∷ [])
-
-pub tells-accepted : (v : Verdict) (l : List ℕ) (i s : ℕ) {m k : List ℕ} {a : ℕ} → v ≡ verdict.Accepted i s → a ≡ i → m ≡ set l 0 a → k ≡ set m 1 s → (0 ≡ numberFor v) × (k ≡ over l (outWords v))
+pub tells-accepted : (v : Verdict) (l : List ℕ) (i s : ℕ) {k : List ℕ} {a : ℕ} → v ≡ verdict.Accepted i s → a ≡ i → TwoPut l k 0 a s → (0 ≡ numberFor v) × (k ≡ over l (outWords v))
 unfolding numberFor outWords
-tells-accepted v l i s {a = a} e c g h =
-    (sym (ap (λ (u : Verdict). numberFor u) e), two l a s g h ∙ ap (λ (x : ℕ). over l (x ∷ s ∷ [])) c ∙ sym (ap (λ (u : Verdict). over l (outWords u)) e))
+tells-accepted v l i s e c z =
+    (sym (ap (λ (u : Verdict). numberFor u) e), z .same ∙ sets-over l _ ∙ ap (λ (x : ℕ). over l (x ∷ s ∷ [])) c ∙ sym (ap (λ (u : Verdict). over l (outWords u)) e))
 
-pub tells-refused : (v : Verdict) (l : List ℕ) (n p : ℕ) {m k : List ℕ} {r a : ℕ} → v ≡ verdict.Refused n p → r ≡ n → a ≡ p → m ≡ set l 0 a → k ≡ set m 1 0 → (r ≡ numberFor v) × (k ≡ over l (outWords v))
+pub tells-refused : (v : Verdict) (l : List ℕ) (n p : ℕ) {k : List ℕ} {r a : ℕ} → v ≡ verdict.Refused n p → r ≡ n → a ≡ p → TwoPut l k 0 a 0 → (r ≡ numberFor v) × (k ≡ over l (outWords v))
 unfolding numberFor outWords
-tells-refused v l n p {a = a} e d c g h =
-    (d ∙ sym (ap (λ (u : Verdict). numberFor u) e), two l a 0 g h ∙ ap (λ (x : ℕ). over l (x ∷ 0 ∷ [])) c ∙ sym (ap (λ (u : Verdict). over l (outWords u)) e))
+tells-refused v l n p e d c z =
+    (d ∙ sym (ap (λ (u : Verdict). numberFor u) e), z .same ∙ sets-over l _ ∙ ap (λ (x : ℕ). over l (x ∷ 0 ∷ [])) c ∙ sym (ap (λ (u : Verdict). over l (outWords u)) e))
 
 pub out-length : (u : Verdict) → length (outWords u) ≡ 2
 unfolding outWords

@@ -12,6 +12,7 @@ use Rattle.semantics.specs.Machine.{Value, hand, most-cells, most-frames}
 use Rattle.semantics.specs.Room.{isDone, doneAt}
 use Rattle.store.specs.declared.Value.{Value as Held}
 use Rattle.table.specs.declared.Expr.{Expr}
+use Rattle.table.specs.Told.{TwoPut}
 use Rattle.store.specs.Meaning.{kindIn, valueIn}
 use Rattle.store.specs.Words.{cellIn}
 use Rattle.store.specs.Frames.{frameIn}
@@ -25,11 +26,7 @@ use Rattle.acts.specs.View.{Tables, view}
 use Rattle.machine.specs.View.{stateOf, seen}
 use Rattle.calls.specs.Words.{over}
 use Rattle.calls.specs.Laws.{sets-over}
-use Rattle.results.specs.Values.{kindNo, payloadOf, firstWord, secondWord, handedOn, valueOf, valueWords, cellsFrom, cellWords, TwoPut, CellPut}
-
--- two words
-pub two-put : (s m k : List ℕ) (at x y : ℕ) → m ≡ set s at x → k ≡ set m (at + 1) y → TwoPut s k at x y
-two-put s m k at x y g h = let e : at + 1 ≡ suc at = omega arith in record { same = h ∙ ap (λ (z : List ℕ). set z (at + 1) y) g ∙ ap (λ (i : ℕ). set (set s at x) i y) e }
+use Rattle.results.specs.Values.{kindNo, payloadOf, firstWord, secondWord, handedOn, valueOf, valueWords, cellsFrom, cellWords, CellPut}
 
 -- the value
 none-is : (t : Thread) (u : Used) (w : Tables) → valueOf (view (stateOf t u) w) ≡ none → valueWords (view (stateOf t u) w) ≡ 0 ∷ 0 ∷ []

@@ -57,10 +57,6 @@ cellsFrom l i (suc n) = firstWord (getElem? l i) ∷ secondWord (getElem? l i) �
 unfoldable pub cellWords : Machine → List ℕ
 cellWords m = cellsFrom (m .store .cells) 0 most-cells
 
--- two words are written from place `at` on, as far as there are places
-pub record TwoPut (before after : List ℕ) (at x y : ℕ) : Type 0 where
-  pub same : after ≡ sets before at (x ∷ y ∷ [])
-
 -- what cell i of l holds is written
 pub record CellPut (l : List Value) (before after : List ℕ) (i : ℕ) : Type 0 where
   pub same : after ≡ sets before (2 * i) (firstWord (getElem? l i) ∷ secondWord (getElem? l i) ∷ [])

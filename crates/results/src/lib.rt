@@ -13,6 +13,7 @@ use store::MOST_KEYS;
 use store::MOST_PAIRS;
 use store::Used;
 use store::cap;
+use table::put_two;
 use table::put64;
 use table::wide;
 use table::wide8;
@@ -28,7 +29,7 @@ ghost use Rattle.acts.specs.View.{Tables, view};
 ghost use Rattle.machine.specs.View.{stateOf, seen};
 ghost use Rattle.calls.specs.Words.{over};
 ghost use Rattle.results.specs.Told.{numberFor, outWords, countWords, lentShort};
-ghost use Rattle.results.specs.Values.{kindNo, payloadOf, cellsFrom, valueWords, cellWords, TwoPut, CellPut};
+ghost use Rattle.results.specs.Values.{kindNo, payloadOf, cellsFrom, valueWords, cellWords, CellPut};
 
 // The words of all cells, two for each.
 pub const TOLD_WORDS: usize = CELL_WORDS * 2;
@@ -42,13 +43,11 @@ pub fn tell(v: Verdict, out: &mut [u64]) -> u64
 {
     match v {
         Verdict::Accepted(i, s) => {
-            put64(out, 0, wide16(i));
-            put64(out, 1, s);
+            put_two(out, 0, wide16(i), s);
             0
         }
         Verdict::Refused(n, p) => {
-            put64(out, 0, wide(p));
-            put64(out, 1, 0);
+            put_two(out, 0, wide(p), 0);
             wide8(n)
         }
     }
@@ -119,15 +118,6 @@ fn payload_word(k: Kind, payload: u32) -> u64
         Kind::Limit => n % 256,
         Kind::Grant => n % 256,
     }
-}
-
-// Two words from place `at` on.
-fn put_two(s: &mut [u64], at: usize, x: u64, y: u64)
-    requires { ⌜ at < 1024 ⌝ }
-    ensures { λ _. ⌜ TwoPut (now (s .entry)) (now (s .exit)) at x y ⌝ }
-{
-    put64(s, at, x);
-    put64(s, at + 1, y);
 }
 
 // The value of a finished job.

@@ -1,10 +1,11 @@
 // The ground floor of the code: limits, numbers of names, keys and expressions, refusals and how they are told, total reads and writes of tables, and the fields of their words.
 ghost use mathlib.Core.Path.{_≡_};
-ghost use Prim.Native.Nat.{_*_, _/_, _%_};
+ghost use Prim.Native.Nat.{_*_, _/_, _%_, _<_};
 ghost use lib.ListN.{length, getD, set, replicate};
+ghost use Rattle.syntax.specs.Tree.{predecessor};
 ghost use Rattle.syntax.specs.Words.{typeBits};
 ghost use Rattle.table.specs.Copied.{copied};
-ghost use Rattle.table.specs.Told.{Tells};
+ghost use Rattle.table.specs.Told.{Tells, TwoPut};
 
 // The limits of document 01: names with 0 and 1, types, variables, expressions, the depth of a type.
 pub const MOST_NAMES: usize = 64;
@@ -87,6 +88,15 @@ pub fn put64(s: &mut [u64], i: usize, x: u64)
     }
 }
 
+// Two words from place `at` on, as far as there are places.
+pub fn put_two(s: &mut [u64], at: usize, x: u64, y: u64)
+    requires { ⌜ at < 1024 ⌝ }
+    ensures { λ _. ⌜ TwoPut (now (s .entry)) (now (s .exit)) at x y ⌝ }
+{
+    put64(s, at, x);
+    put64(s, at + 1, y);
+}
+
 // The bytes at the start of the buffer; what is past them stays. Nothing where the buffer is too short for them all.
 pub fn copy(bytes: &[u8], buffer: &mut [u8])
     ensures { λ _. ⌜ now (buffer .exit) ≡ copied (now (bytes .entry)) (now (buffer .entry)) ⌝ }
@@ -147,6 +157,16 @@ pub fn tell(n: u8, word: usize, out: &mut [u64]) -> u64
 {
     put64(out, 0, wide(word));
     wide8(n)
+}
+
+// The last of so many, counted from 0; of none, 0.
+pub fn last(n: usize) -> usize
+    ensures { λ r. ⌜ r ≡ predecessor n ⌝ }
+{
+    if n == 0 {
+        return 0;
+    }
+    n - 1
 }
 
 // The word of a type: command byte, key, first and second part.

@@ -1,6 +1,6 @@
 use mathlib.Core.Path.{refl}
 use Rattle.initial.proofs.Names.{keys-within}
-use Rattle.initial.proofs.Jobs.{begun}
+use Rattle.initial.proofs.Jobs.{root-small, begun}
 use borrow.Author.Needs.{needs}
 use Rattle.initial.proofs.entered.Statement.{statement}
 use Rattle.initial.proofs.entered.Tie as tie
@@ -32,6 +32,9 @@ add-t28 c = search needs
 last-requires : tie.Need-last-requires
 last-requires c κs = search needs
 
+cast-t29 : tie.Need-cast-t29
+cast-t29 c = record { fits = root-small _ (c .last .ensures) (search needs) }
+
 returns : tie.Need-returns
 returns c = begun _ _ _ _ _ _ _ _ _ _ (search needs) (search needs) refl (c .last .ensures) (c .before .before .before .before .before .before .before .enter-names .ensures) (c .before .before .before .enter-values .ensures) (c .before .enabled-keys .ensures)
 
@@ -48,4 +51,5 @@ entered-spec =
     cast-t27
     add-t28
     last-requires
+    cast-t29
     returns)

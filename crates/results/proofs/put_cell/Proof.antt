@@ -6,7 +6,7 @@ use Rattle.results.proofs.put_cell.Reads as reads
 use Rattle.results.proofs.put_cell.Lts as lts
 use Rattle.results.proofs.kind_word.Reads as kind-word-reads
 use Rattle.results.proofs.payload_word.Reads as payload-word-reads
-use Rattle.results.proofs.put_two.Reads as put-two-reads
+use Rattle.table.proofs.put_two.Reads as put-two-reads
 use Rattle.store.proofs.cell_at.Reads as cell-at-reads
 
 mul-at : tie.Need-mul-at

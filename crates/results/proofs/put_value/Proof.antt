@@ -6,7 +6,7 @@ use Rattle.results.proofs.put_value.Reads as reads
 use Rattle.results.proofs.put_value.Lts as lts
 use Rattle.results.proofs.kind_word.Reads as kind-word-reads
 use Rattle.results.proofs.payload_word.Reads as payload-word-reads
-use Rattle.results.proofs.put_two.Reads as put-two-reads
+use Rattle.table.proofs.put_two.Reads as put-two-reads
 
 enum-known-c : tie.Need-enum-known-c
 enum-known-c c = search needs

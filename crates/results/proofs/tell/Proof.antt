@@ -4,7 +4,7 @@ use Rattle.results.proofs.tell.Statement.{statement}
 use Rattle.results.proofs.tell.Tie as tie
 use Rattle.results.proofs.tell.Reads as reads
 use Rattle.results.proofs.tell.Lts as lts
-use Rattle.table.proofs.put64.Reads as put64-reads
+use Rattle.table.proofs.put_two.Reads as put-two-reads
 use Rattle.table.proofs.wide.Reads as wide-reads
 use Rattle.table.proofs.wide16.Reads as wide16-reads
 use Rattle.table.proofs.wide8.Reads as wide8-reads
@@ -15,11 +15,8 @@ enum-known-v c = search needs
 wide16-requires : tie.Need-wide16-requires
 wide16-requires c κs = search needs
 
-put64-requires : tie.Need-put64-requires
-put64-requires c κs = search needs
-
-put64-requires-2 : tie.Need-put64-requires-2
-put64-requires-2 c κs = search needs
+put-two-requires : tie.Need-put-two-requires
+put-two-requires c κs = search needs
 
 enum-known-v-2 : tie.Need-enum-known-v-2
 enum-known-v-2 c = search needs
@@ -27,11 +24,8 @@ enum-known-v-2 c = search needs
 wide-requires : tie.Need-wide-requires
 wide-requires c κs = search needs
 
-put64-requires-3 : tie.Need-put64-requires-3
-put64-requires-3 c κs = search needs
-
-put64-requires-4 : tie.Need-put64-requires-4
-put64-requires-4 c κs = search needs
+put-two-requires-2 : tie.Need-put-two-requires-2
+put-two-requires-2 c κs = search needs
 
 wide8-requires : tie.Need-wide8-requires
 wide8-requires c κs = search needs
@@ -40,13 +34,13 @@ same-length : tie.Need-same-length
 same-length c = search needs
 
 returns : tie.Need-returns
-returns c = tells-accepted _ _ _ _ (c .before .before .before .before .before .before .before .before .before .before .v .given .1) (c .before .before .before .before .before .before .before .wide16 .ensures) (c .before .before .before .before .before .before .put64 .ensures) (c .before .before .put642 .ensures)
+returns c = tells-accepted _ _ _ _ (c .before .before .before .before .before .before .v .given .1) (c .before .before .before .wide16 .ensures) (c .before .before .put-two .ensures)
 
 same-length-2 : tie.Need-same-length-2
 same-length-2 c = search needs
 
 returns-2 : tie.Need-returns-2
-returns-2 c = tells-refused _ _ _ _ (c .before .before .before .before .before .before .before .before .before .before .before .v2 .given .1) (c .wide8 .ensures) (c .before .before .before .before .before .before .before .before .wide .ensures) (c .before .before .before .before .before .before .before .put643 .ensures) (c .before .before .before .put644 .ensures)
+returns-2 c = tells-refused _ _ _ _ (c .before .before .before .before .before .before .before .v2 .given .1) (c .wide8 .ensures) (c .before .before .before .before .wide .ensures) (c .before .before .before .put-two2 .ensures)
 
 pub tell-spec : {M : Type 1} → statement M
 tell-spec =
@@ -54,12 +48,10 @@ tell-spec =
     (tie.spec
     enum-known-v
     wide16-requires
-    put64-requires
-    put64-requires-2
+    put-two-requires
     enum-known-v-2
     wide-requires
-    put64-requires-3
-    put64-requires-4
+    put-two-requires-2
     wide8-requires
     same-length
     returns
