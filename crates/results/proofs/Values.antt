@@ -6,7 +6,7 @@ use mathlib.Core.Bool.{Bool, true, false, cond}
 use mathlib.Core.List.{List, [], _∷_}
 use mathlib.Core.Option.{Option, none, some}
 use lib.Dec.{ltb}
-use lib.ListN.{length, set, getElem?}
+use lib.ListN.{length, getElem?}
 use lib.Seq.{sets}
 use Rattle.semantics.specs.Machine.{Value, hand, most-cells, most-frames}
 use Rattle.semantics.specs.Room.{isDone, doneAt}

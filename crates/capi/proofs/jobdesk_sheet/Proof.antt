@@ -2,12 +2,6 @@ use Rattle.capi.proofs.SheetTold.{sheet-told}
 use borrow.Author.Needs.{needs}
 use Rattle.capi.proofs.jobdesk_sheet.Statement.{statement}
 use Rattle.capi.proofs.jobdesk_sheet.Tie as tie
-use Rattle.capi.proofs.jobdesk_sheet.Reads as reads
-use Rattle.capi.proofs.jobdesk_sheet.Lts as lts
-use Rattle.table.proofs.put_two.Reads as put-two-reads
-use Rattle.table.proofs.wide.Reads as wide-reads
-use Rattle.table.proofs.wide8.Reads as wide8-reads
-use Rattle.wall.proofs.sheet.Reads as sheet-reads
 
 sheet-requires : tie.Need-sheet-requires
 sheet-requires c κs = search needs

@@ -3,8 +3,6 @@ use borrow.Author.Tests.{le-ltb, lt-ltb}
 use borrow.Author.Needs.{needs}
 use Rattle.columns.proofs.digit.Statement.{statement}
 use Rattle.columns.proofs.digit.Tie as tie
-use Rattle.columns.proofs.digit.Reads as reads
-use Rattle.columns.proofs.digit.Lts as lts
 
 returns : tie.Need-returns
 unfolding column

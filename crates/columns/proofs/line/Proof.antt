@@ -2,11 +2,6 @@ use Rattle.output.specs.ColumnLaws.{columns}
 use borrow.Author.Needs.{needs}
 use Rattle.columns.proofs.line.Statement.{statement}
 use Rattle.columns.proofs.line.Tie as tie
-use Rattle.columns.proofs.line.Reads as reads
-use Rattle.columns.proofs.line.Lts as lts
-use Rattle.columns.proofs.ones.Reads as ones-reads
-use Rattle.columns.proofs.pick.Reads as pick-reads
-use Rattle.columns.proofs.digit.Reads as digit-reads
 
 digit-requires : tie.Need-digit-requires
 digit-requires c κs = search needs

@@ -2,12 +2,6 @@ use Rattle.results.proofs.Values.{cell-there, cell-none}
 use borrow.Author.Needs.{needs}
 use Rattle.results.proofs.put_cell.Statement.{statement}
 use Rattle.results.proofs.put_cell.Tie as tie
-use Rattle.results.proofs.put_cell.Reads as reads
-use Rattle.results.proofs.put_cell.Lts as lts
-use Rattle.results.proofs.kind_word.Reads as kind-word-reads
-use Rattle.results.proofs.payload_word.Reads as payload-word-reads
-use Rattle.table.proofs.put_two.Reads as put-two-reads
-use Rattle.store.proofs.cell_at.Reads as cell-at-reads
 
 mul-at : tie.Need-mul-at
 mul-at c = search needs

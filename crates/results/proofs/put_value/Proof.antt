@@ -2,11 +2,6 @@ use Rattle.results.proofs.Values.{put-enter, put-done, put-waits}
 use borrow.Author.Needs.{needs}
 use Rattle.results.proofs.put_value.Statement.{statement}
 use Rattle.results.proofs.put_value.Tie as tie
-use Rattle.results.proofs.put_value.Reads as reads
-use Rattle.results.proofs.put_value.Lts as lts
-use Rattle.results.proofs.kind_word.Reads as kind-word-reads
-use Rattle.results.proofs.payload_word.Reads as payload-word-reads
-use Rattle.table.proofs.put_two.Reads as put-two-reads
 
 enum-known-c : tie.Need-enum-known-c
 enum-known-c c = search needs

@@ -2,12 +2,6 @@ use Rattle.results.proofs.Told.{tells-accepted, tells-refused}
 use borrow.Author.Needs.{needs}
 use Rattle.results.proofs.tell.Statement.{statement}
 use Rattle.results.proofs.tell.Tie as tie
-use Rattle.results.proofs.tell.Reads as reads
-use Rattle.results.proofs.tell.Lts as lts
-use Rattle.table.proofs.put_two.Reads as put-two-reads
-use Rattle.table.proofs.wide.Reads as wide-reads
-use Rattle.table.proofs.wide16.Reads as wide16-reads
-use Rattle.table.proofs.wide8.Reads as wide8-reads
 
 enum-known-v : tie.Need-enum-known-v
 enum-known-v c = search needs

@@ -6,9 +6,6 @@ use lib.ListN.{set}
 use borrow.Author.Needs.{needs}
 use Rattle.table.proofs.put_two.Statement.{statement}
 use Rattle.table.proofs.put_two.Tie as tie
-use Rattle.table.proofs.put_two.Reads as reads
-use Rattle.table.proofs.put_two.Lts as lts
-use Rattle.table.proofs.put64.Reads as put64-reads
 use Rattle.table.specs.Told.{TwoPut}
 
 two-put : (s m k : List ℕ) (at x y : ℕ) → m ≡ set s at x → k ≡ set m (at + 1) y → TwoPut s k at x y
