@@ -73,18 +73,18 @@ unlentLines =
     ∷ 0x75 ∷ 0x6D ∷ 0x62 ∷ 0x65 ∷ 0x72 ∷ 0x20 ∷ 0x30 ∷ 0x0A ∷ []
 
 --   accepted 0000000000000000 number
---   done 5 number, and what was reckoned
-unfoldable pub reckonedLines : List ℕ → List ℕ
-reckonedLines n =
-    (0x61 ∷ 0x63 ∷ 0x63 ∷ 0x65 ∷ 0x70 ∷ 0x74 ∷ 0x65 ∷ 0x64 ∷ 0x20 ∷ 0x30 ∷ 0x30 ∷ 0x30 ∷ 0x30 ∷ 0x30 ∷ 0x30 ∷ 0x30 ∷ 0x30 ∷ 0x30 ∷ 0x30 ∷ 0x30 ∷ 0x30 ∷ 0x30 ∷ 0x30 ∷ 0x30 ∷ 0x30 ∷ 0x20 ∷ 0x6E ∷ 0x75 ∷ 0x6D ∷ 0x62 ∷ 0x65 ∷ 0x72 ∷ 0x0A ∷ 0x64 ∷ 0x6F ∷ 0x6E ∷ 0x65 ∷ 0x20 ∷ 0x35 ∷ 0x20 ∷ 0x6E ∷ 0x75 ∷ 0x6D ∷ 0x62 ∷ 0x65 ∷ 0x72 ∷ 0x20 ∷ []) ++ (n ++ (0x0A ∷ []))
+--   done, after so many steps (a digit), number, and which
+unfoldable pub numberLines : ℕ → List ℕ → List ℕ
+numberLines d n =
+    (0x61 ∷ 0x63 ∷ 0x63 ∷ 0x65 ∷ 0x70 ∷ 0x74 ∷ 0x65 ∷ 0x64 ∷ 0x20 ∷ 0x30 ∷ 0x30 ∷ 0x30 ∷ 0x30 ∷ 0x30 ∷ 0x30 ∷ 0x30 ∷ 0x30 ∷ 0x30 ∷ 0x30 ∷ 0x30 ∷ 0x30 ∷ 0x30 ∷ 0x30 ∷ 0x30 ∷ 0x30 ∷ 0x20 ∷ 0x6E ∷ 0x75 ∷ 0x6D ∷ 0x62 ∷ 0x65 ∷ 0x72 ∷ 0x0A ∷ 0x64 ∷ 0x6F ∷ 0x6E ∷ 0x65 ∷ 0x20 ∷ d ∷ 0x20 ∷ 0x6E ∷ 0x75 ∷ 0x6D ∷ 0x62 ∷ 0x65 ∷ 0x72 ∷ 0x20 ∷ []) ++ (n ++ (0x0A ∷ []))
 
 --   accepted 0000000000000020 number
---   done 135 number 255
+--   done 141 number 36
 abbrev everyLines : List ℕ
 everyLines =
     0x61 ∷ 0x63 ∷ 0x63 ∷ 0x65 ∷ 0x70 ∷ 0x74 ∷ 0x65 ∷ 0x64 ∷ 0x20 ∷ 0x30 ∷ 0x30 ∷ 0x30 ∷ 0x30 ∷ 0x30 ∷ 0x30 ∷ 0x30 ∷ 0x30 ∷ 0x30 ∷ 0x30 ∷ 0x30 ∷ 0x30
-    ∷ 0x30 ∷ 0x30 ∷ 0x32 ∷ 0x30 ∷ 0x20 ∷ 0x6E ∷ 0x75 ∷ 0x6D ∷ 0x62 ∷ 0x65 ∷ 0x72 ∷ 0x0A ∷ 0x64 ∷ 0x6F ∷ 0x6E ∷ 0x65 ∷ 0x20 ∷ 0x31 ∷ 0x33 ∷ 0x35
-    ∷ 0x20 ∷ 0x6E ∷ 0x75 ∷ 0x6D ∷ 0x62 ∷ 0x65 ∷ 0x72 ∷ 0x20 ∷ 0x32 ∷ 0x35 ∷ 0x35 ∷ 0x0A ∷ []
+    ∷ 0x30 ∷ 0x30 ∷ 0x32 ∷ 0x30 ∷ 0x20 ∷ 0x6E ∷ 0x75 ∷ 0x6D ∷ 0x62 ∷ 0x65 ∷ 0x72 ∷ 0x0A ∷ 0x64 ∷ 0x6F ∷ 0x6E ∷ 0x65 ∷ 0x20 ∷ 0x31 ∷ 0x34 ∷ 0x31
+    ∷ 0x20 ∷ 0x6E ∷ 0x75 ∷ 0x6D ∷ 0x62 ∷ 0x65 ∷ 0x72 ∷ 0x20 ∷ 0x33 ∷ 0x36 ∷ 0x0A ∷ []
 
 unfoldable pub isRead : Reading.Read → Bool
 isRead (Reading.refused r) = false
@@ -127,10 +127,22 @@ pub record Marked : Type 0 where
   pub depth-16 : isRead (Reading.reading (Jobs.nested 15)) ≡ true
   pub depth-17 : Reading.reading (Jobs.nested 16) ≡ Reading.refusedAt 6 62
   -- 4294967295 + 1 = 4294967295 and 3 − 5 = 0, as document 02 has them (F-2): jobs of three expressions, printed whole; and two that pass no end
-  pub sum-stops : Lines.deskOf (Jobs.reckoning 0 0xFF 0xFF 1 0) ≡ reckonedLines (0x34 ∷ 0x32 ∷ 0x39 ∷ 0x34 ∷ 0x39 ∷ 0x36 ∷ 0x37 ∷ 0x32 ∷ 0x39 ∷ 0x35 ∷ [])
-  pub difference-stops : Lines.deskOf (Jobs.reckoning 1 3 0 5 0) ≡ reckonedLines (0x30 ∷ [])
-  pub sum-true : Lines.deskOf (Jobs.reckoning 0 3 0 5 0) ≡ reckonedLines (0x38 ∷ [])
-  pub difference-true : Lines.deskOf (Jobs.reckoning 1 5 0 3 0) ≡ reckonedLines (0x32 ∷ [])
+  pub sum-stops : Lines.deskOf (Jobs.reckoning 0 0xFF 0xFF 1 0) ≡ numberLines 0x35 (0x34 ∷ 0x32 ∷ 0x39 ∷ 0x34 ∷ 0x39 ∷ 0x36 ∷ 0x37 ∷ 0x32 ∷ 0x39 ∷ 0x35 ∷ [])
+  pub difference-stops : Lines.deskOf (Jobs.reckoning 1 3 0 5 0) ≡ numberLines 0x35 (0x30 ∷ [])
+  pub sum-true : Lines.deskOf (Jobs.reckoning 0 3 0 5 0) ≡ numberLines 0x35 (0x38 ∷ [])
+  pub difference-true : Lines.deskOf (Jobs.reckoning 1 5 0 3 0) ≡ numberLines 0x35 (0x32 ∷ [])
+  -- 17 over 5 is 3, with 2 left, and 4294967295 over 0 is 0, with all left (F-5): jobs of four expressions, printed whole
+  pub share : Lines.deskOf (Jobs.sharing 1 17 0 5 0) ≡ numberLines 0x37 (0x33 ∷ [])
+  pub share-left : Lines.deskOf (Jobs.sharing 2 17 0 5 0) ≡ numberLines 0x37 (0x32 ∷ [])
+  pub share-of-none : Lines.deskOf (Jobs.sharing 1 0xFF 0xFF 0 0) ≡ numberLines 0x37 (0x30 ∷ [])
+  pub share-all-left : Lines.deskOf (Jobs.sharing 2 0xFF 0xFF 0 0) ≡ numberLines 0x37 (0x34 ∷ 0x32 ∷ 0x39 ∷ 0x34 ∷ 0x39 ∷ 0x36 ∷ 0x37 ∷ 0x32 ∷ 0x39 ∷ 0x35 ∷ [])
+  -- both are touched: with a key on either the rights must lend it, and the machine, started anyway, is denied
+  pub share-keyed : Verdict.verdictOf (Jobs.keyedSharing 0x04 2 3) ≡ Verdict.accept (Types.pair 0 (Types.num 0) (Types.num 0)) (Effects.ofWord 0x04)
+  pub share-refused : Verdict.verdictOf (Jobs.keyedSharing 0x00 2 3) ≡ Verdict.refuse (record { number = 14; place = 4 })
+  pub share-denied : started 100000 (Jobs.keyedSharing 0x00 2 3) ≡ some (record { answer = Calls.denied; count = 8 })
+  pub share-keyed-by : Verdict.verdictOf (Jobs.keyedSharing 0x04 3 2) ≡ Verdict.accept (Types.pair 0 (Types.num 0) (Types.num 0)) (Effects.ofWord 0x04)
+  pub share-refused-by : Verdict.verdictOf (Jobs.keyedSharing 0x00 3 2) ≡ Verdict.refuse (record { number = 14; place = 4 })
+  pub share-denied-by : started 100000 (Jobs.keyedSharing 0x00 3 2) ≡ some (record { answer = Calls.denied; count = 8 })
   -- an unkeyed cell read with no rights done
   pub unkeyed-done : Lines.deskOf Jobs.unkeyedRead ≡ unkeyedLines
   -- a keyed read inside a limit without keys refused with 13
@@ -163,7 +175,7 @@ pub record Marked : Type 0 where
   pub unscoped-untyped : (T : Types.Ty) (s : Effects.Effect) → Demand2.JobHas Examples.unscoped T s → ⊥
 
 pub marked : Marked
-unfolding Bools._and_ Bools._or_ Order.onUpper Order.belowIn Order.below Sets.bit Sets.consIf Sets.membersFrom Sets.members Sets.setOf Sets.keep Sets.some-of Sets.all-of Effects.ofNames Effects.names Effects.touch Effects.join Effects.effBelow Effects.maximal Effects.reduced Effects.reduce Effects.drop Effects.raise Types.keyOf Types.rekey Types.depth Types.namesIn Types.entryTree Types.treeIn Types.tree Commands.mapCmd Commands.commands Commands.findOp Commands.opOf Commands.operands Commands.total Commands.width Commands.sectionOf Commands.little Commands.fields Operands.nth Operands.plain Operands.inner Operands.children Operands.typesOf Operands.usesVar Operands.bindsVar Operands.bindsName Job.uppers Job.valueOf Job.sourceOf Reading.declared Reading.isHost Reading.hostName Reading.openName Reading.localName Reading.setOk Reading.nameOk Reading.partsOk Reading.typeOk Reading.unkeyedNumber Reading.hostTypeOk Reading.hostValueOk Reading.rightsOk Reading.cmdOk Reading.written Reading.given Reading.enter Reading.misplaced Reading.full Reading.settle Reading.command Reading.ended Reading.onward Reading.onOp Reading.readFrom Reading.reading Tree.binds Tree.varsOf Tree.namesOf Tree.memB Tree.usesName Tree.addHost Tree.nameCtx Tree.valueCtx Tree.hostCtx Tree.root Tree.count Tree.uses Tree.usedRight Tree.boundBy Tree.bindsNew Tree.parent Tree.scopeIn Tree.ctx Tree.nameIn Tree.inScope Tree.firstBad Tree.orElse Tree.numbered Tree.lowest Tree.treeRefusal Subtype.sameTy Subtype.subTy Subtype.superTy Least.with Least.wantNum Least.wantPair Least.wantCell Least.wantFn Least.wantLim Least.wantGrant Least.require Least.isUpper Least.typeIn Least.varType Least.ofVar Least.keysAt Least.typeAt Least.get Least.extend Least.typesTo Least.types Least.typeOf Least.firstUntyped Verdict.unless Verdict.within Verdict.judged Verdict.judge Verdict.judgeRead Verdict.verdictOf Keys.enabled Keys.upto Keys.narrow Keys.add Step.room Step.touch Step.touchAll Step.settle Step.asNum Step.asPair Step.asFn Step.asCell Step.asLim Step.asGrant Step.found Step.bare Step.one Step.two Step.actPair Step.partOf Step.actPart Step.actFn Step.actApp Step.actNew Step.actAsg Step.actRead Step.sumN Step.actSum Step.branch Step.actTest Step.limitKeys Step.keysOf Step.actLim Step.actGrant Step.makeKey Step.actNewkey Step.actAssoc Step.actAccess Operands.evaluated Step.push Step.act Step.seekIn Step.seekAt Step.seek Step.variable Step.enterAt Step.enterCmd Step.receive Step.handTo Step.planOn Step.plan Step.step Room.doneAt Room.isDone Start.bindTo Start.addName Start.addNames Start.named Start.hostValue Start.hostCell Start.addValues Start.keyNamed Start.valued Start.startOf Calls.turn Calls.run Calls.call Calls.calls Lines.decimalIn Lines.decimal Lines.hexDigit Lines.hex Lines.w-refused Lines.w-at Lines.w-accepted Lines.w-done Lines.w-spent Lines.w-no-room Lines.w-number Lines.w-pair Lines.w-cell Lines.w-function Lines.w-limit Lines.w-grant Lines.space Lines.line Lines.typeKind Lines.valueKind Lines.handed Lines.refusedLine Lines.acceptedLine Lines.ranLine Lines.ranOf Lines.runLine Lines.runRead Lines.reported Lines.deskOf Lines.printed flatMap Jobs.example Jobs.asking Jobs.cellsFrom Jobs.nested Jobs.reckoning reckonedLines Jobs.unkeyedRead Jobs.limitedRead Jobs.everyCommand Jobs.unscoped isRead told ranFrom started Loading.unless Loading.inTree Loading.loading Starting.startLoaded Starting.starting Tree.predecessor Types.byType Types.onNum Types.onPair Types.onCell Types.onFn Types.onLim Types.onGrant Effects.setNames Effects.setTouch Effects.setBelow Effects.setReduced Effects.setReduce Effects.setDrop Effects.setRaise
+unfolding Bools._and_ Bools._or_ Order.onUpper Order.belowIn Order.below Sets.bit Sets.consIf Sets.membersFrom Sets.members Sets.setOf Sets.keep Sets.some-of Sets.all-of Effects.ofNames Effects.names Effects.touch Effects.join Effects.effBelow Effects.maximal Effects.reduced Effects.reduce Effects.drop Effects.raise Types.keyOf Types.rekey Types.depth Types.namesIn Types.entryTree Types.treeIn Types.tree Commands.mapCmd Commands.commands Commands.findOp Commands.opOf Commands.operands Commands.total Commands.width Commands.sectionOf Commands.little Commands.fields Operands.nth Operands.plain Operands.inner Operands.children Operands.typesOf Operands.usesVar Operands.bindsVar Operands.bindsName Job.uppers Job.valueOf Job.sourceOf Reading.declared Reading.isHost Reading.hostName Reading.openName Reading.localName Reading.setOk Reading.nameOk Reading.partsOk Reading.typeOk Reading.unkeyedNumber Reading.hostTypeOk Reading.hostValueOk Reading.rightsOk Reading.cmdOk Reading.written Reading.given Reading.enter Reading.misplaced Reading.full Reading.settle Reading.command Reading.ended Reading.onward Reading.onOp Reading.readFrom Reading.reading Tree.binds Tree.varsOf Tree.namesOf Tree.memB Tree.usesName Tree.addHost Tree.nameCtx Tree.valueCtx Tree.hostCtx Tree.root Tree.count Tree.uses Tree.usedRight Tree.boundBy Tree.bindsNew Tree.parent Tree.scopeIn Tree.ctx Tree.nameIn Tree.inScope Tree.firstBad Tree.orElse Tree.numbered Tree.lowest Tree.treeRefusal Subtype.sameTy Subtype.subTy Subtype.superTy Least.with Least.wantNum Least.wantPair Least.wantCell Least.wantFn Least.wantLim Least.wantGrant Least.require Least.isUpper Least.typeIn Least.varType Least.ofVar Least.keysAt Least.typeAt Least.get Least.extend Least.typesTo Least.types Least.typeOf Least.firstUntyped Verdict.unless Verdict.within Verdict.judged Verdict.judge Verdict.judgeRead Verdict.verdictOf Keys.enabled Keys.upto Keys.narrow Keys.add Step.room Step.touch Step.touchAll Step.settle Step.asNum Step.asPair Step.asFn Step.asCell Step.asLim Step.asGrant Step.found Step.bare Step.one Step.two Step.actPair Step.partOf Step.actPart Step.actFn Step.actApp Step.actNew Step.actAsg Step.actRead Step.sumN Step.actSum Step.branch Step.actTest Step.limitKeys Step.keysOf Step.actLim Step.actGrant Step.makeKey Step.actNewkey Step.actAssoc Step.actAccess Step.quotient Step.remainder Step.actDivide Operands.evaluated Step.push Step.act Step.seekIn Step.seekAt Step.seek Step.variable Step.enterAt Step.enterCmd Step.receive Step.handTo Step.planOn Step.plan Step.step Room.doneAt Room.isDone Start.bindTo Start.addName Start.addNames Start.named Start.hostValue Start.hostCell Start.addValues Start.keyNamed Start.valued Start.startOf Calls.turn Calls.run Calls.call Calls.calls Lines.decimalIn Lines.decimal Lines.hexDigit Lines.hex Lines.w-refused Lines.w-at Lines.w-accepted Lines.w-done Lines.w-spent Lines.w-no-room Lines.w-number Lines.w-pair Lines.w-cell Lines.w-function Lines.w-limit Lines.w-grant Lines.space Lines.line Lines.typeKind Lines.valueKind Lines.handed Lines.refusedLine Lines.acceptedLine Lines.ranLine Lines.ranOf Lines.runLine Lines.runRead Lines.reported Lines.deskOf Lines.printed flatMap Jobs.example Jobs.asking Jobs.cellsFrom Jobs.nested Jobs.reckoning Jobs.sharing Jobs.keyedSharing numberLines Jobs.unkeyedRead Jobs.limitedRead Jobs.everyCommand Jobs.unscoped isRead told ranFrom started Loading.unless Loading.inTree Loading.loading Starting.startLoaded Starting.starting Tree.predecessor Types.byType Types.onNum Types.onPair Types.onCell Types.onFn Types.onLim Types.onGrant Effects.setNames Effects.setTouch Effects.setBelow Effects.setReduced Effects.setReduce Effects.setDrop Effects.setRaise
 marked =
     record {
       bits = refl;
@@ -180,6 +192,16 @@ marked =
       difference-stops = refl;
       sum-true = refl;
       difference-true = refl;
+      share = refl;
+      share-left = refl;
+      share-of-none = refl;
+      share-all-left = refl;
+      share-keyed = refl;
+      share-refused = refl;
+      share-denied = refl;
+      share-keyed-by = refl;
+      share-refused-by = refl;
+      share-denied-by = refl;
       unkeyed-done = refl;
       limited-refused = refl;
       limited-denied = refl;

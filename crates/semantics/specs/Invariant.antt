@@ -11,7 +11,7 @@ use Rattle.order.specs.OrderLaws.{Proper}
 use Rattle.order.specs.Sets.{members}
 use Rattle.order.specs.Effects.{Effect, names}
 use Rattle.syntax.specs.Types.{Ty, num, lim}
-use Rattle.syntax.specs.Commands.{Cmd, c-pair, c-part, c-app, c-new, c-asg, c-read, c-sum, c-test, c-lim, c-grant, c-newkey, c-assoc, c-access}
+use Rattle.syntax.specs.Commands.{Cmd, c-pair, c-part, c-app, c-new, c-asg, c-read, c-sum, c-test, c-lim, c-grant, c-newkey, c-assoc, c-access, c-divide}
 use Rattle.syntax.specs.Job.{Src, upOf}
 use Rattle.syntax.specs.Tree.{Entry, e-var, e-name, keyPair}
 use Rattle.typing.specs.Subtype.{Sub}
@@ -152,6 +152,11 @@ pub data FrameOk (S : Src) (W : World) : Cmd Ty → List Value → ℕ → ℕ �
       → Env S W e E Γ → Has S Γ b B t → ((n : ℕ) → List·Memᴰ n (names t) → On (W .keys) (members on) (look E n) ⊎ Below (W .keys) (look E n) j) → Sub (upOf S) B T
       → Has S Γ c C u → Covers (W .keys) (members on) (look E) u → Sub (upOf S) C T → On (W .keys) (members on) q
       → FrameOk S W (c-access a b c T) [] e on (rlim q j) (inst (look E) T)
+  fo-divide1 : {e on a b p q : ℕ} {E : List Bind} {Γ : List Entry} {t : Effect}
+      → Env S W e E Γ → Has S Γ b (num q) t → Covers (W .keys) (members on) (look E) t → On (W .keys) (members on) p → On (W .keys) (members on) (look E q)
+      → FrameOk S W (c-divide a b) [] e on (rnum p) (rpair 0 (rnum 0) (rnum 0))
+  fo-divide2 : {e on a b p q : ℕ} {v : Value}
+      → Fits W v (rnum p) → On (W .keys) (members on) p → On (W .keys) (members on) q → FrameOk S W (c-divide a b) (v ∷ []) e on (rnum q) (rpair 0 (rnum 0) (rnum 0))
 
 -- the frames take a value of the type
 pub data StackOk (S : Src) (W : World) : List Frame → RTy → Type 0 where

@@ -6,6 +6,7 @@ pub mod Wants
 pub mod StepExactly
 pub mod ActLaws
 pub mod ArithmeticLaws
+pub mod DivisionLaws
 pub mod StepKeeps
 pub mod Agreement
 pub mod Start

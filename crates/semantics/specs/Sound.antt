@@ -23,17 +23,17 @@ use Rattle.syntax.specs.Tree.{Entry, e-var, e-name, keyPair}
 use Rattle.typing.specs.Subtype.{Sub}
 use Rattle.typing.specs.FreeNames.{Free}
 use Rattle.typing.specs.Scoped.{scoped-free}
-use Rattle.typing.specs.Rules.{Has, h-num, h-top, h-var, h-pair, h-part1, h-part2, h-fn, h-app, h-new, h-asg, h-read, h-sum, h-test, h-lim, h-grant, h-newkey, h-assoc, h-access, h-sub, HasKeys, k-nil, k-cons, Fresh, codeOf}
-use Rattle.semantics.specs.Machine.{Kind, k-pair, k-fn, k-lim, k-grant, Value, unkeyed, Bind, b-var, b-name, Link, Frame, Control, hand, Thread, Store, Machine, most-bindings}
+use Rattle.typing.specs.Rules.{Has, h-num, h-top, h-var, h-pair, h-part1, h-part2, h-fn, h-app, h-new, h-asg, h-read, h-sum, h-test, h-lim, h-grant, h-newkey, h-assoc, h-access, h-divide, h-sub, HasKeys, k-nil, k-cons, Fresh, codeOf}
+use Rattle.semantics.specs.Machine.{Kind, k-num, k-pair, k-fn, k-lim, k-grant, Value, unkeyed, Bind, b-var, b-name, Link, Frame, Control, hand, Thread, Store, Machine, most-bindings}
 use Rattle.semantics.specs.Keys.{enabled, add}
 use Rattle.semantics.specs.Step
 use Rattle.semantics.specs.Step.{Out, o-step, o-done, o-room, Plan, p-done, p-try, room, touchAll, settle, asNum, asPair, asFn, asCell, asLim, asGrant, found, bare, one, two}
-use Rattle.semantics.specs.Step.{actPair, partOf, actPart, actFn, actApp, actNew, actAsg, actRead, actSum, branch, actTest, limitKeys, keysOf, actLim, actGrant, makeKey, actNewkey, actAssoc, actAccess}
+use Rattle.semantics.specs.Step.{makesPair, actPair, partOf, actPart, actFn, actApp, actNew, actAsg, actRead, actSum, branch, actTest, limitKeys, keysOf, actLim, actGrant, makeKey, actNewkey, actAssoc, actAccess, actDivide}
 use Rattle.semantics.specs.Step.{variable, push, act, enterAt, enterCmd, receive, handTo, planOn, plan, step}
 use Rattle.semantics.specs.RuntimeTypes.{RTy, rnum, rpair, rcell, rfn, rlim, rgrant, Under, RSub, r-num, r-pair, r-cell, r-fn, r-lim, r-grant, rkey, rrekey, inst, rsub-refl, rsub-trans, rsub-key, rsub-rekey, inst-rekey, inst-key, under-refl}
 use Rattle.semantics.specs.Chains.{look, lookVar, Chain, ch-cons, chain-le, chain-seek, chain-wider, seam, seam-next, length-two}
 use Rattle.semantics.specs.Invariant.{TwoTy, FnTy, fty, World, worldOf, Ext, Typ, t-num, t-pair, t-cell, t-fn, t-lim, t-grant, Fits, On, on-zero, on-key, OnAll, Covers, EnvOk, eo-var, eo-name, Env, Held, hd-nil, hd-cons, Rest, rest-here, rest-next}
-use Rattle.semantics.specs.Invariant.{FrameOk, fo-pair1, fo-pair2, fo-part1, fo-part2, fo-app1, fo-app2, fo-new, fo-read, fo-asg1, fo-asg2, fo-sum1, fo-sum2, fo-test, fo-lim, fo-grant, fo-newkey, fo-assoc1, fo-assoc2, fo-access}
+use Rattle.semantics.specs.Invariant.{FrameOk, fo-pair1, fo-pair2, fo-part1, fo-part2, fo-app1, fo-app2, fo-new, fo-read, fo-asg1, fo-asg2, fo-sum1, fo-sum2, fo-test, fo-lim, fo-grant, fo-newkey, fo-assoc1, fo-assoc2, fo-access, fo-divide1, fo-divide2}
 use Rattle.semantics.specs.Invariant.{StackOk, so-nil, so-cons, ThreadOk, to-enter, to-hand, FnOk, f-fn, StoreOk, KeysOk, Ok}
 use Rattle.semantics.specs.Growth.{ext-refl, fits-ext, on-ext, covers-ext, envOk-ext, env-ext, stack-ext}
 use Rattle.semantics.specs.Enabled.{on-more, enabled-on, on-enabled, on-below, on-narrow, keys-snoc, on-under, add-new, add-old, on-name, covers-join-l, covers-join-r, covers-old, covers-touch, covers-map, map-covers}
@@ -245,6 +245,11 @@ module _ (S : Src) (σ : Store) (pt : List TwoTy) (ft : List FnTy) (ct : List RT
         let g = covers-join-r s (join (drop (upOf S) r t) u) w in
         rw c (push-ok _ c o x (covers-join-l s (join (drop (upOf S) r t) u) w) kb-refl
         (fo-access o y (dropped-or r t o (covers-join-l (drop (upOf S) r t) u g)) a z (covers-join-r (drop (upOf S) r t) u g) b (covers-touch (env-zero (o .ok)) q (join s (join (drop (upOf S) r t) u)) v)) k)
+    enter-ok o (h-divide {p = p} {q = q} {s = s} {t = t} c x y) v k =
+        let u = covers-old p _ v in
+        let w = covers-old q (join s t) u in
+        rw c (push-ok _ c o x (covers-join-l s t w) kb-refl
+        (fo-divide1 o y (covers-join-r s t w) (covers-touch (env-zero (o .ok)) p _ v) (covers-touch (env-zero (o .ok)) q (join s t) u)) (stack-sub (r-pair bot (r-num bot) (r-num bot)) k))
     enter-ok o (h-sub d x p u i) v k = enter-ok o d (covers-below ko (o .ok) v u) (stack-sub (env-sub (o .ok) x) k)
 
     part1-ok : {k q : ℕ} {x : Kind} {X A B : RTy} → RSub (σ .keys) X (rpair q A B) → Typ W k x X → OnHere q → Stack A → Sure S W (actPart true (val k x) m)
@@ -255,12 +260,11 @@ module _ (S : Src) (σ : Store) (pt : List TwoTy) (ft : List FnTy) (ct : List RT
     unfolding actPart asPair found partOf
     part2-ok (r-pair b y z) (t-pair {t = t} e) on k = let o = st .ps _ t e in rw (o .found) (sure-try (one-key (on-below ko on b)) (λ r. step-ok (to-hand (fits-sub (o .two) z) k)))
 
-    pair-ok : {v w : Value} {A B : RTy} → Fits W v A → Fits W w B → Stack (rpair 0 A B) → Sure S W (actPair v w m)
-    unfolding actPair
-    pair-ok {v} {w} {A} {B} f g k =
+    makes-pair : {ks : List ℕ} {v w : Value} {A B : RTy} → AllOn m ks → Fits W v A → Fits W w B → Stack (rpair 0 A B) → Sure S W (makesPair ks v w m)
+    makes-pair {v = v} {w} {A} {B} on f g k =
         let t : TwoTy = record { one = A; two = B } in
         let x = pair-extends st t in
-        sure-try no-key (λ z. g-step (record {
+        sure-try on (λ z. g-step (record {
           pt = pt ++ (t ∷ []);
           ft = ft;
           ct = ct;
@@ -269,6 +273,10 @@ module _ (S : Src) (σ : Store) (pt : List TwoTy) (ft : List FnTy) (ct : List RT
           store = add-pair st t (record { one = v; two = w }) (fits-ext x f) (fits-ext x g);
           thread = to-hand (record { exact = rpair 0 A B; typ = t-pair (getElem?-at pt t (length (σ .pairs)) (st .plen)); sub = kb-refl }) (stack-ext x k);
         }) x)
+
+    pair-ok : {v w : Value} {A B : RTy} → Fits W v A → Fits W w B → Stack (rpair 0 A B) → Sure S W (actPair v w m)
+    unfolding actPair
+    pair-ok f g k = makes-pair no-key f g k
 
     -- the function that the closure i stands for is called
     call-ok : {k q i : ℕ} {A B T U : RTy} {L M : List ℕ} {w : Value} → FnOk S W (σ .functions) i (fty A B M) → Below (σ .keys) k q → RSub (σ .keys) T A → RSub (σ .keys) B U → Under (σ .keys) M L
@@ -340,6 +348,14 @@ module _ (S : Src) (σ : Store) (pt : List TwoTy) (ft : List FnTy) (ct : List RT
     unfolding actSum asNum found
     sum-ok i (r-num a) t-num on (r-num b) t-num on′ k =
         sure-try (and-key (touch-ok (on-below ko on a)) (one-key (on-below ko on′ b))) (λ z. step-ok (to-hand (record { exact = rnum 0; typ = t-num; sub = kb-refl }) k))
+
+    divide-ok : {k l p q : ℕ} {x y : Kind} {X Y : RTy}
+        → RSub (σ .keys) X (rnum p) → Typ W k x X → OnHere p → RSub (σ .keys) Y (rnum q) → Typ W l y Y → OnHere q → Stack (rpair 0 (rnum 0) (rnum 0)) → Sure S W (actDivide (val k x) (val l y) m)
+    unfolding actDivide asNum found
+    divide-ok (r-num a) t-num on (r-num b) t-num on′ k = makes-pair (and-key (touch-ok (on-below ko on a)) (one-key (on-below ko on′ b))) a-number a-number k
+      where
+        a-number : {n : ℕ} → Fits W (unkeyed (k-num n)) (rnum 0)
+        a-number = record { exact = rnum 0; typ = t-num; sub = kb-refl }
 
     test-ok : {k q b c : ℕ} {x : Kind} {X : RTy} {B C T : Ty} {E : List Bind} {Γ : List Entry} {s u : Effect}
         → RSub (σ .keys) X (rnum q) → Typ W k x X → OnHere q → Envs E Γ → Has S Γ b B s → CoversHere E s → Sub (upOf S) B T
@@ -553,6 +569,8 @@ module _ (S : Src) (σ : Store) (pt : List TwoTy) (ft : List FnTy) (ct : List RT
   receive-ok θ at v q (fo-assoc1 o h c a p) g k = sure-try no-key (λ z. step-ok (to-enter o h c (so-cons q kb-refl (fo-assoc2 g a p) k)))
   receive-ok θ at {fs = fs} v q (fo-assoc2 {e = e} {on = on} f a p) g k = rw q (assoc-ok (popped (θ .control) e on fs) (g .sub) (g .typ) p f a k)
   receive-ok θ at {fs = fs} v q (fo-access {e = e} {on = on} o h c y i d z p) g k = rw q (access-ok (popped (θ .control) e on fs) (g .sub) (g .typ) p o h c y i d z k)
+  receive-ok θ at v q (fo-divide1 o h c p r) g k = sure-try no-key (λ z. step-ok (to-enter o h c (so-cons q kb-refl (fo-divide2 g p r) k)))
+  receive-ok θ at {fs = fs} v q (fo-divide2 {e = e} {on = on} f p r) g k = rw q (divide-ok (popped (θ .control) e on fs) (f .sub) (f .typ) p (g .sub) (g .typ) r k)
 
   hand-ok : (θ : Thread) {fs : List Frame} (v : Value) {T : RTy} → Fits W v T → StackOk S W fs T → Sure S W (handTo (codeOf S) v fs (machine θ))
   unfolding handTo

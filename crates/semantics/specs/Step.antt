@@ -1,6 +1,6 @@
 -- One step of the machine, as data first (`Plan`): the keys that it touches, whether there is room, and the machine after it. A plan is then tried once for all steps
 -- (`settle`). The expressions are given with type operands of any form: the machine "never looks at types".
-use Prim.Native.Nat.{ℕ, zero, suc, _+_, _-_, min}
+use Prim.Native.Nat.{ℕ, zero, suc, _+_, _-_, _/_, _%_, min}
 use mathlib.Core.Bool.{Bool, true, false, cond}
 use mathlib.Core.List.{List, [], _∷_, _++_}
 use mathlib.Core.Option.{Option, none, some}
@@ -8,7 +8,7 @@ use lib.ListN.{length, getElem?, set}
 use lib.Dec.{eqb, ltb}
 use Rattle.order.specs.Bools.{_and_}
 use Rattle.syntax.specs.Operands.{evaluated}
-use Rattle.syntax.specs.Commands.{Cmd, c-num, c-top, c-var, c-pair, c-part, c-fn, c-app, c-new, c-asg, c-read, c-sum, c-test, c-lim, c-grant, c-newkey, c-assoc, c-access}
+use Rattle.syntax.specs.Commands.{Cmd, c-num, c-top, c-var, c-pair, c-part, c-fn, c-app, c-new, c-asg, c-read, c-sum, c-test, c-lim, c-grant, c-newkey, c-assoc, c-access, c-divide}
 use Rattle.semantics.specs.Machine.{Kind, k-num, k-pair, k-fn, k-cell, k-lim, k-grant, Value, unkeyed, Two, Bind, b-var, b-name, Link, Closure, KeySet, Frame, Control, enter, hand, Machine}
 use Rattle.semantics.specs.Machine.{most-number, most-cells, most-keys, most-pairs, most-functions, most-frames, most-bindings}
 use Rattle.semantics.specs.Keys.{enabled, narrow, add}
@@ -148,11 +148,15 @@ seek (suc f) B (suc i) x = seekAt (getElem? B i) x (λ p. seek f B p x)
 unfoldable pub variable : ℕ → Machine → Plan
 variable x m = found (seek most-bindings (m .store .bindings) (m .thread .env) x) (λ v. gives [] v m)
 
+-- a plan that needs one place: an unkeyed pair of two values is made and handed on
+abbrev pub makesPair : List ℕ → Value → Value → Machine → Plan
+makesPair ks v w m =
+    p-try ks (ltb (length (m .store .pairs)) most-pairs) m
+    (handing (unkeyed (k-pair (length (m .store .pairs)))) (withPairs m (m .store .pairs ++ (record { one = v; two = w } ∷ []))))
+
 -- 0x33
 unfoldable pub actPair : Value → Value → Machine → Plan
-actPair v w m =
-    p-try [] (ltb (length (m .store .pairs)) most-pairs) m
-    (handing (unkeyed (k-pair (length (m .store .pairs)))) (withPairs m (m .store .pairs ++ (record { one = v; two = w } ∷ []))))
+actPair v w m = makesPair [] v w m
 
 -- 0x34
 unfoldable pub partOf : Bool → Two → Value
@@ -242,6 +246,20 @@ actAssoc v w m = found (asLim (w .kind)) (λ j. gives (v .key ∷ w .key ∷ [])
 unfoldable pub actAccess : ℕ → ℕ → Value → Machine → Plan
 actAccess b c v m = found (asLim (v .kind)) (λ j. enters (v .key ∷ []) (cond (enabled (m .store .keys) (m .thread .on) j) b c) (m .thread .on) m)
 
+-- 0x41: "divides the first number by the second"; "A divisor of 0 gives 0 and the dividend."
+unfoldable pub quotient : ℕ → ℕ → ℕ
+quotient a zero = 0
+quotient a (suc b) = a / suc b
+
+unfoldable pub remainder : ℕ → ℕ → ℕ
+remainder a zero = a
+remainder a (suc b) = a % suc b
+
+unfoldable pub actDivide : Value → Value → Machine → Plan
+actDivide v w m =
+    found (asNum (v .kind)) (λ a. found (asNum (w .kind)) (λ b.
+    makesPair (v .key ∷ w .key ∷ []) (unkeyed (k-num (quotient a b))) (unkeyed (k-num (remainder a b))) m))
+
 -- "pushes one frame and enters the first operand"
 unfoldable pub push : ℕ → ℕ → Machine → Plan
 push e a m =
@@ -268,6 +286,7 @@ module _ {T : Type 0} where
   act (c-newkey x r a b t) h m = one h (λ v. actNewkey x r b v m)
   act (c-assoc a b) h m = two h (λ v w. actAssoc v w m)
   act (c-access a b c t) h m = one h (λ v. actAccess b c v m)
+  act (c-divide a b) h m = two h (λ v w. actDivide v w m)
 
   -- entering an expression with no operand to evaluate is its act: 0x30, 0x31, 0x32, 0x35, and "3C with no keys pushes none and enters its body with no key enabled"
   unfoldable pub enterAt : ℕ → List ℕ → Cmd T → Machine → Plan

@@ -13,14 +13,14 @@ use borrow.Author.Tests.{ltb-true, ltb-false, lt-ltb, le-ltb}
 use Rattle.order.specs.Bools.{_and_, _or_}
 use Rattle.order.specs.Sets.{some-of}
 use Rattle.order.specs.Sets
-use Rattle.syntax.specs.Commands.{Cmd, c-num, c-top, c-var, c-pair, c-part, c-fn, c-app, c-new, c-asg, c-read, c-sum, c-test, c-lim, c-grant, c-newkey, c-assoc, c-access}
+use Rattle.syntax.specs.Commands.{Cmd, c-num, c-top, c-var, c-pair, c-part, c-fn, c-app, c-new, c-asg, c-read, c-sum, c-test, c-lim, c-grant, c-newkey, c-assoc, c-access, c-divide}
 use Rattle.syntax.specs.Operands.{evaluated}
 use Rattle.syntax.specs.Operands
 use Rattle.semantics.specs.Machine.{Kind, k-num, k-pair, k-fn, k-cell, k-lim, k-grant, Value, Frame, Control, enter, hand, Thread, Store, Machine, most-cells, most-keys, most-pairs, most-functions, most-frames, most-bindings}
 use Rattle.semantics.specs.Keys.{enabled}
 use Rattle.semantics.specs.Step
 use Rattle.semantics.specs.Step.{Out, o-step, o-done, o-room, o-stuck, o-denied, Plan, p-done, p-wrong, p-try, room, touchAll, settle, onKind, other, asNum, asPair, asFn, asCell, asLim, asGrant, found, bare, one, two}
-use Rattle.semantics.specs.Step.{seek, variable, actPair, actPart, actFn, actApp, actNew, actAsg, actRead, actSum, actTest, limitKeys, keysOf, actLim, actGrant, makeKey, actNewkey, actAssoc, actAccess}
+use Rattle.semantics.specs.Step.{seek, variable, actPair, actPart, actFn, actApp, actNew, actAsg, actRead, actSum, actTest, limitKeys, keysOf, actLim, actGrant, makeKey, actNewkey, actAssoc, actAccess, actDivide}
 use Rattle.semantics.specs.Step.{push, act, enterAt, enterCmd, receive, handTo, planOn, plan, step}
 use Rattle.semantics.specs.Room.{doneAt, isDone, lacking, anyLacking}
 use Rattle.semantics.specs.Wants.{Use, read, write, read-and-write, takes, touches, anything, a-number, a-pair, a-function, a-cell, a-limit, a-grant, alike, wantsOf, holds, isThere, byKind, yes, no, suits, suit, isTouched, touchedIn, touched, acting, toEnter, toReceive, toHand, needsOn, needs, wrong, shut, lacks, Stuck, Denied, NoRoom, Ready}
@@ -189,7 +189,7 @@ module _ {T : Type 0} where
   act-exact : (k : Cmd T) (h : List Value) (t u : Thread) (s : Store)
       → ExactPlan s (t .on) false (not (acting k h (t .env) (t .on) s .suited)) (touched (acting k h (t .env) (t .on) s))
       (anyLacking (acting k h (t .env) (t .on) s .places) (record { thread = u; store = s })) (act k h (record { thread = t; store = s }))
-  unfolding act acting wantsOf Operands.usesVar Sets.all-of touchedIn isTouched holds suits _and_ anyLacking lacking actPair actPart actFn actApp actNew actAsg actRead actSum actTest actLim actGrant makeKey actNewkey actAssoc actAccess variable found
+  unfolding act acting wantsOf Operands.usesVar Sets.all-of touchedIn isTouched holds suits _and_ anyLacking lacking actPair actPart actFn actApp actNew actAsg actRead actSum actTest actLim actGrant makeKey actNewkey actAssoc actAccess actDivide variable found
   act-exact (c-num n) h t u s = bare-exact true h _ (xp-try refl refl)
   act-exact c-top h t u s = bare-exact true h _ (xp-try refl refl)
   act-exact (c-var x) h t u s = bare-exact _ h _ (at (seek most-bindings (s .bindings) (t .env) x))
@@ -211,6 +211,7 @@ module _ {T : Type 0} where
   act-exact (c-newkey x r a b ty) h t u s = one-exact (touches read a-limit) h _ (λ v. rw (is-limit (v .kind) s) (found-exact (asLim (v .kind)) _ (λ x. true) true (λ j. xp-try refl (three-full (length (s .keys)) most-keys (length (s .pairs)) most-pairs (length (s .bindings)) most-bindings))))
   act-exact (c-assoc a b) h t u s = two-exact (touches read-and-write anything) (touches read a-limit) h _ (λ v w. rw (is-limit (w .kind) s) (found-exact (asLim (w .kind)) _ (λ x. true) true (λ j. xp-try refl refl)))
   act-exact (c-access a b c ty) h t u s = one-exact (touches read a-limit) h _ (λ v. rw (is-limit (v .kind) s) (found-exact (asLim (v .kind)) _ (λ x. true) true (λ j. xp-try refl refl)))
+  act-exact (c-divide a b) h t u s = two-exact (touches read a-number) (touches read a-number) h _ (λ v w. rw (is-number (v .kind) s) (found-exact (asNum (v .kind)) _ (λ x. true) _ (λ x. rw (is-number (w .kind) s) (found-exact (asNum (w .kind)) _ (λ y. true) true (λ y. xp-try refl (one-full (length (s .pairs)) most-pairs))))))
 
   enter-exact : (e : ℕ) (l : List ℕ) (k : Cmd T) (m : Machine)
       → ExactPlan (m .store) (toEnter l k m .on) false (not (toEnter l k m .suited)) (touched (toEnter l k m)) (anyLacking (toEnter l k m .places) m) (enterAt e l k m)

@@ -1,5 +1,5 @@
 -- What a step keeps, of every machine and every code. It stays within its room (`room-kept`); and it keeps every cell's value, unless an operand of its act is written
--- (`unwritten-kept`); one is written only where the act can change a cell (`written-changes`). Which operands are written is read off document 01's list (`Wants`), apart from the step.
+-- (`unwritten-kept`); one is written only where the act can change a cell (`written-changes`), and one is read and written only in 0x3F (`both-exactly`). Which operands are written is read off document 01's list (`Wants`), apart from the step.
 use mathlib.Core.Path.{_≡_, refl, sym, ap, _∙_}
 use Prim.Native.Nat.{ℕ, zero, suc, _≤_}
 use native.Mathlib.Omega.{arith}
@@ -8,16 +8,16 @@ use mathlib.Core.List.{List, [], _∷_, _++_}
 use mathlib.Core.Option.{Option, none, some}
 use mathlib.Core.Logic.{_≢_}
 use lib.ListN.{length, length-append, length-set, getElem?}
-use lib.Dec.{ltb}
+use lib.Dec.{eqb, ltb}
 use borrow.Author.Tests.{ltb-true}
 use Rattle.order.specs.Bools.{_or_, and-l, and-r}
 use Rattle.order.specs.OrderLaws.{getElem?-append}
-use Rattle.syntax.specs.Commands.{Cmd, c-num, c-top, c-var, c-pair, c-part, c-fn, c-app, c-new, c-asg, c-read, c-sum, c-test, c-lim, c-grant, c-newkey, c-assoc, c-access}
+use Rattle.syntax.specs.Commands.{Cmd, c-num, c-top, c-var, c-pair, c-part, c-fn, c-app, c-new, c-asg, c-read, c-sum, c-test, c-lim, c-grant, c-newkey, c-assoc, c-access, c-divide, form, row}
 use Rattle.syntax.specs.Operands.{evaluated}
 use Rattle.semantics.specs.Machine.{k-num, k-cell, Value, unkeyed, Frame, Control, enter, hand, Store, Machine, most-cells, most-keys, most-pairs, most-functions, most-frames, most-bindings}
 use Rattle.semantics.specs.Keys.{enabled}
 use Rattle.semantics.specs.Step.{Out, o-step, o-denied, Plan, p-done, p-wrong, p-try, handing, withCells, room, touch, touchAll, settle, asNum, asPair, asFn, asCell, asLim, asGrant, found, bare, one, two}
-use Rattle.semantics.specs.Step.{seek, variable, actPair, actPart, actFn, actApp, actNew, actAsg, actRead, actSum, actTest, limitKeys, actLim, actGrant, makeKey, actNewkey, actAssoc, actAccess}
+use Rattle.semantics.specs.Step.{seek, variable, actPair, actPart, actFn, actApp, actNew, actAsg, actRead, actSum, actTest, limitKeys, actLim, actGrant, makeKey, actNewkey, actAssoc, actAccess, actDivide}
 use Rattle.semantics.specs.Step.{resume, push, act, enterAt, enterCmd, receive, handTo, planOn, plan, step}
 use Rattle.semantics.specs.Wants.{Usage, read, write, read-and-write, Use, touches, a-limit, alike, wantsOf, acting, toEnter, toReceive, toHand, needsOn, needs}
 
@@ -98,7 +98,7 @@ two-more l x y most e = omega (arith, length-append l (x ∷ y ∷ []), ltb-true
 
 module _ {T : Type 0} where
   act-fits : (k : Cmd T) (h : List Value) (m : Machine) → Fits m → Ends Fits (act k h m)
-  unfolding act actPair actPart actFn actApp actNew actAsg actRead actSum actTest actLim actGrant makeKey actNewkey actAssoc actAccess variable
+  unfolding act actPair actPart actFn actApp actNew actAsg actRead actSum actTest actLim actGrant makeKey actNewkey actAssoc actAccess actDivide variable
   act-fits (c-num n) h m r = bare-ends h (en-try (λ e. r))
   act-fits c-top h m r = bare-ends h (en-try (λ e. r))
   act-fits (c-var x) h m r = bare-ends h (found-ends (seek most-bindings (m .store .bindings) (m .thread .env) x) _ (λ v. en-try (λ e. r)))
@@ -131,6 +131,9 @@ module _ {T : Type 0} where
       })))
   act-fits (c-assoc a b) h m r = two-ends h _ (λ v w. found-ends (asLim (w .kind)) _ (λ j. en-try (λ e. r)))
   act-fits (c-access a b c t) h m r = one-ends h _ (λ v. found-ends (asLim (v .kind)) _ (λ j. en-try (λ e. r)))
+  act-fits (c-divide a b) h m r =
+      two-ends h _ (λ v w. found-ends (asNum (v .kind)) _ (λ x. found-ends (asNum (w .kind)) _ (λ y.
+      en-try (λ e. record { cells = r .cells; keys = r .keys; pairs = one-more (m .store .pairs) _ most-pairs e; functions = r .functions; bindings = r .bindings; frames = r .frames }))))
 
   enter-fits : (e : ℕ) (l : List ℕ) (k : Cmd T) (m : Machine) → Fits m → Ends Fits (enterAt e l k m)
   unfolding enterAt push
@@ -181,7 +184,7 @@ pub record Kept (s : Store) (n : Machine) : Type 0 where
 module _ {T : Type 0} where
   -- a command whose row has no operand that is written
   act-keeps : (k : Cmd T) (h : List Value) (m : Machine) → anyWritten (wantsOf k (length h) .uses) ≡ false → Ends (Kept (m .store)) (act k h m)
-  unfolding act actPair actPart actFn actApp actNew actAsg actRead actSum actTest actLim actGrant makeKey actNewkey actAssoc actAccess variable wantsOf anyWritten isWrite _or_
+  unfolding act actPair actPart actFn actApp actNew actAsg actRead actSum actTest actLim actGrant makeKey actNewkey actAssoc actAccess actDivide variable wantsOf anyWritten isWrite _or_
   act-keeps (c-num n) h m r = bare-ends h (en-try (λ e. record { at = λ i v z. z }))
   act-keeps c-top h m r = bare-ends h (en-try (λ e. record { at = λ i v z. z }))
   act-keeps (c-var x) h m r = bare-ends h (found-ends (seek most-bindings (m .store .bindings) (m .thread .env) x) _ (λ v. en-try (λ e. record { at = λ i v z. z })))
@@ -199,6 +202,7 @@ module _ {T : Type 0} where
   act-keeps (c-newkey x n a b t) h m r = one-ends h _ (λ v. found-ends (asLim (v .kind)) _ (λ j. en-try (λ e. record { at = λ i v z. z })))
   act-keeps (c-assoc a b) h m r = two-ends h _ (λ v w. found-ends (asLim (w .kind)) _ (λ j. en-try (λ e. record { at = λ i v z. z })))
   act-keeps (c-access a b c t) h m r = one-ends h _ (λ v. found-ends (asLim (v .kind)) _ (λ j. en-try (λ e. record { at = λ i v z. z })))
+  act-keeps (c-divide a b) h m r = two-ends h _ (λ v w. found-ends (asNum (v .kind)) _ (λ x. found-ends (asNum (w .kind)) _ (λ y. en-try (λ e. record { at = λ i v z. z }))))
 
   enter-keeps : (e : ℕ) (l : List ℕ) (k : Cmd T) (m : Machine) → anyWritten (toEnter l k m .uses) ≡ false → Ends (Kept (m .store)) (enterAt e l k m)
   unfolding enterAt push toEnter acting
@@ -286,3 +290,43 @@ module _ {T : Type 0} where
   written-changes (c-newkey x r a b t) i e = absurd (false≢true e)
   written-changes (c-assoc a b) i e = absurd (false≢true e)
   written-changes (c-access a b c t) i e = absurd (false≢true e)
+  written-changes (c-divide a b) i e = absurd (false≢true e)
+
+-- Nor is another operand read and written than the value of 0x3F, by the command's byte
+
+unfoldable pub isBoth : Option Usage → Bool
+isBoth none = false
+isBoth (some read) = false
+isBoth (some write) = false
+isBoth (some read-and-write) = true
+
+unfoldable pub anyBoth : List Use → Bool
+anyBoth [] = false
+anyBoth (u ∷ us) = isBoth (u .touch) or anyBoth us
+
+reads-no-both : (n : ℕ) → anyBoth (alike n (touches read a-limit)) ≡ false
+unfolding anyBoth isBoth alike _or_
+reads-no-both zero = refl
+reads-no-both (suc n) = reads-no-both n
+
+module _ {T : Type 0} where
+  pub both-exactly : (k : Cmd T) (i : ℕ) → anyBoth (wantsOf k i .uses) ≡ eqb (form (row k .op) .byte) 0x3F
+  unfolding wantsOf anyBoth isBoth _or_ form row
+  both-exactly (c-num n) i = refl
+  both-exactly c-top i = refl
+  both-exactly (c-var x) i = refl
+  both-exactly (c-pair a b) i = refl
+  both-exactly (c-part a n) i = refl
+  both-exactly (c-fn x t b) i = refl
+  both-exactly (c-app a b) i = refl
+  both-exactly (c-new t a) i = refl
+  both-exactly (c-asg a b) i = refl
+  both-exactly (c-read a) i = refl
+  both-exactly (c-sum n a b) i = refl
+  both-exactly (c-test a b c t) i = refl
+  both-exactly (c-lim ks b) i = reads-no-both i
+  both-exactly (c-grant a b) i = refl
+  both-exactly (c-newkey x r a b t) i = refl
+  both-exactly (c-assoc a b) i = refl
+  both-exactly (c-access a b c t) i = refl
+  both-exactly (c-divide a b) i = refl

@@ -29,7 +29,7 @@ unfolding names
 each-below f = record { sets = record { each = f } }
 
 -- a reduced effect is below the same effects
-reduced-same : {up : List ℕ} → Proper up → (x v : Effect) {X : Type 0} → EffBelow up x v ↔ X → EffBelow up (reduce up x) v ↔ X
+pub reduced-same : {up : List ℕ} → Proper up → (x v : Effect) {X : Type 0} → EffBelow up x v ↔ X → EffBelow up (reduce up x) v ↔ X
 reduced-same {up} ok x v i = (λ h. i .0 (eff-trans (below-reduce ok x) h), λ a. eff-trans (reduce-below up x) (i .1 a))
 
 -- Which effects a touched, a joined and a dropped effect are below, exactly
@@ -68,36 +68,35 @@ drop-exactly {up} ok r t v = (λ h n m. to h n (drop-or up r t m), λ f. each-be
     from n m d (inr (inl z)) = absurd (name-not-zero (drop up r t) m z)
     from n m d (inr (inr z)) = z
 
--- 0x3F
+-- what a command that touches both its operands asks of an effect (or of the rights) v: the operands' effects s and t, and the names p and q of their keys
+pub record BothTouched (up : List ℕ) (p q : ℕ) (s t v : Effect) : Type 0 where
+  pub first : EffBelow up s v
+  pub second : EffBelow up t v
+  pub first-touched : Under up p v
+  pub second-touched : Under up q v
 
--- what it asks of an effect (or of the rights) v: the effects s of the value and t of the limit key, the name p of the value's key (a new key would else open what was closed) and the name q of
--- the key that the limit key itself carries
-pub record Opens (up : List ℕ) (p q : ℕ) (s t v : Effect) : Type 0 where
-  pub value : EffBelow up s v
-  pub key : EffBelow up t v
-  pub value-touched : Under up p v
-  pub key-touched : Under up q v
-
-opens-exactly : {up : List ℕ} (p q : ℕ) (s t v : Effect) → EffBelow up (touch p (touch q (join s t))) v ↔ Opens up p q s t v
-opens-exactly {up} p q s t v = (to, λ a. touch-exactly p _ v .1 (a .value-touched, touch-exactly q _ v .1 (a .key-touched, join-exactly s t v .1 (a .value, a .key))))
+pub both-exactly : {up : List ℕ} (p q : ℕ) (s t v : Effect) → EffBelow up (touch p (touch q (join s t))) v ↔ BothTouched up p q s t v
+both-exactly {up} p q s t v = (to, λ a. touch-exactly p _ v .1 (a .first-touched, touch-exactly q _ v .1 (a .second-touched, join-exactly s t v .1 (a .first, a .second))))
   where
-    to : EffBelow up (touch p (touch q (join s t))) v → Opens up p q s t v
+    to : EffBelow up (touch p (touch q (join s t))) v → BothTouched up p q s t v
     to h =
         let x = touch-exactly p _ v .0 h in
         let y = touch-exactly q _ v .0 (x .1) in
         let z = join-exactly s t v .0 (y .1) in
-        record { value = z .0; key = z .1; value-touched = x .0; key-touched = y .0 }
+        record { first = z .0; second = z .1; first-touched = x .0; second-touched = y .0 }
+
+-- 0x3F: the value, whose key is touched since a new one would else open what was closed, and the limit key, with the key that it carries itself
 
 -- the rule: the value's type with the new key, and an effect that is below those that have what it asks for, and no others
 pub associate-rule : (S : Src) {Γ : List Entry} {e a b q r : ℕ} {A : Ty} {s t : Effect} → codeOf S e ≡ c-assoc a b → Has S Γ a A s → Has S Γ b (lim q r) t
-    → (w : Effect) × Has S Γ e (rekey r A) w × ((v : Effect) → EffBelow (upOf S) w v ↔ Opens (upOf S) (keyOf A) q s t v)
-associate-rule S {q = q} {A = A} {s = s} {t = t} k x y = (touch (keyOf A) (touch q (join s t)), h-assoc k x y, λ v. opens-exactly (keyOf A) q s t v)
+    → (w : Effect) × Has S Γ e (rekey r A) w × ((v : Effect) → EffBelow (upOf S) w v ↔ BothTouched (upOf S) (keyOf A) q s t v)
+associate-rule S {q = q} {A = A} {s = s} {t = t} k x y = (touch (keyOf A) (touch q (join s t)), h-assoc k x y, λ v. both-exactly (keyOf A) q s t v)
 
 -- the checker's function, when the operands' types and effects are known
 module _ (S : Src) (tab : ℕ → Typed) {a b q r : ℕ} {A : Ty} {s t : Effect} (ha : tab a ≡ typed A s) (hb : tab b ≡ typed (lim q r) t) where
-  pub associate-typed : Proper (upOf S) → (w : Effect) × (typeAt S tab (c-assoc a b) ≡ typed (rekey r A) w) × ((v : Effect) → EffBelow (upOf S) w v ↔ Opens (upOf S) (keyOf A) q s t v)
+  pub associate-typed : Proper (upOf S) → (w : Effect) × (typeAt S tab (c-assoc a b) ≡ typed (rekey r A) w) × ((v : Effect) → EffBelow (upOf S) w v ↔ BothTouched (upOf S) (keyOf A) q s t v)
   unfolding typeAt with wantLim onLim byType
-  associate-typed ok = (reduce (upOf S) (touch (keyOf A) (touch q (join s t))), rw (ha, hb), λ v. reduced-same ok _ v (opens-exactly (keyOf A) q s t v))
+  associate-typed ok = (reduce (upOf S) (touch (keyOf A) (touch q (join s t))), rw (ha, hb), λ v. reduced-same ok _ v (both-exactly (keyOf A) q s t v))
 
 -- 0x40
 

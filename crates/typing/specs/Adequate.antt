@@ -10,7 +10,7 @@ use borrow.Author.Tests.{eqb-true}
 use Rattle.order.specs.Effects.{Effect, pure, touch, join, reduce}
 use Rattle.order.specs.EffectLaws.{below-reduce, effBelow→}
 use Rattle.syntax.specs.Types.{Ty, pair}
-use Rattle.syntax.specs.Commands.{Cmd, c-num, c-top, c-var, c-pair, c-part, c-fn, c-app, c-new, c-asg, c-read, c-sum, c-test, c-lim, c-grant, c-newkey, c-assoc, c-access}
+use Rattle.syntax.specs.Commands.{Cmd, c-num, c-top, c-var, c-pair, c-part, c-fn, c-app, c-new, c-asg, c-read, c-sum, c-test, c-lim, c-grant, c-newkey, c-assoc, c-access, c-divide}
 use Rattle.syntax.specs.Operands.{nth, plain, inner, typesOf}
 use Rattle.syntax.specs.Job.{Src, upOf}
 use Rattle.syntax.specs.Formed.{Formed}
@@ -19,7 +19,7 @@ use Rattle.syntax.specs.WellScoped.{ScopedType}
 use Rattle.syntax.specs.ScopeLaws.{reduce-scoped}
 use Rattle.syntax.specs.TreeFacts.{Ctx, x-plain, x-inner, TreeOk}
 use Rattle.syntax.specs.Context.{plain-lt, inner-lt, ctx-le, root-lt, ctx-uses}
-use Rattle.typing.specs.Rules.{Has, h-num, h-top, h-var, h-pair, h-part1, h-part2, h-fn, h-app, h-new, h-asg, h-read, h-sum, h-test, h-lim, h-grant, h-newkey, h-assoc, h-access, h-sub, HasKeys, k-nil, k-cons}
+use Rattle.typing.specs.Rules.{Has, h-num, h-top, h-var, h-pair, h-part1, h-part2, h-fn, h-app, h-new, h-asg, h-read, h-sum, h-test, h-lim, h-grant, h-newkey, h-assoc, h-access, h-divide, h-sub, HasKeys, k-nil, k-cons}
 use Rattle.typing.specs.SubtypeLaws.{sub-refl, subTy→}
 use Rattle.typing.specs.Least.{Typed, typed, isUpper, varType, keysAt, typeAt, get, typesTo, typeOf}
 use Rattle.typing.specs.Scoped.{ctx-type, ctx-var}
@@ -111,6 +111,9 @@ module _ (S : Src) (ok : Formed S) (tree : TreeOk S) where
       by-lim A _ h (λ q r hl h. by-require 12 _ _ h (λ y h. by-require 12 _ _ h (λ y′ h.
       less g h (h-access c (o U (List·Memᴰ·head refl)) (cast hl (p a (List·Memᴰ·head refl) A t ha)) (p b (List·Memᴰ·tail (List·Memᴰ·head refl)) B u hb)
       (p z (List·Memᴰ·tail (List·Memᴰ·tail (List·Memᴰ·head refl))) C v hz) (subTy→ (upOf S) B U y) (subTy→ (upOf S) C U y′))))))))
+  at tab (c-divide a b) c p i o g d T s h =
+      by-with (tab a) _ h (λ A t ha h. by-with (tab b) _ h (λ B u hb h. by-num A _ h (λ q hq h. by-num B _ h (λ r hr h.
+      less g h (h-divide c (cast hq (p a (List·Memᴰ·head refl) A t ha)) (cast hr (p b (List·Memᴰ·tail (List·Memᴰ·head refl)) B u hb)))))))
 
   -- operands are earlier, so by the number of the expression
   upto : (f e : ℕ) {Γ : List Entry} → e < f → e < length (S .cmds) → Ctx S e Γ → (T : Ty) (s : Effect) → typeOf S e ≡ typed T s → Has S Γ e T s

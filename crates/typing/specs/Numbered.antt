@@ -8,7 +8,7 @@ use lib.ListN.{length, getD, getElem?}
 use Rattle.order.specs.Order.{below}
 use Rattle.order.specs.Effects.{Effect, pure, touch, join, drop, raise, reduce, effBelow}
 use Rattle.syntax.specs.Types.{TypeEntry, e-num, e-pair, e-cell, e-fn, e-lim, byEntry}
-use Rattle.syntax.specs.Commands.{Cmd, c-num, c-top, c-var, c-pair, c-part, c-fn, c-app, c-new, c-asg, c-read, c-sum, c-test, c-lim, c-grant, c-newkey, c-assoc, c-access}
+use Rattle.syntax.specs.Commands.{Cmd, c-num, c-top, c-var, c-pair, c-part, c-fn, c-app, c-new, c-asg, c-read, c-sum, c-test, c-lim, c-grant, c-newkey, c-assoc, c-access, c-divide}
 use Rattle.syntax.specs.Job.{Job}
 use Rattle.syntax.specs.Reading.{Refusal, most-depth}
 use Rattle.typing.specs.Least.{isUpper}
@@ -92,29 +92,32 @@ module _ (O : Ops) (var : ℕ → ℕ) (at : ℕ → Option TypeEntry) (of : ℕ
   keysFrom [] rs s f = f rs s
   keysFrom (a ∷ ks) rs s f = needLim (at (of a)) (λ q r. keysFrom ks (O .touch r rs) (O .touch q (join (eff a) s)) f)
 
-  unfoldable pub resultAt : Cmd ℕ → Result
-  resultAt (c-num n) = makes [] (e-num 0) pure
-  resultAt c-top = makes [] (e-lim 0 1) pure
-  resultAt (c-var v) = points (var v) pure
-  resultAt (c-pair a b) = makes [] (e-pair 0 (of a) (of b)) (O .reduce (join (eff a) (eff b)))
-  resultAt (c-part a i) = needPair (at (of a)) (λ q x y. points (cond i x y) (O .reduce (O .touch q (eff a))))
-  resultAt (c-fn v t b) = makes [] (e-fn 0 t (of b) (eff b)) pure
-  resultAt (c-app f a) = needFn (at (of f)) (λ q t u l. need 12 (fits (of a) t) (points u (O .reduce (O .touch q (join l (join (eff f) (eff a)))))))
-  resultAt (c-new t a) = need 12 (fits (of a) t) (makes [] (e-cell 0 t) (eff a))
-  resultAt (c-asg a b) = needCell (at (of a)) (λ q t. need 12 (fits (of b) t) (points t (O .reduce (O .touch q (join (eff a) (eff b))))))
-  resultAt (c-read a) = needCell (at (of a)) (λ q t. points t (O .reduce (O .touch q (eff a))))
-  resultAt (c-sum i a b) =
+  -- where n entries stand before
+  unfoldable pub resultAt : ℕ → Cmd ℕ → Result
+  resultAt n (c-num x) = makes [] (e-num 0) pure
+  resultAt n c-top = makes [] (e-lim 0 1) pure
+  resultAt n (c-var v) = points (var v) pure
+  resultAt n (c-pair a b) = makes [] (e-pair 0 (of a) (of b)) (O .reduce (join (eff a) (eff b)))
+  resultAt n (c-part a i) = needPair (at (of a)) (λ q x y. points (cond i x y) (O .reduce (O .touch q (eff a))))
+  resultAt n (c-fn v t b) = makes [] (e-fn 0 t (of b) (eff b)) pure
+  resultAt n (c-app f a) = needFn (at (of f)) (λ q t u l. need 12 (fits (of a) t) (points u (O .reduce (O .touch q (join l (join (eff f) (eff a)))))))
+  resultAt n (c-new t a) = need 12 (fits (of a) t) (makes [] (e-cell 0 t) (eff a))
+  resultAt n (c-asg a b) = needCell (at (of a)) (λ q t. need 12 (fits (of b) t) (points t (O .reduce (O .touch q (join (eff a) (eff b))))))
+  resultAt n (c-read a) = needCell (at (of a)) (λ q t. points t (O .reduce (O .touch q (eff a))))
+  resultAt n (c-sum i a b) =
       needNum (at (of a)) (λ p. needNum (at (of b)) (λ q. makes [] (e-num 0) (O .reduce (O .touch p (O .touch q (join (eff a) (eff b)))))))
-  resultAt (c-test a b c t) =
+  resultAt n (c-test a b c t) =
       needNum (at (of a)) (λ q. need 12 (fits (of b) t) (need 12 (fits (of c) t) (points t (O .reduce (O .touch q (join (eff a) (join (eff b) (eff c))))))))
-  resultAt (c-lim ks b) = keysFrom ks pure pure (λ rs s. need 13 (O .effBelow (eff b) rs) (points (of b) (O .reduce (join s (eff b)))))
-  resultAt (c-grant a b) = needGrant (at (of a)) (λ q r. points (of b) (O .reduce (O .touch q (join (eff a) (O .drop r (eff b))))))
-  resultAt (c-newkey v r a b t) =
+  resultAt n (c-lim ks b) = keysFrom ks pure pure (λ rs s. need 13 (O .effBelow (eff b) rs) (points (of b) (O .reduce (join s (eff b)))))
+  resultAt n (c-grant a b) = needGrant (at (of a)) (λ q r. points (of b) (O .reduce (O .touch q (join (eff a) (O .drop r (eff b))))))
+  resultAt n (c-newkey v r a b t) =
       needLim (at (of a)) (λ q u. need 11 (O .over r u) (need 12 (fits (of b) t) (points t (O .reduce (O .touch q (join (eff a) (O .raise r u (eff b))))))))
-  resultAt (c-assoc a b) =
+  resultAt n (c-assoc a b) =
       needLim (at (of b)) (λ q r. makes [] (rekeyed r (at (of a))) (O .reduce (O .touch (keyIn (at (of a))) (O .touch q (join (eff a) (eff b))))))
-  resultAt (c-access a b c t) =
+  resultAt n (c-access a b c t) =
       needLim (at (of a)) (λ q r. need 12 (fits (of b) t) (need 12 (fits (of c) t) (points t (O .reduce (O .touch q (join (eff a) (join (O .drop r (eff b)) (eff c))))))))
+  resultAt n (c-divide a b) =
+      needNum (at (of a)) (λ p. needNum (at (of b)) (λ q. makes (e-num 0 ∷ []) (e-pair 0 n n) (O .reduce (O .touch p (O .touch q (join (eff a) (eff b)))))))
 
 -- the entries so far, and the entry and the effect of each expression so far
 pub record Sofar : Type 0 where
@@ -133,7 +136,7 @@ settle σ (points i s) = next (record { entries = σ .entries; of = σ .of ++ (i
 settle σ (wrong n) = stop n
 
 unfoldable pub numberAt : Ops → (ℕ → ℕ) → Sofar → Cmd ℕ → Numbered
-numberAt O var σ k = settle σ (resultAt O var (getElem? (σ .entries)) (λ e. getD (σ .of) e 0) (λ e. getD (σ .effects) e pure) k)
+numberAt O var σ k = settle σ (resultAt O var (getElem? (σ .entries)) (λ e. getD (σ .of) e 0) (λ e. getD (σ .effects) e pure) (length (σ .entries)) k)
 
 -- the state when all expressions are done, or the first refusal
 pub data Whole : Type 0 where

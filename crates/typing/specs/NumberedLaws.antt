@@ -16,9 +16,8 @@ use Rattle.order.specs.Effects.{Effect, pure, touch, join, effBelow}
 use Rattle.order.specs.EffectLaws.{Within, within-wider}
 use Rattle.syntax.specs.Types.{Ty, depth, TypeEntry, e-num, e-pair, e-cell, e-fn, e-lim, e-grant, tree}
 use Rattle.syntax.specs.TypeLaws.{tree-kept, tree-new}
-use Rattle.syntax.specs.Commands.{Cmd, c-num, c-top, c-var, c-pair, c-part, c-fn, c-app, c-new, c-asg, c-read, c-sum, c-test, c-lim, c-grant, c-newkey, c-assoc, c-access, mapCmd}
+use Rattle.syntax.specs.Commands.{Cmd, c-num, c-top, c-var, c-pair, c-part, c-fn, c-app, c-new, c-asg, c-read, c-sum, c-test, c-lim, c-grant, c-newkey, c-assoc, c-access, c-divide, mapCmd}
 use Rattle.syntax.specs.Operands.{nth, plain, inner, children, usesVar, bindsName}
-use Rattle.syntax.specs.RowLaws.{bound-few, bound}
 use Rattle.syntax.specs.Job.{Name, Job, uppers, upOf, sourceOf}
 use Rattle.syntax.specs.Reading.{Refusal, most-names, most-types, most-depth}
 use Rattle.syntax.specs.ReadLaws.{JobOk}
@@ -30,6 +29,7 @@ use Rattle.syntax.specs.Context.{stands}
 use Rattle.syntax.specs.TreeExactly.{tree-ok}
 use Rattle.typing.specs.Subtype.{subTy}
 use Rattle.typing.specs.Least.{Typed, typed, untyped, varType, typeAt, get, typesTo, types, typeOf, firstUntyped}
+use Rattle.typing.specs.LayoutLaws.{made, most-each, points-few, new-few}
 use Rattle.typing.specs.Layout.{newKeys, keyEntries, varEntry, firstPart, secondPart, rekeyed, Points, new, old, pointsTo, Layout, point, layoutFrom, layoutOf}
 use Rattle.syntax.specs.Loading.{most-entries}
 use Rattle.typing.specs.Tables.{effectOf, effectIn, layoutFor}
@@ -121,7 +121,7 @@ module _ (O : Ops) (var : ℕ → ℕ) (E : List TypeEntry) (of : ℕ → ℕ) (
   layout-keys [] n s g f = f n s
   layout-keys (a ∷ ks) n s g {p} f = layout-lim (getElem? E (of a)) _ (λ o. p) (λ q r. layout-keys ks (O .touch r n) (O .touch q (join (eff a) s)) g f)
 
-  layout-at : (fin : ℕ → Effect) (k : Cmd ℕ) → ((c : ℕ) → List·Memᴰ c (children k) → fin c ≡ eff c) → LayoutAgrees (resultAt O var (getElem? E) of eff k) (pointsTo var fin E of k)
+  layout-at : (fin : ℕ → Effect) (k : Cmd ℕ) → ((c : ℕ) → List·Memᴰ c (children k) → fin c ≡ eff c) → LayoutAgrees (resultAt O var (getElem? E) of eff (length E) k) (pointsTo var fin E of k)
   unfolding resultAt pointsTo children plain inner firstPart secondPart
   layout-at fin (c-num n) h = l-new
   layout-at fin c-top h = l-new
@@ -141,46 +141,9 @@ module _ (O : Ops) (var : ℕ → ℕ) (E : List TypeEntry) (of : ℕ → ℕ) (
   layout-at fin (c-newkey v r a b t) h = layout-lim (getElem? E (of a)) _ (λ o. old t) (λ q u. layout-need 11 _ (layout-need 12 _ l-old))
   layout-at fin (c-assoc a b) h = layout-lim (getElem? E (of b)) _ (λ o. new [] (rekeyed (firstPart o) (getElem? E (of a)))) (λ q r. l-new)
   layout-at fin (c-access a b c t) h = layout-lim (getElem? E (of a)) _ (λ o. old t) (λ q r. layout-need 12 _ (layout-need 12 _ l-old))
+  layout-at fin (c-divide a b) h = layout-num (getElem? E (of a)) _ (λ p. layout-num (getElem? E (of b)) _ (λ q. l-new))
 
 -- How many entries there are
-
--- how many an expression makes
-unfoldable pub made : Points → ℕ
-made (new l x) = suc (length l)
-made (old i) = 0
-
--- with the three of each name that it binds they are no more than four
-abbrev pub most-each : ℕ
-most-each = 4
-
-few-of : (k : Cmd ℕ) (m : ℕ) → m ≤ 1 → m + 3 * length (bindsName k) ≤ most-each
-few-of k m h = omega (arith, bound-few (bound k))
-
-pub points-few : (var : ℕ → ℕ) (eff : ℕ → Effect) (T : List TypeEntry) (of : ℕ → ℕ) (k : Cmd ℕ) → made (pointsTo var eff T of k) + 3 * length (bindsName k) ≤ most-each
-unfolding made pointsTo
-points-few var eff T of (c-num n) = few-of (c-num n) 1 (omega arith)
-points-few var eff T of c-top = few-of c-top 1 (omega arith)
-points-few var eff T of (c-var v) = few-of (c-var v) 0 (omega arith)
-points-few var eff T of (c-pair a b) = few-of (c-pair a b) 1 (omega arith)
-points-few var eff T of (c-part a true) = few-of (c-part a true) 0 (omega arith)
-points-few var eff T of (c-part a false) = few-of (c-part a false) 0 (omega arith)
-points-few var eff T of (c-fn v t b) = few-of (c-fn v t b) 1 (omega arith)
-points-few var eff T of (c-app f a) = few-of (c-app f a) 0 (omega arith)
-points-few var eff T of (c-new t a) = few-of (c-new t a) 1 (omega arith)
-points-few var eff T of (c-asg a b) = few-of (c-asg a b) 0 (omega arith)
-points-few var eff T of (c-read a) = few-of (c-read a) 0 (omega arith)
-points-few var eff T of (c-sum i a b) = few-of (c-sum i a b) 1 (omega arith)
-points-few var eff T of (c-test a b c t) = few-of (c-test a b c t) 0 (omega arith)
-points-few var eff T of (c-lim ks b) = few-of (c-lim ks b) 0 (omega arith)
-points-few var eff T of (c-grant a b) = few-of (c-grant a b) 0 (omega arith)
-points-few var eff T of (c-newkey v r a b t) = few-of (c-newkey v r a b t) 0 (omega arith)
-points-few var eff T of (c-assoc a b) = few-of (c-assoc a b) 1 (omega arith)
-points-few var eff T of (c-access a b c t) = few-of (c-access a b c t) 0 (omega arith)
-
-new-few : (l : List (Cmd ℕ)) → length (newKeys l) ≤ length l
-unfolding newKeys
-new-few [] = omega arith
-new-few (k ∷ l) = omega (arith, length-append (bindsName k) (newKeys l), bound-few (bound k), new-few l)
 
 -- the names that the first expressions bind: one expression more, and all of them
 keys-next : (l : List (Cmd ℕ)) (e : ℕ) → length (newKeys (take (suc e) l)) ≤ length (newKeys (take e l)) + length (bindsName (nth l e))

@@ -6,12 +6,12 @@ use mathlib.Core.Bool.{Bool, true, false, cond}
 use mathlib.Core.List.{List, [], _∷_, List·Memᴰ, List·Memᴰ·head, List·Memᴰ·tail, Memᴰ·append-left, Memᴰ·append-right, _++_, append-nil}
 use mathlib.Core.Option.{Option, some}
 use lib.ListN.{drop, length, getElem?}
-use Rattle.order.specs.OrderLaws.{getElem?-some}
+use Rattle.order.specs.OrderLaws.{getElem?-some, length-snoc}
 use Rattle.order.specs.Effects.{Effect, pure, touch, ofNames, join, drop as dropped, raise, reduce, effBelow}
 use Rattle.order.specs.EffectLaws.{Within, within-pure, reduce-within, drop-within, join-within, touch-within, join-pure, pure-join, join-swap, touch-join, join-touch, raise-within}
-use Rattle.syntax.specs.Types.{Ty, cell, fn, keyOf, rekey, TypeEntry, e-num, e-pair, e-cell, e-fn, e-lim, e-grant, entryTree, tree, byType, onCell, onFn, onGrant, onLim, onNum, onPair}
-use Rattle.syntax.specs.TypeLaws.{tree-entry}
-use Rattle.syntax.specs.Commands.{Cmd, c-num, c-top, c-var, c-pair, c-part, c-fn, c-app, c-new, c-asg, c-read, c-sum, c-test, c-lim, c-grant, c-newkey, c-assoc, c-access, mapCmd}
+use Rattle.syntax.specs.Types.{Ty, num, pair, cell, fn, keyOf, rekey, TypeEntry, e-num, e-pair, e-cell, e-fn, e-lim, e-grant, entryTree, tree, byType, onCell, onFn, onGrant, onLim, onNum, onPair}
+use Rattle.syntax.specs.TypeLaws.{tree-entry, tree-new}
+use Rattle.syntax.specs.Commands.{Cmd, c-num, c-top, c-var, c-pair, c-part, c-fn, c-app, c-new, c-asg, c-read, c-sum, c-test, c-lim, c-grant, c-newkey, c-assoc, c-access, c-divide, mapCmd}
 use Rattle.syntax.specs.Operands.{plain, inner, children, typesOf, usesVar, bindsName}
 use Rattle.syntax.specs.Job.{Src, upOf}
 use Rattle.typing.specs.Subtype.{subTy}
@@ -19,7 +19,7 @@ use Rattle.typing.specs.Least.{Typed, typed, untyped, with, wantNum, wan
 use Rattle.typing.specs.Layout.{rekeyed}
 use Rattle.typing.specs.Numbered.{Ops, Result, makes, points, wrong, needNum, needPair, needCell, needFn, needLim, needGrant, need, keyIn, fits, keysFrom, resultAt}
 use Rattle.typing.specs.NumberedOps.{Agree}
-use Rattle.typing.specs.NumberedTables.{EntryOk, ok-num, ok-pair, ok-cell, ok-fn, ok-lim, ok-grant, TableOk, key-low, table-earlier, TreeAt}
+use Rattle.typing.specs.NumberedTables.{EntryOk, ok-num, ok-pair, ok-cell, ok-fn, ok-lim, ok-grant, TableOk, key-low, part-low, table-earlier, table-snoc, TreeAt}
 
 -- One effect, worked out in two ways; its names are below N
 pub record Same (N : ℕ) (s t : Effect) : Type 0 where
@@ -107,6 +107,16 @@ module _ (S : Src) {O : Ops} (ag : Agree (upOf S) O) (ts : List TypeEntry) {E : 
   m-new {x} {A} w a z =
       let e = sym (append-nil E) in
       m-made {l = []} (subst (λ F. TableOk D N F) e ok) (subst (λ F. EntryOk D N (length F) x) e w) (subst (λ F. A ≡ entryTree (some x) (tree F)) e a) z
+
+  -- a number, and a pair with both parts at it
+  m-two : {s t : Effect} → Same N s t → M (typed (pair 0 (num 0) (num 0)) s) (makes (e-num 0 ∷ []) (e-pair 0 (length E) (length E)) t)
+  unfolding entryTree
+  m-two z =
+      let low : 0 < N = omega arith in
+      let w : EntryOk D N (length E) (e-num 0) = ok-num low in
+      let h : length E < length (E ++ (e-num 0 ∷ [])) = omega (arith, length-snoc E (e-num 0)) in
+      let n : num 0 ≡ tree (E ++ (e-num 0 ∷ [])) (length E) = sym (tree-new (table-earlier ok) (e-num 0) (λ c p. part-low w p)) in
+      m-made (table-snoc ok w) (ok-pair low h h) (λ i. pair 0 (n i) (n i)) z
 
   abbrev Op : ℕ → Type 0
   Op a = Operand N E tab of eff a
@@ -260,7 +270,7 @@ module _ (S : Src) {O : Ops} (ag : Agree (upOf S) O) (ts : List TypeEntry) {E : 
     pub name : (r : ℕ) → List·Memᴰ r (bindsName k) → (1 < r) × (r < N)
     pub variable : (x : ℕ) → List·Memᴰ x (usesVar k) → (A : Ty) × (varType S x ≡ some A) × TreeAt E A (var x)
 
-  pub matches : (k : Cmd ℕ) → Given k → M (typeAt S tab (mapCmd (tree ts) k)) (resultAt O var (getElem? E) of eff k)
+  pub matches : (k : Cmd ℕ) → Given k → M (typeAt S tab (mapCmd (tree ts) k)) (resultAt O var (getElem? E) of eff (length E) k)
   unfolding children plain inner typesOf bindsName usesVar mapCmd typeAt resultAt entryTree ofVar join
   matches (c-num n) h = m-new (ok-num zero-low) refl (same-self pure-low)
   matches c-top h = m-new (ok-lim zero-low two) refl (same-self pure-low)
@@ -347,3 +357,8 @@ module _ (S : Src) {O : Ops} (ag : Agree (upOf S) O) (ts : List TypeEntry) {E : 
       let l = h .type t (List·Memᴰ·head refl) in
       by-operand p _ (by-operand q _ (by-operand o _ (by-lim (p .low) _ _ (λ k r hk hr. by-sub q l (by-sub o l (
       m-old (kept t l) (same-reduce ag (same-touch ag hk (same-join (eff-of p) (same-join (same-drop ag hr (eff-of q)) (eff-of o)))))))))))
+  matches (c-divide a b) h =
+      let p = h .operand a (List·Memᴰ·head refl) in
+      let q = h .operand b (List·Memᴰ·tail (List·Memᴰ·head refl)) in
+      by-operand p _ (by-operand q _ (by-num (p .low) _ _ (λ k hk. by-num (q .low) _ _ (λ l hl.
+      m-two (same-reduce ag (same-touch ag hk (same-touch ag hl (same-join (eff-of p) (eff-of q)))))))))

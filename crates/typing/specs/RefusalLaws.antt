@@ -9,7 +9,7 @@ use mathlib.Core.Logic.{_↔_}
 use lib.ListN.{length, getD, getElem?, length-map}
 use Rattle.order.specs.Effects.{Effect, pure}
 use Rattle.syntax.specs.Types.{Ty, tree, TypeEntry, e-num, e-pair, e-cell, e-fn, e-lim, e-grant}
-use Rattle.syntax.specs.Commands.{Cmd, c-num, c-top, c-var, c-pair, c-part, c-fn, c-app, c-new, c-asg, c-read, c-sum, c-test, c-lim, c-grant, c-newkey, c-assoc, c-access, mapCmd}
+use Rattle.syntax.specs.Commands.{Cmd, c-num, c-top, c-var, c-pair, c-part, c-fn, c-app, c-new, c-asg, c-read, c-sum, c-test, c-lim, c-grant, c-newkey, c-assoc, c-access, c-divide, mapCmd}
 use Rattle.syntax.specs.Job.{Job, sourceOf}
 use Rattle.syntax.specs.Reading.{Refusal, Read, refused, read, reading}
 use Rattle.syntax.specs.ReadLaws.{JobOk, read-ok}
@@ -113,25 +113,26 @@ module _ (O : Ops) (var : ℕ → ℕ) (at : ℕ → Option TypeEntry) (of : ℕ
   keys-fine [] rs s g = g rs s
   keys-fine (a ∷ ks) rs s g = lim-fine (at (of a)) (λ q r. keys-fine ks _ _ g)
 
-  result-fine : (k : Cmd ℕ) → Fine (resultAt O var at of eff k)
+  result-fine : (n : ℕ) (k : Cmd ℕ) → Fine (resultAt O var at of eff n k)
   unfolding resultAt
-  result-fine (c-num n) = f-makes _ _ _
-  result-fine c-top = f-makes _ _ _
-  result-fine (c-var v) = f-points _ _
-  result-fine (c-pair a b) = f-makes _ _ _
-  result-fine (c-part a i) = pair-fine (at (of a)) (λ q x y. f-points _ _)
-  result-fine (c-fn v t b) = f-makes _ _ _
-  result-fine (c-app f a) = fn-fine (at (of f)) (λ q t u l. need-12 _ (f-points _ _))
-  result-fine (c-new t a) = need-12 _ (f-makes _ _ _)
-  result-fine (c-asg a b) = cell-fine (at (of a)) (λ q t. need-12 _ (f-points _ _))
-  result-fine (c-read a) = cell-fine (at (of a)) (λ q t. f-points _ _)
-  result-fine (c-sum i a b) = num-fine (at (of a)) (λ p. num-fine (at (of b)) (λ q. f-makes _ _ _))
-  result-fine (c-test a b c t) = num-fine (at (of a)) (λ q. need-12 _ (need-12 _ (f-points _ _)))
-  result-fine (c-lim ks b) = keys-fine ks pure _ (λ rs s. need-13 _ (f-points _ _))
-  result-fine (c-grant a b) = grant-fine (at (of a)) (λ q r. f-points _ _)
-  result-fine (c-newkey v r a b t) = lim-fine (at (of a)) (λ q u. need-11 _ (need-12 _ (f-points _ _)))
-  result-fine (c-assoc a b) = lim-fine (at (of b)) (λ q r. f-makes _ _ _)
-  result-fine (c-access a b c t) = lim-fine (at (of a)) (λ q r. need-12 _ (need-12 _ (f-points _ _)))
+  result-fine n (c-num x) = f-makes _ _ _
+  result-fine n c-top = f-makes _ _ _
+  result-fine n (c-var v) = f-points _ _
+  result-fine n (c-pair a b) = f-makes _ _ _
+  result-fine n (c-part a i) = pair-fine (at (of a)) (λ q x y. f-points _ _)
+  result-fine n (c-fn v t b) = f-makes _ _ _
+  result-fine n (c-app f a) = fn-fine (at (of f)) (λ q t u l. need-12 _ (f-points _ _))
+  result-fine n (c-new t a) = need-12 _ (f-makes _ _ _)
+  result-fine n (c-asg a b) = cell-fine (at (of a)) (λ q t. need-12 _ (f-points _ _))
+  result-fine n (c-read a) = cell-fine (at (of a)) (λ q t. f-points _ _)
+  result-fine n (c-sum i a b) = num-fine (at (of a)) (λ p. num-fine (at (of b)) (λ q. f-makes _ _ _))
+  result-fine n (c-test a b c t) = num-fine (at (of a)) (λ q. need-12 _ (need-12 _ (f-points _ _)))
+  result-fine n (c-lim ks b) = keys-fine ks pure _ (λ rs s. need-13 _ (f-points _ _))
+  result-fine n (c-grant a b) = grant-fine (at (of a)) (λ q r. f-points _ _)
+  result-fine n (c-newkey v r a b t) = lim-fine (at (of a)) (λ q u. need-11 _ (need-12 _ (f-points _ _)))
+  result-fine n (c-assoc a b) = lim-fine (at (of b)) (λ q r. f-makes _ _ _)
+  result-fine n (c-access a b c t) = lim-fine (at (of a)) (λ q r. need-12 _ (need-12 _ (f-points _ _)))
+  result-fine n (c-divide a b) = num-fine (at (of a)) (λ p. num-fine (at (of b)) (λ q. f-makes _ _ _))
 
 -- All expressions of a job, of which there are k
 
@@ -142,7 +143,7 @@ data Halts (k : ℕ) : Whole → Type 0 where
 halts : (O : Ops) (var : ℕ → ℕ) (e : ℕ) (l : List (Cmd ℕ)) (σ : Sofar) (k : ℕ) → e + length l ≤ k → Halts k (numberAll O var e l σ)
 unfolding numberAll numberAt settle onto
 halts O var e [] σ k h = h-whole σ
-halts O var e (c ∷ l) σ k h = go (result-fine O var (getElem? (σ .entries)) (λ a. getD (σ .of) a 0) (λ a. getD (σ .effects) a pure) c) (λ τ. halts O var (suc e) l τ k (omega arith))
+halts O var e (c ∷ l) σ k h = go (result-fine O var (getElem? (σ .entries)) (λ a. getD (σ .of) a 0) (λ a. getD (σ .effects) a pure) (length (σ .entries)) c) (λ τ. halts O var (suc e) l τ k (omega arith))
   where
     go : {r : Result} → Fine r → ((τ : Sofar) → Halts k (numberAll O var (suc e) l τ)) → Halts k (onto (settle σ r) e (λ τ. numberAll O var (suc e) l τ))
     go (f-makes l x s) g = g _

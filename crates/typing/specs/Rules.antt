@@ -10,7 +10,7 @@ use mathlib.Core.Logic.{_≢_}
 use lib.ListN.{getElem?}
 use Rattle.order.specs.Effects.{Effect, pure, ofNames, touch, join, drop, raise, EffBelow}
 use Rattle.syntax.specs.Types.{Ty, num, pair, cell, fn, lim, grant, keyOf, rekey}
-use Rattle.syntax.specs.Commands.{Cmd, c-num, c-top, c-var, c-pair, c-part, c-fn, c-app, c-new, c-asg, c-read, c-sum, c-test, c-lim, c-grant, c-newkey, c-assoc, c-access}
+use Rattle.syntax.specs.Commands.{Cmd, c-num, c-top, c-var, c-pair, c-part, c-fn, c-app, c-new, c-asg, c-read, c-sum, c-test, c-lim, c-grant, c-newkey, c-assoc, c-access, c-divide}
 use Rattle.syntax.specs.Operands.{nth}
 use Rattle.syntax.specs.Job.{Src, upOf}
 use Rattle.syntax.specs.Tree.{Entry, e-var, e-name, keyPair}
@@ -93,6 +93,9 @@ mutual
     -- 0x40: the key is touched; "In the first branch the effect drops names below the key's name", the one that it stands for; the second branch's stays whole
     h-access : {Γ : List Entry} {e a b c q r : ℕ} {B C T : Ty} {s t u : Effect} → codeOf S e ≡ c-access a b c T → ScopedType Γ T
         → Has S Γ a (lim q r) s → Has S Γ b B t → Has S Γ c C u → Sub (upOf S) B T → Sub (upOf S) C T → Has S Γ e T (touch q (join s (join (drop (upOf S) r t) u)))
+    -- 0x41: both numbers are touched; "gives an unkeyed pair of unkeyed numbers"
+    h-divide : {Γ : List Entry} {e a b p q : ℕ} {s t : Effect} → codeOf S e ≡ c-divide a b
+        → Has S Γ a (num p) s → Has S Γ b (num q) t → Has S Γ e (pair 0 (num 0) (num 0)) (touch p (touch q (join s t)))
     -- subsumption
     h-sub : {Γ : List Entry} {e : ℕ} {A B : Ty} {s t : Effect} → Has S Γ e A s → Sub (upOf S) A B → ScopedType Γ B → EffBelow (upOf S) s t → ScopedEffect Γ t → Has S Γ e B t
 
