@@ -11,12 +11,12 @@ use lib.Dec.{ltb}
 use Rattle.order.specs.Bools.{_and_}
 use Rattle.semantics.specs.Machine.{k-num, k-pair, k-fn, k-cell, k-lim, k-grant, Value as SValue, unkeyed, Two as STwo, b-var, b-name, Link, Closure as SClosure, Machine as Clean}
 use Rattle.semantics.specs.Keys.{enabled, add}
-use Rattle.semantics.specs.Step.{Out, o-step, o-done, o-room, o-stuck, o-denied, room, touch, touchAll, settle, asNum, asPair, asFn, asCell, asLim, asGrant, found}
-use Rattle.semantics.specs.Step.{partOf, actPair, actPart, actApp, actNew, actAsg, actRead, branch, sumN, actSum, actTest, actGrant, makeKey, actNewkey, actAssoc, actAccess}
+use Rattle.semantics.specs.Step.{Out, o-step, o-done, o-room, o-stuck, o-denied, Plan, room, touch, touchAll, settle, asNum, asPair, asFn, asCell, asLim, asGrant, found}
+use Rattle.semantics.specs.Step.{partOf, actPair, actPart, actApp, actNew, actAsg, actRead, branch, sumN, actSum, actTest, actGrant, makeKey, actNewkey, actAssoc, actAccess, quotient, remainder, actDivide}
 use Rattle.table.specs.declared.Expr.{Expr}
 use Rattle.store.specs.declared.Keys.{Keys}
 use Rattle.store.specs.declared.Kind.{Kind}
-use Rattle.store.specs.declared.Kind.the-variants.{Pair, Limit, Grant}
+use Rattle.store.specs.declared.Kind.the-variants.{Number, Pair, Limit, Grant}
 use Rattle.store.specs.declared.Value.{Value}
 use Rattle.store.specs.Meaning.{keysIn, kindIn, valueIn}
 use Rattle.store.specs.Words.{cellIn, pairIn, functionIn, linkIn, upIn}
@@ -26,7 +26,7 @@ use Rattle.acts.specs.declared.State.{State}
 use Rattle.acts.specs.declared.Acted.{Acted}
 use Rattle.acts.specs.declared.Answer.the-variants.{Finished, NoRoom, Stuck, Denied}
 use Rattle.acts.specs.View.{Tables, view}
-use Rattle.acts.specs.Inner.{settled, acted, give, go, stopOf, giveOf, goOf, unkeyedOf, putCells, putKeys, putPairs, putBindings, Went}
+use Rattle.acts.specs.Inner.{settled, acted, give, go, stopOf, giveOf, goOf, unkeyedOf, unkeyedNumber, putCells, putKeys, putPairs, putBindings, Went}
 
 -- a step that is not taken
 module _ (self : State) (w : Tables) (o : Out) where
@@ -251,6 +251,17 @@ unfolding branch
 branch-yes zero a b e = absurd (e refl)
 branch-yes (suc n) a b e = refl
 
+-- a plan that is chosen
+pub either : (d : Bool) (p q : Plan) {o : Out} → settle p ≡ o → settle q ≡ o → settle (cond d p q) ≡ o
+either true p q h k = h
+either false p q h k = k
+
+pub by-first : (d : Bool) (p q : Plan) → d ≡ true → settle (cond d p q) ≡ settle p
+by-first d p q e = rw e
+
+pub by-second : (d : Bool) (p q : Plan) → d ≡ false → settle (cond d p q) ≡ settle q
+by-second d p q e = rw e
+
 -- the acts that read no table but that of the keys
 module _ (back : State) (w : Tables) where
   module _ (i : Bool) (x y : SValue) {a b : ℕ} {o : Bool} (hx : x .kind ≡ k-num a) (hy : y .kind ≡ k-num b) (ho : o ≡ On back w (x .key)) where
@@ -265,6 +276,26 @@ module _ (back : State) (w : Tables) where
     pub summed : {p : Bool} {n : ℕ} → o ≡ true → p ≡ On back w (y .key) → p ≡ true → n ≡ sumN i a b → settle (actSum i x y (view back w)) ≡ give (unkeyed (k-num n)) (view back w)
     unfolding view actSum asNum found settle touchAll touch room
     summed h hp k hn = simp (hx, hy, ← ho, h, ← hp, k, hn)
+
+  module _ (x y : SValue) {a b : ℕ} {o : Bool} (hx : x .kind ≡ k-num a) (hy : y .kind ≡ k-num b) (ho : o ≡ On back w (x .key)) where
+    pub divide-first : o ≡ false → settle (actDivide x y (view back w)) ≡ o-denied
+    unfolding view actDivide asNum found settle touchAll touch room
+    divide-first h = simp (hx, hy, ← ho, h)
+
+    pub divide-second : {p : Bool} → o ≡ true → p ≡ On back w (y .key) → p ≡ false → settle (actDivide x y (view back w)) ≡ o-denied
+    unfolding view actDivide asNum found settle touchAll touch room
+    divide-second h hp k = simp (hx, hy, ← ho, h, ← hp, k)
+
+    -- with both keys enabled it is the act of a pair of the two parts
+    pub divided : {p : Bool} → o ≡ true → p ≡ On back w (y .key) → p ≡ true
+        → settle (actDivide x y (view back w)) ≡ settle (actPair (unkeyedNumber (quotient a b)) (unkeyedNumber (remainder a b)) (view back w))
+    unfolding view actPair actDivide asNum found settle touchAll touch room
+    divided h hp k = simp (hx, hy, ← ho, h, ← hp, k)
+
+  -- the parts as words
+  pub parts-are : (a b : ℕ) {n m : ℕ} (u v : Value) → n ≡ quotient a b → m ≡ remainder a b → u ≡ unkeyedOf Number n → v ≡ unkeyedOf Number m
+      → settle (actPair (unkeyedNumber (quotient a b)) (unkeyedNumber (remainder a b)) (view back w)) ≡ settle (actPair (valueIn u) (valueIn v) (view back w))
+  parts-are a b u v hn hm hu hv = simp (hu, hv, hn, hm)
 
   module _ (b c : ℕ) (x : SValue) {n : ℕ} {o : Bool} (hx : x .kind ≡ k-num n) (ho : o ≡ On back w (x .key)) where
     pub test-denied : o ≡ false → settle (actTest b c x (view back w)) ≡ o-denied

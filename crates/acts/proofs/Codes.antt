@@ -4,9 +4,10 @@ use mathlib.Core.Path.{_≡_, refl, sym, _∙_, ap}
 use mathlib.Core.Bool.{cond}
 use mathlib.Core.List.{List, [], _∷_, _++_}
 use mathlib.Core.Option.{none, some}
+use mathlib.Core.Logic.{_⊎_, inl, inr}
 use native.Mathlib.Omega.{arith}
 use borrow.Author.Tests.{ne-eqb}
-use lib.Dec.{ltb}
+use lib.Dec.{eqb, ltb}
 use lib.ListN.{take, getD, getElem?}
 use Rattle.syntax.specs.Commands.{Cmd, c-num}
 use Rattle.syntax.specs.Operands.{evaluated}
@@ -16,8 +17,7 @@ use Rattle.semantics.specs.Machine.{Value, Machine}
 use Rattle.semantics.specs.Step.{o-stuck, room, touchAll, p-wrong, settle, push, act, enterAt, enterCmd, bare, one, two, limitKeys, keysOf, actLim, actTest, actAccess}
 use Rattle.semantics.specs.Enabled.{narrow-none}
 use Rattle.store.specs.Frames.{handOf}
-use Rattle.acts.specs.Inner.{go}
-use Rattle.acts.specs.Inner.{Works}
+use Rattle.acts.specs.Inner.{go, actNumbers, Works}
 use Rattle.acts.proofs.Limit.{padded}
 
 cons-nil : {x : ℕ} {t : List ℕ} → x ∷ t ≡ [] → ⊥
@@ -38,7 +38,7 @@ enter-number op x a b c d e w h1 h2 h5 hc = at (w .all a b c d e)
     at = decode-cases (λ k. evaluated k ≡ [] → k ≡ c-num x) op x a b c d e
         (λ h. absurd (h1 h)) (λ h. absurd (h2 h)) (λ h p. absurd (cons-nil p)) (λ h p. absurd (cons-nil p)) (λ h. absurd (h5 h)) (λ h p. absurd (cons-nil p)) (λ h p. absurd (cons-nil p))
         (λ h p. absurd (cons-nil p)) (λ h p. absurd (cons-nil p)) (λ h p. absurd (cons-nil p)) (λ h p. absurd (cons-nil p)) (λ h. absurd (hc h)) (λ h p. absurd (cons-nil p)) (λ h p. absurd (cons-nil p))
-        (λ h p. absurd (cons-nil p)) (λ h p. absurd (cons-nil p)) (λ p. refl)
+        (λ h p. absurd (cons-nil p)) (λ h p. absurd (cons-nil p)) (λ h p. absurd (cons-nil p)) (λ p. refl)
 
 -- the arms of an act on one value, and on two
 pub one-stuck :
@@ -47,33 +47,33 @@ pub one-stuck :
 unfolding act bare two
 one-stuck op x a b c d e v m h4 h7 h9 hb hc hd he h40 = decode-cases (λ k. act k (v ∷ []) m ≡ p-wrong) op x a b c d e
     (λ h. refl) (λ h. refl) (λ h. refl) (λ h. absurd (h4 h)) (λ h. refl) (λ h. refl) (λ h. absurd (h7 h)) (λ h. refl) (λ h. absurd (h9 h)) (λ h. refl)
-    (λ h. absurd (hb h)) (λ h. absurd (hc h)) (λ h. absurd (hd h)) (λ h. absurd (he h)) (λ h. refl) (λ h. absurd (h40 h)) refl
+    (λ h. absurd (hb h)) (λ h. absurd (hc h)) (λ h. absurd (hd h)) (λ h. absurd (he h)) (λ h. refl) (λ h. absurd (h40 h)) (λ h. refl) refl
 
 pub two-stuck :
-    (op x a b c d e : ℕ) (u v : Value) (m : Machine) → (op ≡ 0x33 → ⊥) → (op ≡ 0x36 → ⊥) → (op ≡ 0x38 → ⊥) → (op ≡ 0x3A → ⊥) → (op ≡ 0x3C → ⊥) → (op ≡ 0x3F → ⊥) →
+    (op x a b c d e : ℕ) (u v : Value) (m : Machine) → (op ≡ 0x33 → ⊥) → (op ≡ 0x36 → ⊥) → (op ≡ 0x38 → ⊥) → (op ≡ 0x3A → ⊥) → (op ≡ 0x3C → ⊥) → (op ≡ 0x3F → ⊥) → (op ≡ 0x41 → ⊥) →
     act (decode op x a b c d e) (u ∷ v ∷ []) m ≡ p-wrong
 unfolding act bare one
-two-stuck op x a b c d e u v m h3 h6 h8 ha hc hf = decode-cases (λ k. act k (u ∷ v ∷ []) m ≡ p-wrong) op x a b c d e
+two-stuck op x a b c d e u v m h3 h6 h8 ha hc hf h41 = decode-cases (λ k. act k (u ∷ v ∷ []) m ≡ p-wrong) op x a b c d e
     (λ h. refl) (λ h. refl) (λ h. absurd (h3 h)) (λ h. refl) (λ h. refl) (λ h. absurd (h6 h)) (λ h. refl) (λ h. absurd (h8 h)) (λ h. refl) (λ h. absurd (ha h))
-    (λ h. refl) (λ h. absurd (hc h)) (λ h. refl) (λ h. refl) (λ h. absurd (hf h)) (λ h. refl) refl
+    (λ h. refl) (λ h. absurd (hc h)) (λ h. refl) (λ h. refl) (λ h. absurd (hf h)) (λ h. refl) (λ h. absurd (h41 h)) refl
 
 -- no command but a limit acts on three values or more
 pub more-stuck : (op x a b c d e : ℕ) (u v w : Value) (l : List Value) (m : Machine) → (op ≡ 0x3C → ⊥) → act (decode op x a b c d e) (u ∷ v ∷ w ∷ l) m ≡ p-wrong
 unfolding act bare one two
 more-stuck op x a b c d e u v w l m hc = decode-cases (λ k. act k (u ∷ v ∷ w ∷ l) m ≡ p-wrong) op x a b c d e
     (λ h. refl) (λ h. refl) (λ h. refl) (λ h. refl) (λ h. refl) (λ h. refl) (λ h. refl) (λ h. refl) (λ h. refl) (λ h. refl)
-    (λ h. refl) (λ h. absurd (hc h)) (λ h. refl) (λ h. refl) (λ h. refl) (λ h. refl) refl
+    (λ h. refl) (λ h. absurd (hc h)) (λ h. refl) (λ h. refl) (λ h. refl) (λ h. refl) (λ h. refl) refl
 
 -- the bytes of no command that works out an operand
 pub works-none :
     (op x : ℕ) → (op ≡ 0x33 → ⊥) → (op ≡ 0x34 → ⊥) → (op ≡ 0x36 → ⊥) → (op ≡ 0x37 → ⊥) → (op ≡ 0x38 → ⊥) → (op ≡ 0x39 → ⊥) →
-    (op ≡ 0x3A → ⊥) → (op ≡ 0x3B → ⊥) → (op ≡ 0x3C → ⊥) → (op ≡ 0x3D → ⊥) → (op ≡ 0x3E → ⊥) → (op ≡ 0x3F → ⊥) → (op ≡ 0x40 → ⊥) → Works op x 0
+    (op ≡ 0x3A → ⊥) → (op ≡ 0x3B → ⊥) → (op ≡ 0x3C → ⊥) → (op ≡ 0x3D → ⊥) → (op ≡ 0x3E → ⊥) → (op ≡ 0x3F → ⊥) → (op ≡ 0x40 → ⊥) → (op ≡ 0x41 → ⊥) → Works op x 0
 unfolding evaluated
-works-none op x h3 h4 h6 h7 h8 h9 ha hb hc hd he hf h40 =
+works-none op x h3 h4 h6 h7 h8 h9 ha hb hc hd he hf h40 h41 =
     record {
       all = λ a b c d e. decode-cases (λ k. evaluated k ≡ []) op x a b c d e
           (λ h. refl) (λ h. refl) (λ h. absurd (h3 h)) (λ h. absurd (h4 h)) (λ h. refl) (λ h. absurd (h6 h)) (λ h. absurd (h7 h)) (λ h. absurd (h8 h)) (λ h. absurd (h9 h)) (λ h. absurd (ha h))
-          (λ h. absurd (hb h)) (λ h. absurd (hc h)) (λ h. absurd (hd h)) (λ h. absurd (he h)) (λ h. absurd (hf h)) (λ h. absurd (h40 h)) refl;
+          (λ h. absurd (hb h)) (λ h. absurd (hc h)) (λ h. absurd (hd h)) (λ h. absurd (he h)) (λ h. absurd (hf h)) (λ h. absurd (h40 h)) (λ h. absurd (h41 h)) refl;
       few = omega arith;
     }
 
@@ -128,9 +128,9 @@ module _ (heads slots : List ℕ) (i head : ℕ) (e : head ≡ getD heads i 0) w
 
   pub code-two :
       (u v : Value) (m : Machine) → (getD heads i 0 % 256 ≡ 0x3C → ⊥) → (head % 256 ≡ 0x33 → ⊥) → (head % 256 ≡ 0x36 → ⊥) → (head % 256 ≡ 0x38 → ⊥) → (head % 256 ≡ 0x3A → ⊥) →
-      (head % 256 ≡ 0x3F → ⊥) → settle (act (codeIn heads slots i) (u ∷ v ∷ []) m) ≡ o-stuck
+      (head % 256 ≡ 0x3F → ⊥) → (head % 256 ≡ 0x41 → ⊥) → settle (act (codeIn heads slots i) (u ∷ v ∷ []) m) ≡ o-stuck
   unfolding codeIn settle
-  code-two u v m hc h3 h6 h8 ha hf = simp (← e) (ap settle (two-stuck (head % 256) (head / 256 % 4294967296) _ _ _ _ _ u v m h3 h6 h8 ha (λ z. hc (ap (λ (x : ℕ). x % 256) (sym e) ∙ z)) hf))
+  code-two u v m hc h3 h6 h8 ha hf h41 = simp (← e) (ap settle (two-stuck (head % 256) (head / 256 % 4294967296) _ _ _ _ _ u v m h3 h6 h8 ha (λ z. hc (ap (λ (x : ℕ). x % 256) (sym e) ∙ z)) hf h41))
 
   code-three : (u v w : Value) (l : List Value) (m : Machine) → (head % 256 ≡ 0x3C → ⊥) → settle (act (codeIn heads slots i) (u ∷ v ∷ w ∷ l) m) ≡ o-stuck
   unfolding codeIn settle
@@ -154,6 +154,14 @@ module _ (heads slots : List ℕ) (i head : ℕ) (e : head ≡ getD heads i 0) w
       (v : Value) (m : Machine) {b c : ℕ} → head % 256 ≡ 0x3B → b ≡ getD slots (i * 5 + 1) 0 → c ≡ getD slots (i * 5 + 2) 0 → act (codeIn heads slots i) (v ∷ []) m ≡ actTest b c v m
   unfolding codeIn decode act one
   code-test v m h hb hc = simp (← e, h, ← hb, ← hc)
+
+  -- 0x3A and 0x41, on two values
+  pub code-numbers :
+      (u v : Value) (m : Machine) → (head % 256 ≡ 0x3A) ⊎ (head % 256 ≡ 0x41)
+      → act (codeIn heads slots i) (u ∷ v ∷ []) m ≡ actNumbers (eqb (head % 256) 0x41) (eqb (head / 256 % 4294967296) 0) u v m
+  unfolding codeIn decode act two
+  code-numbers u v m (inl h) = simp (← e, h)
+  code-numbers u v m (inr h) = simp (← e, h)
 
   pub code-access :
       (v : Value) (m : Machine) {b c : ℕ} → head % 256 ≡ 0x40 → b ≡ getD slots (i * 5 + 1) 0 → c ≡ getD slots (i * 5 + 2) 0 → act (codeIn heads slots i) (v ∷ []) m ≡ actAccess b c v m

@@ -1,7 +1,8 @@
 -- What the contracts of the state's own functions say.
 use mathlib.Core.Path.{_≡_}
-use Rattle.semantics.specs.Machine.{Value as SValue, Machine as Clean}
-use Rattle.semantics.specs.Step.{Out, o-step, o-done, o-room, o-stuck, o-denied, handing, entering, Plan, p-wrong, settle}
+use mathlib.Core.Bool.{Bool, cond}
+use Rattle.semantics.specs.Machine.{k-num, Value as SValue, unkeyed, Machine as Clean}
+use Rattle.semantics.specs.Step.{Out, o-step, o-done, o-room, o-stuck, o-denied, handing, entering, Plan, p-wrong, settle, actSum, actDivide}
 use Rattle.semantics.specs.Calls.{Answer as SAnswer, taken, finished, noroom, stuck, denied}
 use Rattle.table.specs.declared.Expr.{Expr}
 use Rattle.store.specs.declared.Keys.{Keys}
@@ -95,6 +96,14 @@ resumeOf t top env on =
 
 abbrev pub unkeyedOf : Kind → ℕ → Value
 unkeyedOf k n = record { key = record { 0 = 0 }; kind = k; payload = n }
+
+-- a number without a key
+abbrev pub unkeyedNumber : ℕ → SValue
+unkeyedNumber n = unkeyed (k-num n)
+
+-- 0x41 (true), or 0x3A
+abbrev pub actNumbers : Bool → Bool → SValue → SValue → Clean → Plan
+actNumbers d i x y m = cond d (actDivide x y m) (actSum i x y m)
 
 -- the keys of a limit, or a value that is no limit key
 abbrev pub limitsIn : Limits → (List ℕ → Plan) → Plan

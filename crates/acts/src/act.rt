@@ -26,12 +26,12 @@ ghost use Prim.Native.Nat.{ℕ, suc, _<_};
 ghost use Rattle.order.specs.Sets.{all-of};
 ghost use Rattle.semantics.specs.Machine.{most-keys, most-pairs, most-bindings};
 ghost use Rattle.semantics.specs.Keys.{enabled};
-ghost use Rattle.semantics.specs.Step.{Plan, settle, actPair, actPart, actApp, actNew, actAsg, actRead, actSum, actTest, limitKeys, actLim, actGrant, makeKey, actNewkey, actAssoc, actAccess};
+ghost use Rattle.semantics.specs.Step.{Plan, settle, actPair, actPart, actApp, actNew, actAsg, actRead, actTest, limitKeys, actLim, actGrant, makeKey, actNewkey, actAssoc, actAccess, quotient, remainder};
 ghost use Rattle.store.specs.Meaning.{keysIn, valueIn};
 ghost use Rattle.store.specs.Words.{upIn};
 ghost use Rattle.store.specs.Tables.{capped, listOf};
 ghost use Rattle.acts.specs.View.{Tables, view};
-ghost use Rattle.acts.specs.Inner.{acted, tried, putCells, putKeys, putPairs, putFunctions, putBindings, limitsIn, Went};
+ghost use Rattle.acts.specs.Inner.{acted, tried, actNumbers, unkeyedNumber, putCells, putKeys, putPairs, putFunctions, putBindings, limitsIn, Went};
 ghost use Rattle.acts.specs.Lent.{beforeKey, afterKey};
 
 // 0x3E binds twice.
@@ -245,15 +245,34 @@ impl State {
         back.give(v)
     }
 
-    pub(crate) fn act_sum(
+    // The parts of a division, as a pair.
+    fn pair_parts(self, back: State, a: u32, b: u32, pairs: &mut [u64; PAIR_WORDS]) -> Acted
+        ensures { λ r. ⌜ ((w : Tables) → acted r (putPairs w (now (pairs .exit))) ≡ tried self back (putPairs w (now (pairs .entry))) (actPair (unkeyedNumber (quotient a b)) (unkeyedNumber (remainder a b)))) ⌝ }
+    {
+        let n = back.pairs;
+        if n < MOST_PAIRS {} else {
+            return self.stop(Answer::NoRoom);
+        }
+        let first = unkeyed(Kind::Number, arithmetic::quotient(a, b));
+        let second = unkeyed(Kind::Number, arithmetic::remainder(a, b));
+        store::put_pair(pairs, n as u16, Two { first, second });
+        let mut next = back;
+        next.pairs = n + 1;
+        next.give(unkeyed(Kind::Pair, n as u32))
+    }
+
+    // Two numbers, both touched: their sum or difference, or the pair of their division. One function tests them for both commands: a second one beside it makes every step dearer.
+    pub(crate) fn act_numbers(
         self,
         back: State,
+        divides: bool,
         sum: bool,
         x: Value,
         y: Value,
         keys: &[u8; KEY_BYTES],
+        pairs: &mut [u64; PAIR_WORDS],
     ) -> Acted
-        ensures { λ r. ⌜ ((w : Tables) → acted r (putKeys w (now (keys .entry))) ≡ tried self back (putKeys w (now (keys .entry))) (actSum sum (valueIn x) (valueIn y))) ⌝ }
+        ensures { λ r. ⌜ ((w : Tables) → acted r (putKeys (putPairs w (now (pairs .exit))) (now (keys .entry))) ≡ tried self back (putKeys (putPairs w (now (pairs .entry))) (now (keys .entry))) (actNumbers «divides» sum (valueIn x) (valueIn y))) ⌝ }
     {
         let k = x.kind;
         let l = y.kind;
@@ -268,6 +287,9 @@ impl State {
         }
         if back.touch(y, keys) {} else {
             return self.stop(Answer::Denied);
+        }
+        if divides {
+            return self.pair_parts(back, x.payload, y.payload, pairs);
         }
         let v = unkeyed(Kind::Number, arithmetic::sum_of(sum, x.payload, y.payload));
         back.give(v)

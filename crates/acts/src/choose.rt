@@ -111,7 +111,7 @@ impl State {
             0x33 => self.act_pair(back, u, v, pairs),
             0x36 => self.act_apply(back, u, v, keys, functions, bindings),
             0x38 => self.act_assign(back, u, v, keys, cells),
-            0x3A => self.act_sum(back, x == 0, u, v, keys),
+            0x3A | 0x41 => self.act_numbers(back, op == 0x41, x == 0, u, v, keys, pairs),
             0x3F => self.act_associate(back, u, v, keys),
             _ => self.stop(Answer::Stuck),
         }

@@ -1,6 +1,7 @@
-// Arithmetic on numbers (0x3A): a sum or difference that passes an end, 4294967295 or 0, stops there.
+// Arithmetic on numbers: a sum or difference (0x3A) that passes an end, 4294967295 or 0, stops there; a division (0x41) has two parts, 0 and the dividend where the divisor is 0.
 ghost use mathlib.Core.Path.{_≡_};
 ghost use mathlib.Core.Bool.{true, false};
+ghost use Rattle.semantics.specs.Step as step;
 ghost use Rattle.semantics.specs.Step.{sumN};
 
 const MOST_NUMBER: u32 = 4294967295;
@@ -31,4 +32,23 @@ pub fn sum_of(is_sum: bool, a: u32, b: u32) -> u32
         return sum(a, b);
     }
     difference(a, b)
+}
+
+// How often the second number goes into the first, and what is left of the first.
+pub fn quotient(a: u32, b: u32) -> u32
+    ensures { λ r. ⌜ r ≡ step.quotient a b ⌝ }
+{
+    if b == 0 {
+        return 0;
+    }
+    a / b
+}
+
+pub fn remainder(a: u32, b: u32) -> u32
+    ensures { λ r. ⌜ r ≡ step.remainder a b ⌝ }
+{
+    if b == 0 {
+        return a;
+    }
+    a % b
 }

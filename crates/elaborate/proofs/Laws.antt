@@ -27,7 +27,7 @@ use Rattle.elaborate.specs.declared.Passed.the-variants as passed
 use Rattle.elaborate.specs.Binders.{binderOf, Bound, bound, boundOne, boundFrom, hostsFrom}
 use Rattle.elaborate.specs.declared.Passed.{Passed}
 use Rattle.rules.specs.declared.Typing.{Typing}
-use Rattle.rules.specs.declared.Typing.the-variants.{Makes, Points, Wrong}
+use Rattle.rules.specs.declared.Typing.the-variants.{Makes, Shares, Points, Wrong}
 use Rattle.elaborate.specs.Pass.{Work, work, nextOf, settled, Settled, Out, out, turn, resultBy, typedFrom, Ended, bindersBy, afterBinders, numberedBy, after}
 
 -- Kinds
@@ -36,7 +36,7 @@ pub no-binder : (byte x a b c d e : ℕ) → (byte ≡ 0x35 → ⊥) → (byte �
 unfolding binderOf
 no-binder byte x a b c d e h g = decode-cases (λ k. Nothing ≡ binderOf k) byte x a b c d e
     (λ z. refl) (λ z. refl) (λ z. refl) (λ z. refl) (λ z. absurd (h z)) (λ z. refl) (λ z. refl) (λ z. refl) (λ z. refl) (λ z. refl)
-    (λ z. refl) (λ z. refl) (λ z. refl) (λ z. absurd (g z)) (λ z. refl) (λ z. refl) refl
+    (λ z. refl) (λ z. refl) (λ z. refl) (λ z. absurd (g z)) (λ z. refl) (λ z. refl) (λ z. refl) refl
 
 pub no-set : (e : Entry) → OneOf (0 ∷ 1 ∷ 2 ∷ 4 ∷ 5 ∷ 6 ∷ []) (tagOf the-type e) → 0 ≡ setWord (made (entryOf e))
 unfolding setWord made entryOf
@@ -116,10 +116,11 @@ turn-count (points x s) e w go m ts ss os es n p q =
     counted (Stop k) = 0
 turn-count (wrong k) e w go m ts ss os es n p q = absurd (let z : _≡_ {A = ℕ} 0 1 = cc (p .next) in omega arith)
 
--- the count grows by one at most
-pub next-le : (t : Typing) (n m : ℕ) (k : Next) → k ≡ nextOf (resultIn t) n → k ≡ Count m → m ≤ n + 1
+-- the count grows by two at most
+pub next-le : (t : Typing) (n m : ℕ) (k : Next) → k ≡ nextOf (resultIn t) n → k ≡ Count m → m ≤ n + 2
 unfolding nextOf resultIn after
 next-le (Makes x s) n m k p q = let z : m ≡ n + 1 = cc in omega arith
+next-le (Shares x s) n m k p q = let z : m ≡ n + 1 + 1 = cc in omega arith
 next-le (Points x s) n m k p q = let z : m ≡ n = cc in omega arith
 next-le (Wrong x) n m k p q = absurd (let z : _≡_ {A = ℕ} 0 1 = cc in omega arith)
 

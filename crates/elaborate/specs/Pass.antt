@@ -1,4 +1,4 @@
--- The pass over the expressions by the tables: each writes its type entry and its effect, and the entry that it makes.
+-- The pass over the expressions by the tables: each writes its type entry and its effect, and the entries that it makes.
 use mathlib.Core.Path.{_≡_}
 use Prim.Native.Nat.{ℕ, zero, suc, _+_, _%_}
 use mathlib.Core.List.{List, [], _∷_, _++_}
@@ -79,7 +79,7 @@ module _ (anc names vars heads slots : List ℕ) where
   -- the result of expression e, by the tables
   unfoldable pub resultBy : ℕ → Work → Result
   resultBy e w =
-      resultAt (opsBy anc names) (λ v. getD vars v 0) (entryIn (w .types) (w .sets)) (λ a. getD (w .entries) a 0) (λ a. ofWord (getD (w .effects) a 0)) (codeIn heads slots e)
+      resultAt (opsBy anc names) (λ v. getD vars v 0) (entryIn (w .types) (w .sets)) (λ a. getD (w .entries) a 0) (λ a. ofWord (getD (w .effects) a 0)) (w .count % 65536) (codeIn heads slots e)
 
   -- n expressions from e on
   unfoldable pub typedFrom : ℕ → ℕ → Work → Out

@@ -163,14 +163,15 @@ module _ {J : Job} (j : JobOk J) (f : JobFits J) (scoped : treeRefusal (sourceOf
 
   module _ (vs : List ℕ) (var : (v : ℕ) → getD vs v 0 ≡ varEntry J v) where
     abbrev result : ℕ → Sofar → Result
-    result e σ = resultAt (jobOps kn J) (varEntry J) (getElem? (σ .entries)) (λ a. getD (σ .of) a 0) (λ a. getD (σ .effects) a pure) (nth (J .cmds) e)
+    result e σ = resultAt (jobOps kn J) (varEntry J) (getElem? (σ .entries)) (λ a. getD (σ .of) a 0) (λ a. getD (σ .effects) a pure) (length (σ .entries)) (nth (J .cmds) e)
 
     same-result : (e : ℕ) (σ : Sofar) → e ≤ length (J .cmds) → Inv J e σ
         → resultBy (ancestorsBy (J .names)) (filled kn 0 (nameWords J)) vs (filled kh 0 (headWords J)) (filled kp 0 (slotWords J)) e (workOf kt ks ko ke σ) ≡ result e σ
     unfolding resultBy jobOps
     same-result e σ h v =
         let g : Fits σ = inv-fits j h v in
-        λ i. resultAt (jobOps kn J) (λ x. var x i) (λ x. words-back σ g kt ks x i) (λ a. filled-at ko (σ .of) a i) (λ a. effect-back ke (σ .effects) a i) (code e i)
+        let n : length (σ .entries) % 65536 ≡ length (σ .entries) = omega (arith, g .few) in
+        λ i. resultAt (jobOps kn J) (λ x. var x i) (λ x. words-back σ g kt ks x i) (λ a. filled-at ko (σ .of) a i) (λ a. effect-back ke (σ .effects) a i) (n i) (code e i)
 
     effects-more : (e : ℕ) (σ : Sofar) → e < length (J .cmds) → Inv J e σ → (s : Effect) → set (filled ke 0 (effectWords (σ .effects))) e (s .set) ≡ filled ke 0 (effectWords (σ .effects ++ (s ∷ [])))
     effects-more e σ h v s =

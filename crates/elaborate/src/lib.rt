@@ -3,6 +3,7 @@ use infer::Typing;
 use table::Expr;
 use table::MOST_NAMES;
 use table::MOST_VARIABLES;
+use table::Name;
 use table::at16;
 use table::at64;
 use table::byte_of;
@@ -15,6 +16,7 @@ use types::Entry;
 use types::MEMORY;
 ghost use mathlib.Core.Path.{_≡_};
 ghost use Prim.Native.Nat.{_%_, _≤_};
+ghost use lib.ListN.{set};
 ghost use Rattle.syntax.specs.Words.{typeWord, setWord, codeIn};
 ghost use Rattle.equality.specs.Entry.{entryOf};
 ghost use Rattle.equality.specs.Known.{Known};
@@ -150,6 +152,17 @@ fn hosts(values: &[u64], n: u16, vars: &mut [u16; MOST_VARIABLES])
     }
 }
 
+// Writes entry n of the type table. What is known of comparisons stays right. (Of a single entry `settle` has these lines: they are quicker there.)
+fn store(x: Entry, n: usize, types: &mut [u64], sets: &mut [u64], known: &mut [u64])
+    ensures { λ _. ⌜ (now (types .exit) ≡ set (now (types .entry)) n (typeWord (made (entryOf x))))
+        × (now (sets .exit) ≡ set (now (sets .entry)) n (setWord (made (entryOf x))))
+        × Kept (now (types .entry)) (now (sets .entry)) (now (known .entry)) (now (types .exit)) (now (sets .exit)) (now (known .exit)) ⌝ }
+{
+    types::make_room(types, n, known);
+    put64(types, n, entry_word(x));
+    put64(sets, n, set_word(x));
+}
+
 // Writes the result of expression e, when n entries stand in the type table. What is known of comparisons stays right.
 fn settle(
     t: Typing,
@@ -176,6 +189,14 @@ fn settle(
             put64(effects, i, s);
             let more = n + 1;
             return Next::Count(more);
+        }
+        Typing::Shares(t, s) => {
+            store(Entry::Number(Name(0)), n, types, sets, known);
+            let last = n + 1;
+            store(Entry::Pair(Name(0), t, t), last, types, sets, known);
+            put16(entries, i, short(last));
+            put64(effects, i, s);
+            return Next::Count(last + 1);
         }
         Typing::Points(j, s) => {
             put16(entries, i, j);
@@ -218,6 +239,7 @@ fn type_all<'a>(
             vars,
             names,
             anc,
+            short(count),
             known,
         );
         match settle(t, Expr(e), count, types, sets, entries, effects, known) {
@@ -230,7 +252,7 @@ fn type_all<'a>(
 }
 
 // From the tables of a job with so many declared types, host values and expressions: the entries of each 0x3E, then for each
-// expression its entry and its effect, and the entry that it makes. The first refusal ends it.
+// expression its entry and its effect, and the entries that it makes. The first refusal ends it.
 pub fn number_all<'a>(
     names: &'a [u16],
     anc: &'a [u64; MOST_NAMES],

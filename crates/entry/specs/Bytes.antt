@@ -54,7 +54,8 @@ offsetsOf op =
     (cond (eqb op 0x3E) 0x00753
     (cond (eqb op 0x3F) 0x00031
     (cond (eqb op 0x40) 0x07531
-    0)))))))))))))
+    (cond (eqb op 0x41) 0x00031
+    0))))))))))))))
 
 -- what stands there: 1 an expression, 2 a type, 0 nothing
 unfoldable pub kindsOf : ℕ → ℕ
@@ -73,7 +74,8 @@ kindsOf op =
     (cond (eqb op 0x3E) 0x00211
     (cond (eqb op 0x3F) 0x00011
     (cond (eqb op 0x40) 0x02111
-    0)))))))))))))
+    (cond (eqb op 0x41) 0x00011
+    0))))))))))))))
 
 -- digit i of a word, from the right
 unfoldable pub digitOf : ℕ → ℕ → ℕ

@@ -6,6 +6,7 @@ use rules::apply;
 use rules::assign;
 use rules::associate;
 use rules::cell;
+use rules::divide;
 use rules::function;
 use rules::grant;
 use rules::limit;
@@ -45,7 +46,7 @@ fn lead(w: u64) -> u32
     (w / 256 % 4294967296) as u32
 }
 
-// The commands with two operands or more, of which x is the first; the five places start at `at`. Any other stands for a number.
+// The commands with two operands or more, of which x is the first; the five places start at `at`, and the next entry is `next`. Any other stands for a number.
 fn two<'a>(
     w: u64,
     at: usize,
@@ -57,12 +58,13 @@ fn two<'a>(
     effects: &'a [u64],
     names: &'a [u16],
     anc: &'a [u64; MOST_NAMES],
+    next: u16,
     known: &mut [u64],
 ) -> Typing
     requires { ⌜ (at ≤ 327675) × (x ≡ by.operandAt (now slots) (now entries) (now effects) at) × Known (now anc) (now types) (now sets) (now known) ⌝ }
     ensures { λ r. ⌜ ((var : ℕ → ℕ) → resultIn r
         ≡ resultAt (opsBy (now (anc .entry)) (now (names .entry))) var (entryIn (now (types .entry)) (now (sets .entry)))
-        (λ a. getD (now (entries .entry)) a 0) (λ a. ofWord (getD (now (effects .entry)) a 0)) (by.twoIn (now (slots .entry)) w at))
+        (λ a. getD (now (entries .entry)) a 0) (λ a. ofWord (getD (now (effects .entry)) a 0)) next (by.twoIn (now (slots .entry)) w at))
         × Known (now (anc .entry)) (now (types .entry)) (now (sets .entry)) (now (known .exit)) ⌝ }
 {
     let y = operand_at(slots, entries, effects, at + 1);
@@ -85,12 +87,13 @@ fn two<'a>(
             let z = operand_at(slots, entries, effects, at + 2);
             return access(anc, types, sets, x, y, z, at16(slots, at + 3), known);
         }
+        0x41 => return divide(anc, types, sets, x, y, next),
         _ => return number(),
     }
 }
 
 // Expression e: its command is in heads and slots, the entries and effects of the expressions before it in entries and effects, and
-// the entries of the variables in vars. What is known of comparisons is right, and stays so.
+// the entries of the variables in vars; the next entry that is made is entry `next`. What is known of comparisons is right, and stays so.
 pub fn result<'a>(
     e: Expr,
     heads: &'a [u64],
@@ -102,32 +105,44 @@ pub fn result<'a>(
     vars: &'a [u16; MOST_VARIABLES],
     names: &'a [u16],
     anc: &'a [u64; MOST_NAMES],
+    next: u16,
     known: &mut [u64],
 ) -> Typing
     requires { ⌜ Known (now anc) (now types) (now sets) (now known) ⌝ }
     ensures { λ r. ⌜ (resultIn r
         ≡ resultAt (opsBy (now (anc .entry)) (now (names .entry))) (λ v. getD (now (vars .entry)) v 0)
         (entryIn (now (types .entry)) (now (sets .entry))) (λ a. getD (now (entries .entry)) a 0)
-        (λ a. ofWord (getD (now (effects .entry)) a 0)) (codeIn (now (heads .entry)) (now (slots .entry)) (e .0)))
+        (λ a. ofWord (getD (now (effects .entry)) a 0)) next (codeIn (now (heads .entry)) (now (slots .entry)) (e .0)))
         × Known (now (anc .entry)) (now (types .entry)) (now (sets .entry)) (now (known .exit)) ⌝ }
 {
     let i = e.0 as usize;
     let w = at64(heads, i);
     let at = i * 5;
-    let x = operand_at(slots, entries, effects, at);
     match w % 256 {
         0x30 => return number(),
         0x31 => return top(),
         0x32 => return variable(vars, key_of(w)),
-        0x34 => return part(anc, types, sets, x, lead(w)),
-        0x35 => return function(at16(slots, at + 1), x),
-        0x37 => return cell(anc, types, sets, at16(slots, at + 1), x, known),
-        0x39 => return read(anc, types, sets, x),
+        0x34 => {
+            let x = operand_at(slots, entries, effects, at);
+            return part(anc, types, sets, x, lead(w));
+        }
+        0x35 => {
+            let x = operand_at(slots, entries, effects, at);
+            return function(at16(slots, at + 1), x);
+        }
+        0x37 => {
+            let x = operand_at(slots, entries, effects, at);
+            return cell(anc, types, sets, at16(slots, at + 1), x, known);
+        }
+        0x39 => {
+            let x = operand_at(slots, entries, effects, at);
+            return read(anc, types, sets, x);
+        }
         0x3C => return limit(anc, types, sets, slots, entries, effects, at, lead(w)),
         _ => return two(
             w,
             at,
-            x,
+            operand_at(slots, entries, effects, at),
             slots,
             types,
             sets,
@@ -135,6 +150,7 @@ pub fn result<'a>(
             effects,
             names,
             anc,
+            next,
             known,
         ),
     }

@@ -6,7 +6,7 @@ use lib.ListN.{getD, take}
 use lib.Dec.{eqb, ltb}
 use Rattle.order.specs.Effects.{ofWord, pure}
 use Rattle.syntax.specs.Types.{e-num, e-pair, e-cell, e-fn, e-lim}
-use Rattle.syntax.specs.Commands.{Cmd, c-num, c-pair, c-app, c-asg, c-sum, c-test, c-grant, c-newkey, c-assoc, c-access}
+use Rattle.syntax.specs.Commands.{Cmd, c-num, c-pair, c-app, c-asg, c-sum, c-test, c-grant, c-newkey, c-assoc, c-access, c-divide}
 use Rattle.syntax.specs.Words.{entryIn}
 use Rattle.syntax.specs.Reading.{most-depth}
 use Rattle.typing.specs.Layout.{rekeyed}
@@ -113,6 +113,12 @@ accessBy anc types sets x y z t =
     (λ q r. need 12 (fitsBy anc types sets (y .ty) t) (need 12 (fitsBy anc types sets (z .ty) t)
     (points t (ofWord (reduceBy anc (touchBy q (joinBy (x .effect) (joinBy (dropBy anc r (y .effect)) (z .effect)))))))))
 
+-- where n entries stand before
+abbrev pub divideBy : List ℕ → List ℕ → List ℕ → Operand → Operand → ℕ → Result
+divideBy anc types sets x y n =
+    needNum (entryIn types sets (x .ty))
+    (λ p. needNum (entryIn types sets (y .ty)) (λ q. makes (e-num 0 ∷ []) (e-pair 0 n n) (ofWord (reduceBy anc (touchBy p (touchBy q (joinBy (x .effect) (y .effect))))))))
+
 -- the commands with two operands or more, by a head and the five places from `at` on; any other stands for a number
 abbrev pub twoOf : ℕ → ℕ → ℕ → ℕ → ℕ → ℕ → Cmd ℕ
 twoOf byte x a b c d =
@@ -125,7 +131,8 @@ twoOf byte x a b c d =
     (cond (eqb byte 0x3E) (c-newkey (x % 256) (x / 256 % 256) a b c)
     (cond (eqb byte 0x3F) (c-assoc a b)
     (cond (eqb byte 0x40) (c-access a b c d)
-    (c-num x)))))))))
+    (cond (eqb byte 0x41) (c-divide a b)
+    (c-num x))))))))))
 
 abbrev pub twoIn : List ℕ → ℕ → ℕ → Cmd ℕ
 twoIn slots w at = twoOf (w % 256) (w / 256 % 4294967296) (getD slots at 0) (getD slots (at + 1) 0) (getD slots (at + 2) 0) (getD slots (at + 3) 0)

@@ -22,9 +22,10 @@ ghost use Rattle.equality.specs.Known.{Known};
 ghost use Rattle.rules.specs.Answer.{made, resultIn};
 ghost use Rattle.rules.specs.Commands as by;
 
-// The type and effect of an expression: a new entry or one already there, or the number of a refusal.
+// The type and effect of an expression: a new entry; two new ones, for a number, whose entry is given, and for a pair with both parts there; or one already there. Or the number of a refusal.
 pub enum Typing {
     Makes(Entry, u64),
+    Shares(u16, u64),
     Points(u16, u64),
     Wrong(u8),
 }
@@ -439,4 +440,25 @@ pub fn access<'a>(
         join(names::drop_below(anc, r, y.effect), z.effect),
     );
     Typing::Points(t, touched(anc, q, s))
+}
+
+// 0x41: entry `next` for the number, and then one for the pair, with both its parts there.
+pub fn divide<'a>(
+    anc: &'a [u64; MOST_NAMES],
+    types: &'a [u64],
+    sets: &'a [u64],
+    x: Operand,
+    y: Operand,
+    next: u16,
+) -> Typing
+    ensures { λ r. ⌜ resultIn r ≡ by.divideBy (now (anc .entry)) (now (types .entry)) (now (sets .entry)) x y next ⌝ }
+{
+    let Entry::Number(p) = entry_at(types, sets, x.ty) else {
+        return Typing::Wrong(11);
+    };
+    let Entry::Number(q) = entry_at(types, sets, y.ty) else {
+        return Typing::Wrong(11);
+    };
+    let s = touch(q, join(x.effect, y.effect));
+    Typing::Shares(next, touched(anc, p, s))
 }

@@ -122,12 +122,19 @@ returns-9 : tie.Need-returns-9
 unfolding resultAt fits
 returns-9 c = (λ var. simp ((c .before .before .before .before .before .before .match .keys9), (c .before .before .access .ensures .0), (c .before .before .before .before .before .before .before .operand-at .ensures), (c .before .before .before .before .before .operand-at3 .ensures), (c .before .before .before .before .at163 .ensures), (c .before .before .before .before .before .before .before .before .before .before .before .before .before .before .before .pre .1)), c .before .before .access .ensures .1)
 
+divide-requires : tie.Need-divide-requires
+divide-requires c κs = search needs
+
+returns-10 : tie.Need-returns-10
+unfolding resultAt fits
+returns-10 c = (λ var. simp ((c .before .match .keys10), (c .divide .ensures), (c .before .before .operand-at .ensures), (c .before .before .before .before .before .before .before .before .before .before .pre .1)), c .before .before .before .before .before .before .before .before .before .before .pre .2)
+
 number-requires : tie.Need-number-requires
 number-requires c κs = search needs
 
-returns-10 : tie.Need-returns-10
+returns-11 : tie.Need-returns-11
 unfolding resultAt
-returns-10 c = (λ var. simp ((c .number .ensures), ne-eqb _ _ (c .before .match .rest .1), ne-eqb _ _ (c .before .match .rest .0 .1), ne-eqb _ _ (c .before .match .rest .0 .0 .1), ne-eqb _ _ (c .before .match .rest .0 .0 .0 .1), ne-eqb _ _ (c .before .match .rest .0 .0 .0 .0 .1), ne-eqb _ _ (c .before .match .rest .0 .0 .0 .0 .0 .1), ne-eqb _ _ (c .before .match .rest .0 .0 .0 .0 .0 .0 .1), ne-eqb _ _ (c .before .match .rest .0 .0 .0 .0 .0 .0 .0 .1), ne-eqb _ _ (c .before .match .rest .0 .0 .0 .0 .0 .0 .0 .0 .1)), c .before .before .before .before .before .before .before .before .before .before .pre .2)
+returns-11 c = (λ var. simp ((c .number .ensures), ne-eqb _ _ (c .before .match .rest .1), ne-eqb _ _ (c .before .match .rest .0 .1), ne-eqb _ _ (c .before .match .rest .0 .0 .1), ne-eqb _ _ (c .before .match .rest .0 .0 .0 .1), ne-eqb _ _ (c .before .match .rest .0 .0 .0 .0 .1), ne-eqb _ _ (c .before .match .rest .0 .0 .0 .0 .0 .1), ne-eqb _ _ (c .before .match .rest .0 .0 .0 .0 .0 .0 .1), ne-eqb _ _ (c .before .match .rest .0 .0 .0 .0 .0 .0 .0 .1), ne-eqb _ _ (c .before .match .rest .0 .0 .0 .0 .0 .0 .0 .0 .1), ne-eqb _ _ (c .before .match .rest .0 .0 .0 .0 .0 .0 .0 .0 .0 .1)), c .before .before .before .before .before .before .before .before .before .before .pre .2)
 
 pub two-spec : {M : Type 1} → statement M
 two-spec =
@@ -169,5 +176,7 @@ two-spec =
     access-requires
     same-length-5
     returns-9
+    divide-requires
+    returns-10
     number-requires
-    returns-10)
+    returns-11)

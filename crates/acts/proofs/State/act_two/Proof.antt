@@ -2,7 +2,8 @@ use Rattle.syntax.specs.Words.{codeIn, decode}
 use Rattle.acts.specs.View.{view}
 use Rattle.store.specs.Meaning.{valueIn}
 use Rattle.semantics.specs.Step.{act, two}
-use Rattle.acts.proofs.Codes.{code-two}
+use mathlib.Core.Logic.{inl, inr}
+use Rattle.acts.proofs.Codes.{code-numbers, code-two}
 use Rattle.acts.proofs.Acts.{is-stuck}
 use Rattle.acts.specs.Inner.{putCells, putKeys, putPairs, putFunctions, putBindings}
 use denote.Ref.{now}
@@ -25,8 +26,8 @@ act-apply-requires c κs = search needs
 act-assign-requires : tie.Need-act-assign-requires
 act-assign-requires c κs = search needs
 
-act-sum-requires : tie.Need-act-sum-requires
-act-sum-requires c κs = search needs
+act-numbers-requires : tie.Need-act-numbers-requires
+act-numbers-requires c κs = search needs
 
 act-associate-requires : tie.Need-act-associate-requires
 act-associate-requires c κs = search needs
@@ -47,15 +48,14 @@ unfolding codeIn decode act two
 returns-3 c = λ w. simp (← c .before .before .before .at64 .ensures, c .before .before .match .keys3) (c .act-assign .ensures (putBindings (putFunctions (putPairs w (now (c .before .before .before .before .before .before .before .args .pairs))) (now (c .before .before .before .before .before .before .before .args .functions))) (now (c .before .before .before .before .before .before .before .args .bindings))))
 
 returns-4 : tie.Need-returns-4
-unfolding codeIn decode act two
-returns-4 c = λ w. simp (← c .before .before .at64 .ensures, c .before .match .keys4) (c .act-sum .ensures (putBindings (putFunctions (putPairs (putCells w (now (c .before .before .before .before .before .before .args .cells))) (now (c .before .before .before .before .before .before .args .pairs))) (now (c .before .before .before .before .before .before .args .functions))) (now (c .before .before .before .before .before .before .args .bindings))))
+returns-4 c = λ w. simp (code-numbers (now (c .before .before .before .before .before .before .before .args .heads)) (now (c .before .before .before .before .before .before .before .args .slots)) (c .before .before .before .before .before .before .before .args .at .0) _ (c .before .before .before .at64 .ensures) (valueIn (c .before .before .before .before .before .before .before .args .u)) (valueIn (c .before .before .before .before .before .before .before .args .v)) (view (c .before .before .before .before .before .before .before .args .back) (putBindings (putFunctions (putPairs (putKeys (putCells w (now (c .before .before .before .before .before .before .before .args .cells))) (now (c .before .before .before .before .before .before .before .args .keys))) (now (c .before .before .before .before .before .before .before .args .pairs))) (now (c .before .before .before .before .before .before .before .args .functions))) (now (c .before .before .before .before .before .before .before .args .bindings)))) (c .before .before .match .keys4)) (c .act-numbers .ensures (putBindings (putFunctions (putCells w (now (c .before .before .before .before .before .before .before .args .cells))) (now (c .before .before .before .before .before .before .before .args .functions))) (now (c .before .before .before .before .before .before .before .args .bindings))))
 
 returns-5 : tie.Need-returns-5
 unfolding codeIn decode act two
 returns-5 c = λ w. simp (← c .before .before .at64 .ensures, c .before .match .keys5) (c .act-associate .ensures (putBindings (putFunctions (putPairs (putCells w (now (c .before .before .before .before .before .before .args .cells))) (now (c .before .before .before .before .before .before .args .pairs))) (now (c .before .before .before .before .before .before .args .functions))) (now (c .before .before .before .before .before .before .args .bindings))))
 
 returns-6 : tie.Need-returns-6
-returns-6 c = λ w. is-stuck _ _ _ (c .stop .ensures) (code-two (now (c .before .before .before .before .before .before .args .heads)) (now (c .before .before .before .before .before .before .args .slots)) (c .before .before .before .before .before .before .args .at .0) _ (c .before .before .at64 .ensures) (valueIn (c .before .before .before .before .before .before .args .u)) (valueIn (c .before .before .before .before .before .before .args .v)) (view (c .before .before .before .before .before .before .args .back) (putBindings (putFunctions (putPairs (putKeys (putCells w (now (c .before .before .before .before .before .before .args .cells))) (now (c .before .before .before .before .before .before .args .keys))) (now (c .before .before .before .before .before .before .args .pairs))) (now (c .before .before .before .before .before .before .args .functions))) (now (c .before .before .before .before .before .before .args .bindings)))) (c .before .before .before .before .before .before .pre) (c .before .match .rest .0 .0 .0 .0 .1) (c .before .match .rest .0 .0 .0 .1) (c .before .match .rest .0 .0 .1) (c .before .match .rest .0 .1) (c .before .match .rest .1))
+returns-6 c = λ w. is-stuck _ _ _ (c .stop .ensures) (code-two (now (c .before .before .before .before .before .before .args .heads)) (now (c .before .before .before .before .before .before .args .slots)) (c .before .before .before .before .before .before .args .at .0) _ (c .before .before .at64 .ensures) (valueIn (c .before .before .before .before .before .before .args .u)) (valueIn (c .before .before .before .before .before .before .args .v)) (view (c .before .before .before .before .before .before .args .back) (putBindings (putFunctions (putPairs (putKeys (putCells w (now (c .before .before .before .before .before .before .args .cells))) (now (c .before .before .before .before .before .before .args .keys))) (now (c .before .before .before .before .before .before .args .pairs))) (now (c .before .before .before .before .before .before .args .functions))) (now (c .before .before .before .before .before .before .args .bindings)))) (c .before .before .before .before .before .before .pre) (c .before .match .rest .0 .0 .0 .0 .1) (c .before .match .rest .0 .0 .0 .1) (c .before .match .rest .0 .0 .1) (λ z. c .before .match .rest .0 .1 (inl z)) (c .before .match .rest .1) (λ z. c .before .match .rest .0 .1 (inr z)))
 
 pub act-two-spec : {M : Type 1} → statement M
 act-two-spec =
@@ -66,7 +66,7 @@ act-two-spec =
     act-pair-requires
     act-apply-requires
     act-assign-requires
-    act-sum-requires
+    act-numbers-requires
     act-associate-requires
     stop-requires
     returns
