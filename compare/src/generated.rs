@@ -9,7 +9,7 @@ use compare::proved::{self, RUN_TABLES, Tables};
 use compare::words::{Words, kind, words};
 use jobdesk::{Answer, Call, LENGTHS};
 use second::generate::{Rng, job};
-use second::observe::{acts, refused_at, wanted_of_acts};
+use second::observe::{acts, made, refused_at, wanted_of_acts};
 use second::{Job, Machine, Refusal, check, read, to_hex, tree};
 
 use crate::sessions::{END, compare_session};
@@ -160,6 +160,7 @@ fn compare_check(job: &[u8], rng: &mut Rng, met: &mut Met) -> Result<bool, Strin
             let words = words(&read, &accepted.types, &accepted.exprs);
             met.meet("accepted".to_string());
             met.meet(format!("accepted as {}", accepted.kind.word()));
+            made(&read, &accepted).into_iter().for_each(|m| met.meet(format!("accepted, {m}")));
             same_tables("after acceptance", tables.differs(&before, &words, 8))?;
             compare_checked(&tables, &read, job, rng, met)?;
             Ok(true)
@@ -167,8 +168,9 @@ fn compare_check(job: &[u8], rng: &mut Rng, met: &mut Met) -> Result<bool, Strin
         Err(refusal @ Refusal { number, place }) => {
             same("verdict", verdict, (number as u64, [place as u64, 0]))?;
             met.meet(format!("refused {number:2}"));
-            let looked = |words: &String| words.ends_with("Look") || words.ends_with("at 40");
-            refused_at(job, refusal).into_iter().filter(looked).for_each(|words| met.meet(words));
+            let at = ["Look", "Divide", "at 40", "at 41"];
+            let told = |words: &String| at.iter().any(|at| words.contains(at));
+            refused_at(job, refusal).into_iter().filter(told).for_each(|words| met.meet(words));
             same_tables("after a refusal", tables.differs(&before, &Words::default(), 8))?;
             Ok(false)
         }
@@ -276,7 +278,7 @@ fn compare_refused_run(
     same_tables("after no start", tables.differs(&before, &Words::default(), RUN_TABLES))
 }
 
-/// Counts what the looks, sums and differences of a job come to within so many steps.
+/// Counts what the looks, sums, differences and divisions of a job come to within so many steps.
 fn meet_acts(job: &Job, accepted: bool, steps: u64, met: &mut Met) {
     for act in acts(job, steps) {
         met.meet(act.to_string());

@@ -130,7 +130,7 @@ pub fn can_be_wide(command: u8, field: usize) -> bool {
     match command {
         0x11 | 0x13 => field == 2,
         0x14 | 0x15 | 0x20 | 0x3E => field == 1,
-        0x30..=0x40 => field == 0,
+        0x30..=0x41 => field == 0,
         _ => false,
     }
 }

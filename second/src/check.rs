@@ -86,7 +86,7 @@ impl<'a> Checker<'a> {
                 _ => {}
             }
         }
-        let entries = table.len() + job.exprs.iter().filter(|expr| makes_type(expr)).count();
+        let entries = table.len() + job.exprs.iter().map(types_made).sum::<usize>();
         Checker {
             job,
             table,
@@ -177,6 +177,7 @@ impl Checker<'_> {
             Expr::NewKey(_, name, key, body, ty) => return self.new_key(name, key, body, ty),
             Expr::Associate(value, key) => return self.associate(value, key),
             Expr::Look(key, a, b, ty) => return self.look(key, a, b, ty),
+            Expr::Divide(dividend, divisor) => return self.divide(dividend, divisor),
         })
     }
 
@@ -290,6 +291,19 @@ impl Checker<'_> {
         let second = self.subtype(other, ty)?;
         Ok(self.point(ty, touched | names.without(first, name) | second))
     }
+
+    /// Makes the type of both parts, then that of the pair.
+    #[inline(always)]
+    fn divide(&mut self, dividend: u16, divisor: u16) -> Result<Typed, u32> {
+        let (divided, Shape::Number) = self.touch(dividend) else {
+            return Err(11);
+        };
+        let (dividing, Shape::Number) = self.touch(divisor) else {
+            return Err(11);
+        };
+        let part = self.make(Shape::Number, 0).entry;
+        Ok(self.make(Shape::Pair(part, part), divided | dividing))
+    }
 }
 
 /// Subtypes.
@@ -340,17 +354,18 @@ impl Checker<'_> {
     }
 }
 
-/// Whether an expression has an entry of its own in the type table.
-fn makes_type(expr: &Expr) -> bool {
-    matches!(
-        expr,
+/// How many entries of its own an expression has in the type table.
+fn types_made(expr: &Expr) -> usize {
+    match expr {
         Expr::Number(_)
-            | Expr::Top
-            | Expr::Pair(..)
-            | Expr::Function(..)
-            | Expr::NewCell(..)
-            | Expr::Sum(..)
-            | Expr::Difference(..)
-            | Expr::Associate(..)
-    )
+        | Expr::Top
+        | Expr::Pair(..)
+        | Expr::Function(..)
+        | Expr::NewCell(..)
+        | Expr::Sum(..)
+        | Expr::Difference(..)
+        | Expr::Associate(..) => 1,
+        Expr::Divide(..) => 2,
+        _ => 0,
+    }
 }

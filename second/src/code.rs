@@ -45,6 +45,8 @@ pub enum Code {
     Associate(u16, u16),
     /// Limit key, branch if its key is enabled, branch if not.
     Look(u16, u16, u16),
+    /// Quotient and rest of two numbers.
+    Divide(u16, u16),
 }
 
 /// The code of a job: each variable becomes the binding of a host value or the number of bindings
@@ -93,5 +95,6 @@ fn untyped(expr: &Expr) -> Code {
         Expr::NewKey(_, _, key, body, _) => Code::NewKey(key, body),
         Expr::Associate(a, b) => Code::Associate(a, b),
         Expr::Look(a, b, c, _) => Code::Look(a, b, c),
+        Expr::Divide(a, b) => Code::Divide(a, b),
     }
 }

@@ -179,5 +179,6 @@ fn head(expr: &Expr) -> (u8, u64) {
         Expr::NewKey(v, ..) => (0x3E, v.into()),
         Expr::Associate(..) => (0x3F, 0),
         Expr::Look(..) => (0x40, 0),
+        Expr::Divide(..) => (0x41, 0),
     }
 }

@@ -2,6 +2,7 @@
 
 mod build;
 mod damage;
+mod divisions;
 mod hosts;
 mod limits;
 mod looks;
@@ -58,6 +59,8 @@ pub enum Source {
     Damaged,
     /// Looks at keys, with something around them and in their branches.
     Looks,
+    /// Divisions, with keyed operands and such of wrong kinds.
+    Divisions,
     /// Many host names and host values, some of them used.
     Hosts,
     /// Near one of the limits.
@@ -75,12 +78,13 @@ pub fn desk_job(seed: u64) -> (Source, Vec<u8>) {
     let mut rng = Rng::new(seed);
     let rng = &mut rng;
     match rng.below(100) {
-        0..27 => (Source::Typed, bytes_of(&typed(rng))),
-        27..41 => (Source::Loop, bytes_of(&looped(rng))),
-        41..71 => {
+        0..24 => (Source::Typed, bytes_of(&typed(rng))),
+        24..38 => (Source::Loop, bytes_of(&looped(rng))),
+        38..68 => {
             let mut job = match rng.below(20) {
                 0..5 => looped(rng),
                 5 => looks::job(rng),
+                6 => divisions::job(rng),
                 _ => typed(rng),
             };
             for _ in 0..1 + rng.below(3) {
@@ -88,15 +92,20 @@ pub fn desk_job(seed: u64) -> (Source, Vec<u8>) {
             }
             (Source::Changed, bytes_of(&job))
         }
-        71..86 => {
-            let job = if rng.chance(8) { looks::job(rng) } else { typed(rng) };
+        68..83 => {
+            let job = match rng.below(12) {
+                0 => looks::job(rng),
+                1 => divisions::job(rng),
+                _ => typed(rng),
+            };
             let mut bytes = bytes_of(&job);
             for _ in 0..1 + rng.below(2) {
                 damage::bytes(rng, &mut bytes);
             }
             (Source::Damaged, bytes)
         }
-        86..88 => (Source::Looks, bytes_of(&looks::job(rng))),
+        83..85 => (Source::Looks, bytes_of(&looks::job(rng))),
+        85..88 => (Source::Divisions, bytes_of(&divisions::job(rng))),
         _ => (Source::Limits, limits::job(rng)),
     }
 }

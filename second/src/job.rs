@@ -154,6 +154,8 @@ pub enum Expr {
     NewKey(u8, u8, u16, u16, u16),
     /// 3F: a value gets the key of a limit key.
     Associate(u16, u16),
+    /// 41: a number divided by another; quotient and rest.
+    Divide(u16, u16),
 }
 
 /// What an expression binds, and where.
@@ -186,7 +188,8 @@ macro_rules! each_operand {
                 | Expr::Difference(a, b)
                 | Expr::Grant(a, b)
                 | Expr::NewKey(_, _, a, b, _)
-                | Expr::Associate(a, b) => {
+                | Expr::Associate(a, b)
+                | Expr::Divide(a, b) => {
                     take(a);
                     take(b)
                 }

@@ -177,6 +177,12 @@ impl Machine {
         (acts && frame.held == 1).then_some((frame.expr, frame.hand[0], second))
     }
 
+    /// Whether the newest frame has a value's key enabled.
+    pub fn opens(&self, value: Value) -> bool {
+        let top = self.rooms.frames.checked_sub(1);
+        top.is_some_and(|top| self.key(&self.frames[top], value).is_ok())
+    }
+
     /// What the cells hold that are in use.
     pub fn cells(&self) -> &[Value] {
         &self.cells[..self.rooms.cells]
@@ -247,6 +253,7 @@ impl Machine {
             | Code::Grant(first, _)
             | Code::NewKey(first, _)
             | Code::Associate(first, _)
+            | Code::Divide(first, _)
             | Code::Look(first, _, _) => return self.push(expr, first),
         };
         Ok(Control::Hand(value))
@@ -333,6 +340,7 @@ impl Machine {
             Code::NewKey(_, body) => return self.open(frame, body, value),
             Code::Associate(..) => self.associate(frame, first, value)?,
             Code::Look(_, enabled, other) => return self.look(frame, enabled, other, value),
+            Code::Divide(..) => self.divide(frame, first, value)?,
             Code::Number(_)
             | Code::Top
             | Code::Host(_)
@@ -475,6 +483,18 @@ impl Machine {
         Ok(Control::Enter(if open { enabled } else { other }))
     }
 
+    /// Makes a pair of quotient and rest. Both are unkeyed.
+    #[inline(always)]
+    fn divide(&mut self, frame: &Frame, dividend: Value, divisor: Value) -> Result<Value, Stop> {
+        kind(Kind::Number, dividend)?;
+        kind(Kind::Number, divisor)?;
+        self.key(frame, dividend)?;
+        self.key(frame, divisor)?;
+        let (quotient, rest) = divided(dividend.data(), divisor.data());
+        let [quotient, rest] = [quotient, rest].map(|part| Value::unkeyed(Kind::Number, part));
+        self.new_pair(quotient, rest)
+    }
+
     /// Whether a value is of a kind, and its key enabled.
     #[inline]
     fn test(&self, frame: &Frame, wanted: Kind, value: Value) -> Result<(), Stop> {
@@ -564,12 +584,22 @@ fn next_operand(code: Code, held: u8) -> Option<u16> {
         | Code::Sum(_, second)
         | Code::Difference(_, second)
         | Code::Associate(_, second)
+        | Code::Divide(_, second)
             if held == 0 =>
         {
             Some(second)
         }
         Code::Limit(count, keys, _) if held + 1 < count => Some(keys[held as usize + 1]),
         _ => None,
+    }
+}
+
+/// How often a divisor goes into a dividend, and what is left; a divisor of 0 goes in 0 times.
+#[inline]
+fn divided(dividend: u32, divisor: u32) -> (u32, u32) {
+    match divisor {
+        0 => (0, dividend),
+        _ => (dividend / divisor, dividend % divisor),
     }
 }
 

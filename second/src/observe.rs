@@ -5,12 +5,12 @@ use std::fmt;
 
 use crate::check::check_job;
 use crate::fields::Fields;
-use crate::job::{Expr, Job, Refusal};
+use crate::job::{Expr, Job, Kind, Refusal, Shape, Type};
 use crate::machine::{Machine, runs};
 use crate::read::read;
 use crate::sheet::sheet;
 use crate::tree::tree;
-use crate::value::{Answer, Outcome, Rooms, Value};
+use crate::value::{Answer, Outcome, PAIRS, Rooms, Value};
 use crate::verdict::Accepted;
 use crate::write::write;
 
@@ -72,7 +72,8 @@ pub fn observe(job: &[u8], steps: &[u64]) -> Seen {
     Parts::OWN.observe(job, steps)
 }
 
-/// The command that a refusal is at, in words; of 13 also that it is around a look.
+/// The command that a refusal is at, in words; of 13 also that it is around a look or a division, and
+/// of 11 at a division for which operand.
 pub fn refused_at(bytes: &[u8], refusal: Refusal) -> Vec<String> {
     let (number, place) = (refusal.number, refusal.place as usize);
     let mut words = Vec::new();
@@ -80,11 +81,18 @@ pub fn refused_at(bytes: &[u8], refusal: Refusal) -> Vec<String> {
         (8.., Ok(job)) => {
             let expr = job.exprs.get(place);
             words.extend(expr.map(|expr| format!("refused {number} at {}", expr.label())));
-            if let (13, Some(&Expr::Limit(_, _, body))) = (number, expr)
-                && matches!(job.exprs[body as usize], Expr::Look(..))
-            {
-                words.push("refused 13 around Look".to_string());
-            }
+            words.extend(match (number, expr) {
+                (11, Some(&Expr::Divide(dividend, _))) => {
+                    Some(format!("refused 11 at Divide for its {}", wrong(&job, place, dividend)))
+                }
+                (13, Some(&Expr::Limit(_, _, body))) => match job.exprs[body as usize] {
+                    around @ (Expr::Look(..) | Expr::Divide(..)) => {
+                        Some(format!("refused 13 around {}", around.label()))
+                    }
+                    _ => None,
+                },
+                _ => None,
+            });
         }
         (3..=6, _) => {
             words.extend(bytes.get(place).map(|byte| format!("refused {number} at {byte:02x}")))
@@ -94,14 +102,57 @@ pub fn refused_at(bytes: &[u8], refusal: Refusal) -> Vec<String> {
     words
 }
 
+/// The operand for which a division is refused: the dividend if it is no divisor either.
+fn wrong(job: &Job, place: usize, dividend: u16) -> &'static str {
+    let mut job = job.clone();
+    job.exprs[place] = Expr::Divide(dividend, dividend);
+    let refused = check_job(&job) == Err(Refusal::at(11, place));
+    if refused { "dividend" } else { "divisor" }
+}
+
+/// Whether an accepted job's division makes two entries, in words.
+pub fn made(job: &Job, accepted: &Accepted) -> Option<&'static str> {
+    let number = Type::unkeyed(Shape::Number);
+    let makes_two = |(place, expr): (usize, &Expr)| {
+        let entry = accepted.exprs[place].entry;
+        matches!(expr, Expr::Divide(..))
+            && accepted.types[entry as usize] == Type::unkeyed(Shape::Pair(entry - 1, entry - 1))
+            && accepted.types[entry as usize - 1] == number
+    };
+    job.exprs.iter().enumerate().any(makes_two).then_some(TWO_ENTRIES)
+}
+
+const TWO_ENTRIES: &str = "divide makes two entries";
+
 /// Sums and differences, by how near they come to the end at which they stop.
 const SUMS: [&str; 4] =
     ["sum above 4294967295", "sum of 4294967295", "sum of 4294967294", "sum below 4294967294"];
 const DIFFERENCES: [&str; 4] =
     ["difference below 0", "difference of 0", "difference of 1", "difference above 1"];
 
-/// What the looks, sums and differences of a job come to in a run, in words. The job is free of
-/// refusals 8 to 10.
+/// Divisions, by their numbers.
+const DIVISIONS: [&str; 6] = [
+    "divide of 0 by 0",
+    "divide by 0",
+    "divide of 4294967295",
+    "divide by a higher number",
+    "divide without a rest",
+    "divide with a rest",
+];
+/// Divisions that fail; an operand is closed if its key is not enabled.
+const FAILED: [&str; 8] = [
+    "divide is stuck by its dividend",
+    "divide is stuck by its divisor",
+    "divide is stuck with a closed operand",
+    "divide is stuck with no pair left",
+    "divide is denied by its dividend",
+    "divide is denied by its divisor",
+    "divide is denied with no pair left",
+    "divide has no room",
+];
+
+/// What the looks, sums, differences and divisions of a job come to in a run, in words. The job is
+/// free of refusals 8 to 10.
 pub fn acts(job: &Job, steps: u64) -> BTreeSet<&'static str> {
     let branches = branches(job);
     let mut seen = BTreeSet::new();
@@ -116,14 +167,31 @@ pub fn acts(job: &Job, steps: u64) -> BTreeSet<&'static str> {
         }
         seen.extend(reckoned);
     };
-    let at_look =
-        machine.waiting().is_some_and(|expr| matches!(job.exprs[expr as usize], Expr::Look(..)));
-    match answer {
-        Answer::Stuck if at_look => seen.insert("look is stuck"),
-        Answer::Denied if at_look => seen.insert("look is denied"),
-        _ => false,
-    };
+    match (machine.waiting().map(|expr| job.exprs[expr as usize]), answer) {
+        (Some(Expr::Look(..)), Answer::Stuck) => _ = seen.insert("look is stuck"),
+        (Some(Expr::Look(..)), Answer::Denied) => _ = seen.insert("look is denied"),
+        (Some(Expr::Divide(..)), _) => seen.extend(failed(&machine, answer)),
+        _ => {}
+    }
     seen
+}
+
+/// The words for a division that answers so.
+fn failed(machine: &Machine, answer: Answer) -> Vec<&'static str> {
+    let Some((_, dividend, divisor)) = machine.acting() else { return Vec::new() };
+    let closed = [dividend, divisor].map(|operand| !machine.opens(operand));
+    let full = machine.rooms().pairs == PAIRS;
+    let words = match answer {
+        Answer::Stuck => [
+            Some(FAILED[dividend.is(Kind::Number) as usize]),
+            closed.contains(&true).then_some(FAILED[2]),
+            full.then_some(FAILED[3]),
+        ],
+        Answer::Denied => [Some(FAILED[5 - closed[0] as usize]), full.then_some(FAILED[6]), None],
+        Answer::NoRoom => [Some(FAILED[7]), None, None],
+        Answer::Taken | Answer::Done => [None; 3],
+    };
+    words.into_iter().flatten().collect()
 }
 
 /// For each expression, the words for it if it is a branch of a look.
@@ -138,7 +206,7 @@ fn branches(job: &Job) -> Vec<Option<&'static str>> {
     branches
 }
 
-/// The words for the sum or difference that is next.
+/// The words for the sum, difference or division that is next.
 fn reckoned(job: &Job, machine: &Machine) -> Option<&'static str> {
     let (expr, a, b) = machine.acting()?;
     let (a, b) = (i64::from(a.data()), i64::from(b.data()));
@@ -146,13 +214,46 @@ fn reckoned(job: &Job, machine: &Machine) -> Option<&'static str> {
     match job.exprs[expr as usize] {
         Expr::Sum(..) => Some(SUMS[near(i64::from(u32::MAX) - (a + b))]),
         Expr::Difference(..) => Some(DIFFERENCES[near(a - b)]),
+        Expr::Divide(..) => Some(DIVISIONS[division(a, b)]),
         _ => None,
     }
 }
 
-/// What must be met of looks: refusals at them and what they come to in runs. And of sums and
-/// differences: each kind in an accepted job.
+/// The place of a division of two numbers in the list of their words.
+fn division(dividend: i64, divisor: i64) -> usize {
+    match (dividend, divisor) {
+        (0, 0) => 0,
+        (_, 0) => 1,
+        (0xFFFF_FFFF, _) => 2,
+        _ if dividend < divisor => 3,
+        _ if dividend % divisor == 0 => 4,
+        _ => 5,
+    }
+}
+
+/// What must be met of looks, sums, differences and divisions.
 pub fn wanted_of_acts() -> Vec<String> {
+    let mut wanted = wanted_of_looks();
+    wanted.extend(SUMS.into_iter().chain(DIFFERENCES).map(|kind| format!("accepted, {kind}")));
+    wanted.extend(wanted_of_divisions());
+    wanted
+}
+
+/// Refusals at divisions, what they come to in accepted jobs, and how they fail.
+fn wanted_of_divisions() -> Vec<String> {
+    let mut wanted: Vec<String> = (3..=6).map(|number| format!("refused {number} at 41")).collect();
+    wanted.extend([8, 14].map(|number| format!("refused {number} at Divide")));
+    let operands = ["dividend", "divisor"];
+    wanted.extend(operands.map(|operand| format!("refused 11 at Divide for its {operand}")));
+    wanted.push("refused 13 around Divide".to_string());
+    let accepted = DIVISIONS.into_iter().chain([FAILED[7], TWO_ENTRIES]);
+    wanted.extend(accepted.map(|kind| format!("accepted, {kind}")));
+    wanted.extend(FAILED.map(str::to_string));
+    wanted
+}
+
+/// Refusals at looks, and what they come to in runs.
+fn wanted_of_looks() -> Vec<String> {
     let mut wanted: Vec<String> = (3..=6).map(|number| format!("refused {number} at 40")).collect();
     wanted.extend([8, 10, 11, 12, 14].map(|number| format!("refused {number} at Look")));
     wanted.push("refused 13 around Look".to_string());
@@ -160,7 +261,6 @@ pub fn wanted_of_acts() -> Vec<String> {
     wanted.extend(branches.iter().cloned());
     wanted.extend(branches.map(|branch| format!("accepted, {branch}")));
     wanted.extend(["look is stuck", "look is denied"].map(str::to_string));
-    wanted.extend(SUMS.into_iter().chain(DIFFERENCES).map(|kind| format!("accepted, {kind}")));
     wanted
 }
 

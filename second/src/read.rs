@@ -13,7 +13,7 @@ pub enum Section {
     Hosts,
     /// 21.
     Rights,
-    /// 30 to 40.
+    /// 30 to 41.
     Expressions,
     /// FF.
     End,
@@ -48,7 +48,7 @@ pub fn command(byte: u8) -> Option<(Section, usize)> {
         0x32 => (Section::Expressions, 1),
         0x39 => (Section::Expressions, 2),
         0x34 => (Section::Expressions, 3),
-        0x30 | 0x33 | 0x36 | 0x37 | 0x38 | 0x3D | 0x3F => (Section::Expressions, 4),
+        0x30 | 0x33 | 0x36 | 0x37 | 0x38 | 0x3D | 0x3F | 0x41 => (Section::Expressions, 4),
         0x35 | 0x3A => (Section::Expressions, 5),
         0x3B | 0x3E | 0x40 => (Section::Expressions, 8),
         0x3C => (Section::Expressions, 11),
@@ -254,18 +254,22 @@ impl Reader {
                 Expr::Limit(count, self.keys(count, o)?, self.expr(o)?)
             }
             0x3D => Expr::Grant(self.expr(o)?, self.expr(o)?),
-            0x3E => Expr::NewKey(
-                self.bound(o.byte())?,
-                self.local(o.byte())?,
-                self.expr(o)?,
-                self.expr(o)?,
-                self.ty(o.reference())?,
-            ),
+            0x3E => self.new_key(o)?,
             0x3F => Expr::Associate(self.expr(o)?, self.expr(o)?),
-            _ => Expr::Look(self.expr(o)?, self.expr(o)?, self.expr(o)?, self.ty(o.reference())?),
+            0x40 => {
+                Expr::Look(self.expr(o)?, self.expr(o)?, self.expr(o)?, self.ty(o.reference())?)
+            }
+            _ => Expr::Divide(self.expr(o)?, self.expr(o)?),
         };
         self.0.exprs.push(expr);
         Some(())
+    }
+
+    #[inline(always)]
+    fn new_key(&self, o: &mut Operands) -> Option<Expr> {
+        let (variable, name) = (self.bound(o.byte())?, self.local(o.byte())?);
+        let (key, body) = (self.expr(o)?, self.expr(o)?);
+        Some(Expr::NewKey(variable, name, key, body, self.ty(o.reference())?))
     }
 
     /// Four places for the keys of a limit, of which the first so many are used.

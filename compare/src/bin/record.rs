@@ -60,10 +60,9 @@ fn shows(job: &[u8]) -> Vec<String> {
 fn most(word: &str, round: usize) -> usize {
     match word {
         "spent" => round.min(2),
-        _ if word.starts_with("no room") => 1,
+        _ if word.contains("no room") => 1,
         _ if word.starts_with("refused") && !word.contains("at") => 4 * round,
         _ if word.starts_with("accepted as") || word.starts_with("done with") => 4 * round,
-        _ if word.starts_with("accepted") => 2 * round,
         _ => round,
     }
 }
@@ -116,7 +115,7 @@ impl Chosen {
     /// Takes a job in if it shows something that came up seldom; whether it is to be tried again.
     fn consider(&mut self, (job, words): &Shown, round: usize) -> bool {
         // A long run comes in for its end alone.
-        let end = |word: &&String| *word == "spent" || word.starts_with("no room");
+        let end = |word: &&String| *word == "spent" || word.contains("no room");
         let long = words.iter().any(|word| end(&word));
         let mut counted = words.iter().filter(|word| !long || end(word));
         if !counted.any(|word| self.few(word, round)) || self.cases == CASES {
@@ -144,9 +143,11 @@ impl Chosen {
         let mut must: Vec<String> = (2..=14).map(|number| format!("refused {number}")).collect();
         must.extend(["done", "spent", "no room"].map(str::to_string));
         must.extend(["first", "second"].map(|b| format!("accepted, look takes its {b} branch")));
-        must.extend(
-            ["sum above 4294967295", "difference below 0"].map(|a| format!("accepted, {a}")),
-        );
+        let reckoned = ["sum above 4294967295", "difference below 0"];
+        let divided = ["by 0", "by a higher number", "with a rest", "without a rest"];
+        must.extend(reckoned.map(|act| format!("accepted, {act}")));
+        must.extend(divided.map(|act| format!("accepted, divide {act}")));
+        must.push("accepted, divide has no room".to_string());
         must.retain(|word| !self.shown.contains_key(word));
         must
     }

@@ -1,16 +1,21 @@
-//! Compares the desk, the machine, writing and the sheet with files of cases.
+//! Compares the desk, the check, the machine, writing and the sheet with files of cases.
 //!
 //! `cases desk FILE`: job in hexadecimal, tab, the desk's lines joined by ` | `.
 //! `cases machine FILE`: job, tab, steps asked for, tab, the run's words and the rooms in use.
 //! `cases queries FILE`: job, tab, query, tab, answer. A query is `desk`, `machine STEPS`,
-//! `sheet`, or `back` or `back ROOM`: the job read and written back, with room enough or for so many
-//! bytes, is the same or refused. Other queries are passed over.
+//! `sheet`; `dump`: the type table, and each expression's entry and effect; `calls CALL...`, a call
+//! being `s` for a step or `rSTEPS` for a run: the answers, the value at the end and the cells; or
+//! `back` or `back ROOM`: the job read and written back, with room enough or for so many bytes, is
+//! the same or refused. Other queries are passed over.
 #![forbid(unsafe_code)]
 
 use std::process::ExitCode;
 
+use second::fields::TypeEntry;
 use second::observe::Ran;
-use second::{Fields, Machine, Refusal, desk, from_hex, read, sheet, write};
+use second::{
+    Answer, Fields, Kind, Machine, Refusal, Value, check, desk, from_hex, read, sheet, write,
+};
 
 /// What a line of a file comes to.
 enum Line {
@@ -35,6 +40,63 @@ fn machine_answer(job: &[u8], steps: u64) -> String {
     }
 }
 
+/// The type table, and each expression's entry and effect.
+fn dump_answer(job: &[u8]) -> String {
+    let accepted = match check(job) {
+        Ok(accepted) => accepted,
+        Err(refusal) => return refused(refusal),
+    };
+    let types = accepted.types.iter().enumerate().map(|(number, ty)| {
+        let [key, first, second, set] = TypeEntry::of(ty).fields;
+        format!("type {number} {} {key} {first} {second} {set:016x}", ty.kind().word())
+    });
+    let exprs = accepted.exprs.iter().enumerate();
+    let exprs = exprs.map(|(number, e)| format!("expr {number} {} {:016x}", e.entry, e.effect));
+    types.chain(exprs).collect::<Vec<_>>().join(" | ")
+}
+
+/// The answers to calls, the value at the end and the cells; nothing if a call is none.
+fn calls_answer(job: &[u8], calls: &str) -> Option<String> {
+    let mut machine = match Machine::start(job) {
+        Ok(machine) => machine,
+        Err(refusal) => return Some(refused(refusal)),
+    };
+    let mut answers = Vec::new();
+    for call in calls.split(' ') {
+        answers.push(match call.strip_prefix('r') {
+            Some(steps) => {
+                let (outcome, taken) = machine.run(steps.parse().ok()?);
+                format!("{} {taken}", outcome.words())
+            }
+            None if call == "s" => step_words(machine.step()).to_string(),
+            None => return None,
+        });
+    }
+    let value = machine.result().map_or("-".to_string(), |value| match value.kind() {
+        Kind::Number => format!("number {}", value.data()),
+        kind => kind.word().to_string(),
+    });
+    let cells: Vec<String> = machine.cells().iter().enumerate().map(cell_words).collect();
+    Some(format!("{} / {value} / {}", answers.join("; "), cells.join(" ")))
+}
+
+fn step_words(answer: Answer) -> &'static str {
+    match answer {
+        Answer::Taken => "taken",
+        Answer::Done => "done",
+        Answer::NoRoom => "no room",
+        Answer::Stuck => "stuck",
+        Answer::Denied => "denied",
+    }
+}
+
+fn cell_words((number, held): (usize, &Value)) -> String {
+    match held.kind() {
+        Kind::Number => format!("{number}={}", held.data()),
+        kind => format!("{number}={}", kind.word()),
+    }
+}
+
 fn back_answer(job: &[u8], room: usize) -> String {
     match read(job).and_then(|job| write(&Fields::of(&job), room)) {
         Ok(written) if written == job => "same".to_string(),
@@ -49,13 +111,15 @@ fn refused(Refusal { number, place }: Refusal) -> String {
 
 /// The answer to a query; nothing if it is passed over.
 fn answer(job: &[u8], query: &str) -> Option<String> {
-    let (word, number) = query.split_once(' ').unwrap_or((query, ""));
+    let (word, rest) = query.split_once(' ').unwrap_or((query, ""));
     match word {
         "desk" => Some(joined(&desk(job))),
+        "dump" => Some(dump_answer(job)),
         "sheet" => Some(joined(&sheet(job))),
-        "machine" => Some(machine_answer(job, number.parse().ok()?)),
-        "back" if number.is_empty() => Some(back_answer(job, usize::MAX)),
-        "back" => Some(back_answer(job, number.parse().ok()?)),
+        "machine" => Some(machine_answer(job, rest.parse().ok()?)),
+        "calls" => calls_answer(job, rest),
+        "back" if rest.is_empty() => Some(back_answer(job, usize::MAX)),
+        "back" => Some(back_answer(job, rest.parse().ok()?)),
         _ => None,
     }
 }

@@ -10,7 +10,7 @@ use std::collections::{BTreeMap, BTreeSet};
 use std::process::ExitCode;
 
 use second::generate::{job, tables};
-use second::observe::{acts, observe, refused_at, wanted_of_acts};
+use second::observe::{acts, made, observe, refused_at, wanted_of_acts};
 use second::{Expr, Outcome, desk, read, shown, to_hex, tree, write, written};
 
 /// How often each thing was reached.
@@ -33,9 +33,8 @@ fn reach(seed: u64, reached: &mut Reached) {
     };
     reach(format!("verdict {verdict}"));
     reach(format!("source {source:?} {verdict}"));
-    if seen.verdict.is_ok()
-        && let Ok(job) = read(&job)
-    {
+    if let (Ok(accepted), Ok(job)) = (&seen.verdict, read(&job)) {
+        made(&job, accepted).into_iter().for_each(|made| reach(format!("accepted, {made}")));
         let commands: BTreeSet<String> = job.exprs.iter().map(Expr::label).collect();
         commands.into_iter().for_each(|c| reach(format!("accepted with {c}")));
         let kinds: BTreeSet<&str> = job.types.iter().map(|ty| ty.kind().word()).collect();
@@ -54,7 +53,7 @@ fn reach(seed: u64, reached: &mut Reached) {
     }
 }
 
-/// Counts what the looks, sums and differences of a job come to, if it starts.
+/// Counts what the looks, sums, differences and divisions of a job come to, if it starts.
 fn reach_acts(job: &[u8], accepted: bool, mut reach: impl FnMut(String)) {
     let formed = read(job).and_then(|job| tree(&job).map(|()| job));
     for act in formed.iter().flat_map(|job| acts(job, 100_000)) {

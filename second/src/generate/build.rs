@@ -274,12 +274,16 @@ impl<'r> Builder<'r> {
                 Shape::Cell(content) => (content, self.touched(a)),
                 _ => return None,
             },
-            Expr::Sum(a, b) | Expr::Difference(a, b) => match (self.shape(a), self.shape(b)) {
-                (Shape::Number, Shape::Number) => {
-                    (self.number(), self.touched(a) | self.touched(b))
+            Expr::Sum(a, b) | Expr::Difference(a, b) | Expr::Divide(a, b) => {
+                if [a, b].map(|node| self.shape(node)) != [Shape::Number; 2] {
+                    return None;
                 }
-                _ => return None,
-            },
+                let mut ty = self.number();
+                if matches!(expr, Expr::Divide(..)) {
+                    ty = self.ty(0, Shape::Pair(ty, ty));
+                }
+                (ty, self.touched(a) | self.touched(b))
+            }
             _ => return self.typed_by_keys(expr),
         })
     }
@@ -383,6 +387,13 @@ impl<'r> Builder<'r> {
     fn reckoned(&mut self, a: Node, b: Node) -> Option<Node> {
         let sum = self.rng.chance(50);
         self.add(if sum { Expr::Sum(a, b) } else { Expr::Difference(a, b) })
+    }
+
+    /// A part of a division.
+    fn shared(&mut self, a: Node, b: Node) -> Option<Node> {
+        let pair = self.add(Expr::Divide(a, b))?;
+        let part = 1 + self.rng.below(2) as u8;
+        self.add(Expr::Part(pair, part))
     }
 
     fn literal(&mut self, number: u32) -> Node {
@@ -536,7 +547,7 @@ impl<'r> Builder<'r> {
         if self.nodes.len() > 700 {
             return None;
         }
-        match self.rng.below(19) {
+        match self.rng.below(20) {
             0 => self.pair(fuel),
             1 => {
                 let pair = self.of_kind(Kind::Pair, fuel)?;
@@ -555,6 +566,7 @@ impl<'r> Builder<'r> {
                 let (a, b) = (self.of_kind(Kind::Number, fuel)?, self.of_kind(Kind::Number, fuel)?);
                 self.reckoned(a, b)
             }
+            19 => self.divided(fuel),
             14..17 => self.new_key(fuel),
             around => {
                 let keyed = matches!(around, 12 | 13 | 18);
@@ -573,6 +585,11 @@ impl<'r> Builder<'r> {
     fn pair(&mut self, fuel: usize) -> Option<Node> {
         let (a, b) = (self.any(fuel), self.any(fuel));
         self.add(Expr::Pair(a, b))
+    }
+
+    fn divided(&mut self, fuel: usize) -> Option<Node> {
+        let (a, b) = (self.of_kind(Kind::Number, fuel)?, self.of_kind(Kind::Number, fuel)?);
+        self.add(Expr::Divide(a, b))
     }
 
     fn applied(&mut self, fuel: usize) -> Option<Node> {
@@ -626,9 +643,10 @@ impl<'r> Builder<'r> {
         let node = match kind {
             Kind::Number if fuel > 0 && self.rng.chance(50) => {
                 let (a, b) = (self.of_kind(kind, less)?, self.of_kind(kind, less)?);
-                self.reckoned(a, b)?
+                if self.rng.chance(20) { self.shared(a, b)? } else { self.reckoned(a, b)? }
             }
             Kind::Number => self.some_number(),
+            Kind::Pair if self.rng.chance(25) => self.divided(less)?,
             Kind::Pair => self.pair(less)?,
             Kind::Cell => self.new_cell(less)?,
             Kind::Function => self.function(less)?,
@@ -858,7 +876,11 @@ impl<'r> Builder<'r> {
         match self.shape(keyed) {
             Shape::Number => {
                 let one = self.some_number();
-                self.add(Expr::Sum(keyed, one))
+                match self.rng.below(6) {
+                    0 => self.shared(keyed, one),
+                    1 => self.shared(one, keyed),
+                    _ => self.add(Expr::Sum(keyed, one)),
+                }
             }
             Shape::Pair(..) => self.add(Expr::Part(keyed, 1)),
             Shape::Cell(_) => self.add(Expr::Read(keyed)),
@@ -986,6 +1008,9 @@ impl<'r> Builder<'r> {
             }
             2 => {
                 let (a, b) = (self.some_number(), self.some_number());
+                if self.rng.chance(50) {
+                    return self.shared(a, b);
+                }
                 let pair = self.add(Expr::Pair(a, b))?;
                 self.add(Expr::Part(pair, 1))
             }

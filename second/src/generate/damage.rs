@@ -177,13 +177,14 @@ fn other_command(rng: &mut Rng, mut expr: Expr) -> Expr {
         },
         // The commands of two operands and no type can take each other's place.
         _ => match (expr.type_operand(), &references(&mut expr)[..]) {
-            (None, &[&mut a, &mut b]) => match rng.below(7) {
+            (None, &[&mut a, &mut b]) => match rng.below(8) {
                 0 => Expr::Pair(a, b),
                 1 => Expr::Apply(a, b),
                 2 => Expr::Assign(b, a),
                 3 => Expr::Sum(a, b),
                 4 => Expr::Difference(b, a),
                 5 => Expr::Limit(1, [a, UNUSED, UNUSED, UNUSED], b),
+                6 => Expr::Divide(a, b),
                 _ => Expr::Associate(a, b),
             },
             _ => expr,

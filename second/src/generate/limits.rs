@@ -8,7 +8,7 @@ use crate::write::bytes_of;
 /// A job at a limit, or one past it, or near a condition of the reader or of scopes.
 pub fn job(rng: &mut Rng) -> Vec<u8> {
     let past = rng.below(2);
-    match rng.below(27) {
+    match rng.below(30) {
         0 => repeated(rng, &[], &[0x01, 1], &[0x01, 0], 62 + past),
         1 => repeated(rng, &[], &[0x10, 0], &[0x10, 77], 256 + past),
         2 => {
@@ -27,9 +27,9 @@ pub fn job(rng: &mut Rng) -> Vec<u8> {
         9 => bytes_of(&heavy(40)),
         10 => host_values(rng),
         11 => full(rng),
-        12..16 => bytes_of(&brink(rng)),
-        16 | 17 => misplaced(rng),
-        18..25 => edited(rng),
+        12..18 => bytes_of(&brink(rng)),
+        18 | 19 => misplaced(rng),
+        20..28 => edited(rng),
         _ => bytes_of(&scopes(rng)),
     }
 }
@@ -94,8 +94,9 @@ pub fn tower(count: usize) -> Job {
 fn towering(rng: &mut Rng, count: usize) -> Vec<u8> {
     let mut bytes = bytes_of(&tower(count));
     if rng.chance(70) {
-        let more: &[u8] = match rng.below(2) {
+        let more: &[u8] = match rng.below(3) {
             0 => &[0x39, 0xFF, 0x7F, 0xFF],
+            1 => &[0x41, 0, 0, 0xFF, 0x7F, 0xFF],
             _ => &[0x40, 0, 0, 1, 0, 0xFF, 0x7F, 0, 0, 0xFF],
         };
         let kept = if rng.chance(50) { more.len() } else { 1 + rng.below(more.len()) };
@@ -210,12 +211,16 @@ fn brink(rng: &mut Rng) -> Job {
     let mut types = loop_types();
     types.push(Type { key: 2, shape: Shape::Limit(2) });
     let mut e = Exprs(Vec::new());
-    let room = rng.below(5);
-    let (load, turns) = filling(&mut e, room);
+    let room = rng.pick(&[0, 1, 2, 2, 3, 4]);
+    let (load, turns) = filling(rng, &mut e, room);
     let short = rng.pick(&[0, 0, 0, 1, 2]);
-    let run = looped(&mut e, load, turns - short);
+    let mut run = looped(&mut e, load, turns - short);
+    if rng.chance(60) {
+        let part = dividing(rng, &mut e);
+        run = e.add(Expr::Sum(run, part));
+    }
     let needed = if rng.chance(60) { room } else { rng.below(5) };
-    let act = needing(&mut e, needed);
+    let act = needing(rng, &mut e, needed);
     e.add(Expr::Sum(run, act));
     Job {
         names,
@@ -228,7 +233,7 @@ fn brink(rng: &mut Rng) -> Job {
 }
 
 /// A load that uses up a kind of room, and the turns that fill it.
-fn filling(e: &mut Exprs, room: usize) -> (u16, u32) {
+fn filling(rng: &mut Rng, e: &mut Exprs, room: usize) -> (u16, u32) {
     match room {
         0 => (e.number(0), 1020),
         1 => {
@@ -238,7 +243,8 @@ fn filling(e: &mut Exprs, room: usize) -> (u16, u32) {
         }
         2 => {
             let (a, b) = (e.number(1), e.number(0));
-            let pair = e.add(Expr::Pair(a, b));
+            let divide = rng.chance(50);
+            let pair = e.add(if divide { Expr::Divide(a, b) } else { Expr::Pair(a, b) });
             (e.add(Expr::Part(pair, 2)), 512)
         }
         3 => {
@@ -255,13 +261,14 @@ fn filling(e: &mut Exprs, room: usize) -> (u16, u32) {
 }
 
 /// An act that needs a kind of room.
-fn needing(e: &mut Exprs, room: usize) -> u16 {
+fn needing(rng: &mut Rng, e: &mut Exprs, room: usize) -> u16 {
     match room {
         1 => {
             let content = e.number(1);
             let cell = e.add(Expr::NewCell(0, content));
             e.add(Expr::Read(cell))
         }
+        2 if rng.chance(75) => dividing(rng, e),
         2 => {
             let (a, b) = (e.number(1), e.number(0));
             let pair = e.add(Expr::Pair(a, b));
@@ -280,6 +287,21 @@ fn needing(e: &mut Exprs, room: usize) -> u16 {
             e.add(Expr::NewKey(7, 4, key, body, 0))
         }
     }
+}
+
+/// A part of a division, of which one operand may have a key and one be of another kind.
+fn dividing(rng: &mut Rng, e: &mut Exprs) -> u16 {
+    let mut operands = [9, 4].map(|number| e.number(number));
+    if rng.chance(25) {
+        let place = rng.below(2);
+        operands[place] = e.add(Expr::NewCell(0, operands[place]));
+    }
+    if rng.chance(50) {
+        let (place, top) = (rng.below(2), e.add(Expr::Top));
+        operands[place] = e.add(Expr::Associate(operands[place], top));
+    }
+    let pair = e.add(Expr::Divide(operands[0], operands[1]));
+    e.add(Expr::Part(pair, 1 + rng.below(2) as u8))
 }
 
 /// A function type's effect and rights, drawn from few names.
@@ -378,7 +400,7 @@ fn full_of_uses(rng: &mut Rng, types: &[Type], hosts: &[HostValue]) -> Vec<Expr>
 }
 
 /// A job of most commands.
-const MOST: [&[u8]; 31] = [
+const MOST: [&[u8]; 33] = [
     &[0x01, 1],
     &[0x02, 2],
     &[0x10, 0],
@@ -409,12 +431,14 @@ const MOST: [&[u8]; 31] = [
     &[0x40, 12, 0, 11, 0, 14, 0, 5, 0],
     &[0x30, 8, 0, 0, 0],
     &[0x36, 15, 0, 16, 0],
+    &[0x30, 9, 0, 0, 0],
+    &[0x41, 17, 0, 18, 0],
     &[0xFF],
 ];
 
 /// Bytes of it on the edge of a condition: command, byte, value.
 #[rustfmt::skip]
-const EDGES: [(usize, usize, u8); 100] = [
+const EDGES: [(usize, usize, u8); 114] = [
     (0, 1, 0), (0, 1, 2), (1, 1, 0), (1, 1, 3), (1, 0, 1), (2, 1, 4), (2, 1, 3), (3, 1, 0),
     (3, 1, 3), (3, 2, 1), (4, 2, 0), (4, 2, 3), (4, 2, 4), (5, 2, 0), (5, 2, 1), (6, 2, 4),
     (6, 3, 1), (7, 4, 5), (7, 6, 1), (7, 6, 2), (7, 6, 6), (7, 6, 12), (7, 6, 8), (7, 6, 16),
@@ -424,12 +448,14 @@ const EDGES: [(usize, usize, u8); 100] = [
     (14, 1, 63), (14, 1, 64), (14, 2, 2), (14, 2, 1), (14, 2, 4), (14, 3, 2), (14, 7, 6),
     (17, 1, 0), (17, 1, 1), (17, 1, 3), (17, 1, 4), (17, 1, 5), (17, 2, 5), (17, 6, 0),
     (17, 7, 0), (17, 9, 0xFE), (19, 1, 1), (19, 1, 2), (19, 2, 7), (22, 3, 0), (22, 3, 2),
-    (22, 3, 3), (23, 1, 2), (23, 1, 10), (23, 1, 64), (23, 2, 1), (30, 0, 0xFE),
-    (27, 0, 0x3B), (27, 0, 0x41), (27, 0, 0x40), (27, 1, 15), (27, 2, 1), (27, 1, 13),
+    (22, 3, 3), (23, 1, 2), (23, 1, 10), (23, 1, 64), (23, 2, 1), (32, 0, 0xFE),
+    (27, 0, 0x3B), (27, 0, 0x41), (27, 0, 0x42), (27, 1, 15), (27, 2, 1), (27, 1, 13),
     (27, 1, 14), (27, 3, 15), (27, 4, 1), (27, 3, 12), (27, 3, 10), (27, 5, 15), (27, 5, 16),
     (27, 6, 1), (27, 5, 11), (27, 7, 6), (27, 7, 0), (27, 7, 2), (27, 7, 4), (27, 8, 1),
     (24, 1, 2), (24, 1, 0), (26, 2, 4), (26, 1, 11), (29, 1, 16), (29, 3, 15),
-    (27, 3, 14), (27, 0, 0x41),
+    (27, 3, 14), (27, 0, 0x42), (31, 0, 0x41), (31, 0, 0x42), (31, 0, 0x33), (31, 0, 0x40),
+    (31, 1, 18), (31, 1, 19), (31, 2, 1), (31, 3, 17), (31, 3, 19), (31, 3, 20), (31, 4, 1),
+    (30, 0, 0x31), (27, 7, 6), (27, 8, 1),
 ];
 
 /// A job of most commands with one byte on the edge of a condition, or a command more.
@@ -456,7 +482,7 @@ fn edited(rng: &mut Rng) -> Vec<u8> {
 
 /// A job cut off within or after a command that may stand out of its section.
 fn misplaced(rng: &mut Rng) -> Vec<u8> {
-    let commands: [&[u8]; 7] = [
+    let commands: [&[u8]; 8] = [
         &[0x01, 1],
         &[0x10, 0],
         &[0x20, 1, 0, 7, 0, 0, 0],
@@ -464,6 +490,7 @@ fn misplaced(rng: &mut Rng) -> Vec<u8> {
         &END[9..14],
         &END[14..],
         &[0x40, 0, 0, 1, 0, 2, 0, 0, 0],
+        &[0x41, 0, 0, 1, 0],
     ];
     let mut bytes = vec![0x01, 1, 0x10, 0, 0x12, 2, 0, 0];
     for command in &commands[2..2 + rng.below(4)] {
