@@ -79,7 +79,8 @@ extern "C" {
 /* The kinds of values: the first word of a value. Its second word is the number itself; the number
  * of the pair, cell or function; or the key that a limit key or a grant key stands for. A number is at
  * most 4294967295: a job's difference below zero is 0 and its sum above 4294967295 is 4294967295, and
- * nothing tells such an end, or a number that comes of one, from a true result. */
+ * nothing tells such an end, or a number that comes of one, from a true result. What a pair holds is not
+ * told: a job that divides (command 41, hexadecimal) gives one part, and puts the other into a cell. */
 #define JOBDESK_NO_VALUE 0
 #define JOBDESK_NUMBER 1
 #define JOBDESK_PAIR 2
@@ -101,8 +102,10 @@ extern "C" {
  *   names    holds for each name from 2 on its upper name, and above it (from bit 8 on) 1 for a
  *            host name, 2 for a local one,
  *   types    holds the type table: the declared types, for each new key the types of its limit key,
- *            its grant key and their pair, then the types that expressions make; in an entry the
- *            command byte, from bit 8 on the name of the key, from bit 16 and bit 32 on the parts,
+ *            its grant key and their pair, then the types that expressions make: at most one each, but
+ *            of a command 41 (hexadecimal) two, a number and then the pair whose parts are both that
+ *            number; in an entry the command byte, from bit 8 on the name of the key, from bit 16 and
+ *            bit 32 on the parts,
  *   sets     holds for each entry the effect of a function, or 0,
  *   values   holds for each host value 20 (hexadecimal), from bit 8 on its type, from bit 24 on its
  *            number,
@@ -245,7 +248,7 @@ uint64_t jobdesk_read(
  *                 11, 12 and 13 a type, of 14 and 15 a name; from bit 32 on the second part, of 11 and 13;
  *   sets[i]       the set of 13;
  *   values[i]     the command, 20; from bit 8 on the type; from bit 24 on the number;
- *   heads[i]      the command, 30 to 40; from bit 8 on the number of 30, the variable of 32 and 35, the
+ *   heads[i]      the command, 30 to 41; from bit 8 on the number of 30, the variable of 32 and 35, the
  *                 part of 34, the operation of 3A, the count of keys of 3C; of 3E the variable and, from
  *                 bit 16 on, the local name;
  *   slots[5 * i]  and the four after it: the operands of two bytes, expressions in their order, then the

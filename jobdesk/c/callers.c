@@ -235,6 +235,37 @@ static void stops(void)
     same("difference, value", value[1], 0);
 }
 
+/* 1979 over 7 is 282, and 5 are left over; over 0 it is 0, and all are left over. Byte 15 has the
+ * divisor, byte 27 the part. A division makes two types: a number, and the pair of it and itself. */
+#define DIVISOR 15
+#define PART 27
+static void divides(void)
+{
+    uint8_t job[] = {
+        0x21, 0, 0, 0, 0, 0, 0, 0, 0,    /* no rights */
+        0x30, 0xBB, 7, 0, 0,             /* expression 0: 1979 */
+        0x30, 7, 0, 0, 0,                /* expression 1: 7 */
+        0x41, 0, 0, 1, 0,                /* expression 2: the first divided by the second */
+        0x34, 2, 0, 1, 0xFF,             /* expression 3: part 1 */
+    };
+    const uint64_t calls[] = { JOBDESK_RUN(100000) }, wanted[] = { 282, 5, 0, 1979 };
+    uint64_t answers[2], value[JOBDESK_VALUE], cells[JOBDESK_CELLS], out[JOBDESK_OUT];
+    for (size_t i = 0; i < 4; i++) {
+        job[DIVISOR] = i < 2 ? 7 : 0;
+        job[PART] = (uint8_t)(1 + i % 2);
+        same("division", jobdesk_session_in(&tables, job, sizeof job, calls, 1, answers, value, cells, out),
+             JOBDESK_OK);
+        same("division, steps", answers[1], 7);
+        same("division, kind", value[0], JOBDESK_NUMBER);
+        same("division, value", value[1], wanted[i]);
+    }
+    same("division, its number", tables.types[2], 0x10);
+    same("division, its pair", tables.types[3], 0x11 + (UINT64_C(2) << 16) + (UINT64_C(2) << 32));
+    same("division, entry", tables.entries[2], 3);
+    same("division, entry of a part", tables.entries[3], 2);
+    same("division, no more types", tables.types[4], 0);
+}
+
 /* A refused job is not run. */
 static void sessions_refused(void)
 {
@@ -544,6 +575,7 @@ int main(void)
     sessions();
     asks();
     stops();
+    divides();
     sessions_refused();
     short_sessions();
     short_answers();

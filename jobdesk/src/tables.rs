@@ -216,7 +216,7 @@ impl Tables {
 pub enum Kind {
     /// A number of 32 bits. A difference below zero is 0, and a sum above 4294967295 is 4294967295.
     Number,
-    /// Two values.
+    /// Two values. Of a division the share, then what is left over.
     Pair,
     /// A cell that holds a value.
     Cell,
@@ -272,7 +272,9 @@ impl<'a> Accepted<'a> {
     }
 
     /// The type table. An entry has the type's command byte in its low byte, then its key, and from
-    /// bit 16 and from bit 32 its parts; a function's effect stands in [`Accepted::sets`].
+    /// bit 16 and from bit 32 its parts; a function's effect stands in [`Accepted::sets`]. An
+    /// expression makes at most one entry, but a division (command 0x41) two: a number, then the pair
+    /// whose parts are both that number.
     pub fn types(&self) -> &'a [u64] {
         // No entry that is in use is zero.
         let used = self.tables.types.iter().take_while(|&&word| word != 0).count();
@@ -299,7 +301,8 @@ pub struct Value {
     /// Its kind.
     pub kind: Kind,
     /// The number itself; the number of the pair, cell or function; or the key that a limit key or
-    /// a grant key stands for. The numbers 0 and 4294967295 may be ends at which a difference or a
+    /// a grant key stands for. What a pair holds is not told: a job that divides (command 0x41)
+    /// gives one part, and puts the other into a cell. The numbers 0 and 4294967295 may be ends at which a difference or a
     /// sum has stopped: nothing tells these, or a number that comes of one, from true results.
     pub data: u32,
 }

@@ -87,15 +87,21 @@ fn a_job_that_asks() {
     }
 }
 
-/// A sum (0) or difference (1) of two numbers.
-fn sum(operation: u8, first: u32, second: u32) -> Vec<u8> {
+/// A job without rights: expressions 0 and 1 are two numbers, then come some bytes and the end.
+fn of_two(first: u32, second: u32, then: &[u8]) -> Vec<u8> {
     let mut job = vec![0x21, 0, 0, 0, 0, 0, 0, 0, 0];
     for number in [first, second] {
         job.push(0x30);
         job.extend(number.to_le_bytes());
     }
-    job.extend([0x3A, operation, 0, 0, 1, 0, 0xFF]);
+    job.extend(then);
+    job.push(0xFF);
     job
+}
+
+/// A sum (0) or difference (1) of two numbers.
+fn sum(operation: u8, first: u32, second: u32) -> Vec<u8> {
+    of_two(first, second, &[0x3A, operation, 0, 0, 1, 0])
 }
 
 #[test]
@@ -116,6 +122,49 @@ fn sums_and_differences_stop() {
         assert_eq!(session.answers, [Answered { answer: Answer::Done, steps: 5 }]);
         assert_eq!(session.value, Some(Value { kind: Kind::Number, data: number }));
     }
+}
+
+/// Part 1 or 2 of a number divided by another.
+fn part(part: u8, dividend: u32, divisor: u32) -> Vec<u8> {
+    of_two(dividend, divisor, &[0x41, 0, 0, 1, 0, 0x34, 2, 0, part])
+}
+
+#[test]
+fn divisions() {
+    let mut tables = Tables::new();
+    for (dividend, divisor, share, rest) in [
+        (1979, 7, 282, 5),
+        (1974, 7, 282, 0),
+        (6, 7, 0, 6),
+        (1979, 0, 0, 1979),
+        (0, 0, 0, 0),
+        (u32::MAX, 1, u32::MAX, 0),
+        (u32::MAX, 2, u32::MAX / 2, 1),
+        (u32::MAX - 1, u32::MAX, 0, u32::MAX - 1),
+    ] {
+        for (place, number) in [(1, share), (2, rest)] {
+            let session = tables.session(&part(place, dividend, divisor), &[Call::Run(100)]);
+            let session = session.expect("a session");
+            assert_eq!(session.answers, [Answered { answer: Answer::Done, steps: 7 }]);
+            assert_eq!(session.value, Some(Value { kind: Kind::Number, data: number }));
+        }
+    }
+    let ran = tables.run(&part(1, 1979, 7), &[Call::Run(100)]).expect("a job that starts");
+    assert_eq!(ran.rooms, Rooms { keys: 2, pairs: 1, ..Rooms::default() });
+}
+
+/// A division makes two entries of the type table: a number, and the pair of it and itself.
+#[test]
+fn types_of_a_division() {
+    let mut tables = Tables::new();
+    let job = of_two(1979, 7, &[0x41, 0, 0, 1, 0]);
+    let accepted = tables.check(&job).expect("an accepted job");
+    assert_eq!((accepted.entry(), accepted.effect(), accepted.kind()), (3, 0, Kind::Pair));
+    assert_eq!(accepted.types(), [0x10, 0x10, 0x10, 0x11 | 2 << 16 | 2 << 32]);
+    assert_eq!(accepted.expressions().collect::<Vec<_>>(), [(0, 0), (1, 0), (3, 0)]);
+    // The pair is no number.
+    let twice = of_two(1979, 7, &[0x41, 0, 0, 1, 0, 0x30, 2, 0, 0, 0, 0x41, 2, 0, 3, 0]);
+    assert_eq!(tables.check(&twice), Err(Refusal { number: 11, place: 4 }));
 }
 
 #[test]

@@ -4,7 +4,7 @@ use jobdesk::lent::{self, Held, Lent};
 use jobdesk::{BYTES, LENGTHS};
 
 /// A job with every command but the end, each at its offset. The reader takes it; the check does not.
-const COMMANDS: [&[u8]; 29] = [
+const COMMANDS: [&[u8]; 30] = [
     &[0x01, 1],                                        // 0: name 2, below the top
     &[0x01, 2],                                        // 2: name 3, below name 2
     &[0x02, 1],                                        // 4: name 4, a local one
@@ -34,7 +34,11 @@ const COMMANDS: [&[u8]; 29] = [
     &[0x3E, 62, 4, 1, 0, 13, 0, 0, 0],                 // 134: expression 14
     &[0x3F, 0, 0, 1, 0],                               // 143: expression 15
     &[0x40, 1, 0, 14, 0, 15, 0, 0, 0],                 // 148: expression 16
+    &[0x41, 16, 0, 0, 0],                              // 157: expression 17
 ];
+
+/// How many expressions it has.
+const EXPRESSIONS: usize = 18;
 
 /// The same with so many of its expressions, and the end.
 fn job(expressions: usize) -> Vec<u8> {
@@ -44,7 +48,7 @@ fn job(expressions: usize) -> Vec<u8> {
 }
 
 /// How many operands of two bytes each of its expressions has.
-const PLACES: [usize; 17] = [0, 0, 0, 2, 1, 2, 2, 2, 2, 1, 2, 4, 5, 2, 3, 2, 4];
+const PLACES: [usize; EXPRESSIONS] = [0, 0, 0, 2, 1, 2, 2, 2, 2, 1, 2, 4, 5, 2, 3, 2, 4, 2];
 
 /// Every bit from this one on.
 const fn from_bit(bit: u32) -> u64 {
@@ -118,23 +122,23 @@ impl Own {
 
 /// The job, read, with some damage.
 fn damaged(damage: impl FnOnce(&mut Own)) -> Own {
-    let mut own = Own::of(&job(17));
+    let mut own = Own::of(&job(EXPRESSIONS));
     damage(&mut own);
     own
 }
 
 #[test]
 fn comes_back() {
-    let job = job(17);
+    let job = job(EXPRESSIONS);
     let own = Own::of(&job);
-    assert_eq!(own.counts, [3, 6, 2, 17, 4]);
+    assert_eq!(own.counts, [3, 6, 2, 18, 4]);
     assert_eq!((own.names[4], own.names[5], own.types[6]), (0x0201, 0, 0));
     own.written(&job);
 }
 
 #[test]
 fn the_counts_say_how_much() {
-    for expressions in 1..=17 {
+    for expressions in 1..=EXPRESSIONS {
         damaged(|own| own.counts[3] = expressions as u64).written(&job(expressions));
     }
 }
@@ -174,17 +178,17 @@ fn short_tables() {
     }
     for mut own in shortened(&Own::filled(0xA5A5, 5)) {
         let before = own.clone();
-        assert_eq!((own.read(&job(17)), own.counts[0]), (1, 0));
+        assert_eq!((own.read(&job(EXPRESSIONS)), own.counts[0]), (1, 0));
         own.counts[0] = 0xA5A5;
         assert_eq!(own, before);
     }
     let mut own = Own::filled(0xA5A5, 0);
-    assert_eq!((own.read(&job(17)), own), (1, Own::filled(0xA5A5, 0)));
+    assert_eq!((own.read(&job(EXPRESSIONS)), own), (1, Own::filled(0xA5A5, 0)));
 }
 
 #[test]
 fn short_buffer() {
-    let (job, own) = (job(17), damaged(|_| ()));
+    let (job, own) = (job(EXPRESSIONS), damaged(|_| ()));
     for length in 0..job.len() {
         let mut buffer = vec![0xA5; length];
         assert_eq!(own.write(&mut buffer), (15, 0));
@@ -201,6 +205,7 @@ fn no_command() {
     damaged(|own| own.types[1] ^= 0x11 ^ 0x1F).refused(2, 8);
     damaged(|own| own.values[1] = 0).refused(2, 45);
     damaged(|own| own.heads[16] = 0x7F).refused(2, 148);
+    damaged(|own| own.heads[17] = 0x7F).refused(2, 157);
 }
 
 #[test]
@@ -210,6 +215,7 @@ fn foreign_command() {
     damaged(|own| own.values[1] ^= 0x20 ^ 0x21).refused(3, 45);
     damaged(|own| own.heads[1] = 0x20).refused(3, 66);
     damaged(|own| own.heads[16] = 0xFF).refused(3, 148);
+    damaged(|own| own.heads[17] = 0x11).refused(3, 157);
     // Also where a field is too wide for its operand.
     damaged(|own| own.types[2] = 0x31 | from_bit(8)).refused(3, 14);
     damaged(|own| own.heads[4] = 0x11 | from_bit(8)).refused(3, 74);
@@ -287,6 +293,9 @@ fn operands_that_break_a_condition() {
     // The type stands behind the expressions.
     damaged(|own| own.slots[26] = 6).refused(6, 78);
     damaged(|own| own.slots[72] = 6).refused(6, 134);
+    // Dividend and divisor.
+    damaged(|own| own.slots[85] = 17).refused(6, 157);
+    damaged(|own| own.slots[86] = 17).refused(6, 157);
 }
 
 #[test]
@@ -309,8 +318,8 @@ fn what_is_not_looked_at() {
         own.names[5..].fill(u16::MAX);
         own.types[6..].fill(u64::MAX);
         own.values[2..].fill(u64::MAX);
-        own.heads[17..].fill(u64::MAX);
-        own.slots[85..].fill(u16::MAX);
+        own.heads[EXPRESSIONS..].fill(u64::MAX);
+        own.slots[5 * EXPRESSIONS..].fill(u16::MAX);
         own.counts.push(u64::MAX);
         // Fields of neither the command nor an operand.
         own.types[0] |= from_bit(16);
@@ -318,14 +327,14 @@ fn what_is_not_looked_at() {
             own.types[no_second] |= from_bit(32);
         }
         (0..own.sets.len()).filter(|&i| i != 3).for_each(|i| own.sets[i] = u64::MAX);
-        for bare in [1, 3, 6, 7, 8, 9, 11, 13, 15, 16] {
+        for bare in [1, 3, 6, 7, 8, 9, 11, 13, 15, 16, 17] {
             own.heads[bare] |= from_bit(8);
         }
         for (i, places) in PLACES.into_iter().enumerate() {
             own.slots[5 * i + places..5 * i + 5].fill(u16::MAX);
         }
     });
-    own.written(&job(17));
+    own.written(&job(EXPRESSIONS));
 }
 
 #[test]

@@ -116,6 +116,8 @@ pub enum Gives {
     Same(usize),
     /// The value's type with the limit key's name as its key: value, key.
     Rekeyed(usize, usize),
+    /// A pair of two numbers; the number has an entry of its own.
+    TwoNumbers,
 }
 
 /// The rule of typing of an expression.
@@ -385,6 +387,13 @@ pub static ROWS: &[Row] = &[
             effect: Effect::Drop(0, 1),
             gives: Gives::Declared(3),
         },
+        ..EXPRESSION
+    },
+    Row {
+        byte: 0x41,
+        word: "divide",
+        operands: &[Expr("dividend"), Expr("divisor")],
+        rule: Rule { touch: &[(0, NUMBER), (1, NUMBER)], gives: Gives::TwoNumbers, ..JOINED },
         ..EXPRESSION
     },
     declared(0xFF, "end", Section::End, &[]),

@@ -205,7 +205,13 @@ impl<'a> Worker<'a> {
         })
     }
 
-    /// The entry of the expression's type; a new one where it makes a type.
+    /// The number of a new entry.
+    fn make(&mut self, ty: Type) -> u16 {
+        self.typing.table.push(ty);
+        self.typing.table.len() as u16 - 1
+    }
+
+    /// The entry of the expression's type; a new one where it makes a type, after those of its parts.
     fn entry(&mut self, expr: &Command) -> u16 {
         let at = |place: usize| expr.args[place].one() as u16;
         let typed = |place: usize| self.typing.typed[at(place) as usize];
@@ -222,6 +228,10 @@ impl<'a> Worker<'a> {
                 let key = self.typing.stands_for(at(key)).trailing_zeros() as u8;
                 Type { key, shape: self.typing.of(at(value)).shape }
             }
+            Gives::TwoNumbers => {
+                let number = self.make(Type::unkeyed(Shape::Number));
+                Type::unkeyed(Shape::Pair(number, number))
+            }
             Gives::Variable(v) => return self.variables[at(v) as usize],
             Gives::Declared(ty) => return at(ty),
             Gives::Same(body) => return typed(body).entry,
@@ -235,8 +245,7 @@ impl<'a> Worker<'a> {
                 };
             }
         };
-        self.typing.table.push(made);
-        self.typing.table.len() as u16 - 1
+        self.make(made)
     }
 }
 

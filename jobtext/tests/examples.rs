@@ -8,6 +8,7 @@ use std::path::{Path, PathBuf};
 use jobtext::commands::ROWS;
 use jobtext::decode::decode;
 use jobtext::{assemble, dump, explain, hex, sheet};
+use second::{Machine, Outcome};
 
 /// Every text of a job.
 fn jobs() -> Vec<PathBuf> {
@@ -58,15 +59,47 @@ fn every_command_and_refusal() {
     assert_eq!(refusals, (2..=14).collect());
 }
 
-/// The agency's bill for two depots is one job, but for the rights.
+/// The bytes of a sample job, a line a command.
+fn lines(name: &str) -> Vec<String> {
+    text(&Path::new("../examples").join(name), "hex").lines().map(str::to_string).collect()
+}
+
+/// Fails unless two sample jobs have the same bytes but for one command, which begins so in both.
+fn apart_in(command: &str, first: &str, second: &str) {
+    let (first, second) = (lines(first), lines(second));
+    assert_eq!(first.len(), second.len());
+    let differ: Vec<_> = first.iter().zip(&second).filter(|(a, b)| a != b).collect();
+    assert!(
+        matches!(differ[..], [(a, b)] if a.starts_with(command) && b.starts_with(command)),
+        "{differ:?}"
+    );
+}
+
+/// The agency's bill for two depots is one job, but for the rights; a week with shifts and one
+/// without are one, but for the host value that has their number.
 #[test]
-fn one_bill_for_two_depots() {
-    let hex = |name| text(Path::new("../examples").join(name).as_path(), "hex");
-    let (lent, closed) = (hex("agency_bill_lent"), hex("agency_bill_closed"));
-    let pairs = || lent.lines().zip(closed.lines());
-    let differ: Vec<_> = pairs().filter(|(a, b)| a != b).collect();
-    assert_eq!(lent.lines().count(), closed.lines().count());
-    assert!(matches!(differ[..], [(a, b)] if a.starts_with("21 ") && b.starts_with("21 ")));
+fn one_job_for_two() {
+    apart_in("21 ", "agency_bill_lent", "agency_bill_closed");
+    apart_in("20 03 00 ", "week_over_shifts", "week_without_shifts");
+}
+
+/// What is paid for the shifts and what is kept are all the minutes that there were.
+#[test]
+fn a_week_over_the_shifts() {
+    for (name, shifts) in [("week_over_shifts", 7), ("week_without_shifts", 0)] {
+        let bytes = hex::read(&lines(name).join("\n")).expect("hexadecimal digits");
+        let mut machine = Machine::start(&bytes).expect("a job that starts");
+        let held = |machine: &Machine| -> Vec<u32> {
+            machine.cells().iter().map(|cell| cell.data()).collect()
+        };
+        let before = held(&machine);
+        assert_eq!((machine.run(100_000).0, before[6]), (Outcome::Done, shifts), "{name}");
+        let (share, after) = (machine.result().expect("a share").data(), held(&machine));
+        let kept = after[5];
+        assert_eq!(share * shifts + kept, before[..6].iter().sum(), "{name}");
+        assert!(kept < shifts || shifts == 0, "{name}");
+        assert_eq!((&after[..5], after[6]), (&before[..5], shifts), "{name}");
+    }
 }
 
 /// The table of commands in the guide has every row.
@@ -97,6 +130,7 @@ fn the_pages_show_what_is_recorded() {
         ("docs/JOBS.md", "payroll_week.explain"),
         ("docs/JOBS.md", "payroll_week.out"),
         ("docs/JOBS.md", "rest_over.out"),
+        ("docs/JOBS.md", "week_over_shifts.out"),
         ("docs/VERDICTS.md", "two_agencies.explain"),
         ("docs/VERDICTS.md", "two_agencies.out"),
         ("docs/VERDICTS.md", "agency_bill_lent.explain"),

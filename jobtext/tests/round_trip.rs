@@ -77,7 +77,7 @@ fn tangled(rng: &mut Rng) -> Vec<u8> {
             0 => bytes.extend([0x30, rng.word() as u8, 0, 0, 0]),
             1 => bytes.push(0x31),
             2 => bytes.extend([0x32, rng.below(64) as u8]),
-            3 => bytes.extend([0x33, a[0], a[1], b[0], b[1]]),
+            3 => bytes.extend([rng.pick(&[0x33, 0x41]), a[0], a[1], b[0], b[1]]),
             4 => bytes.extend([0x34, a[0], a[1], 1 + rng.below(2) as u8]),
             5 => bytes.extend([0x35, rng.below(64) as u8, 0, 0, a[0], a[1]]),
             6 => bytes.extend([0x3A, rng.below(2) as u8, a[0], a[1], b[0], b[1]]),
