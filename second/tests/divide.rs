@@ -1,7 +1,10 @@
 //! Command 41: a number divided by another, quotient and rest.
 
+mod common;
+
+use common::{prints, refused, runs};
 use second::generate::Rng;
-use second::{Kind, Machine, Outcome, Refusal, Shape, Type, check, desk, from_hex};
+use second::{Kind, Machine, Outcome, Shape, Type, check, from_hex};
 
 const TOP: u32 = u32::MAX;
 
@@ -20,18 +23,6 @@ fn job(rights: u8, exprs: &str) -> Vec<u8> {
          21{rights:02x}00000000000000 {exprs} FF"
     );
     from_hex(&hex).expect("hexadecimal digits")
-}
-
-fn prints(job: &[u8], lines: &str) {
-    assert_eq!(desk(job), lines);
-}
-
-fn refused(job: &[u8], number: u32, place: u32) {
-    assert_eq!(check(job).err(), Some(Refusal { number, place }));
-}
-
-fn runs(job: &[u8], outcome: Outcome, steps: u64) {
-    assert_eq!(Machine::start(job).unwrap().run(100_000), (outcome, steps));
 }
 
 /// Part 1 or 2 of a division of two numbers that are written in the job.

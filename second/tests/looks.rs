@@ -1,6 +1,9 @@
 //! Command 40: a look at a key, and a branch for either answer.
 
-use second::{Kind, Machine, Outcome, Refusal, check, desk, from_hex};
+mod common;
+
+use common::{prints, refused, runs};
+use second::{Kind, Machine, Outcome, check, from_hex};
 
 /// Host names 2 under 1, and 3 and 4 under 2; local name 5 under 2. Types: 0 number, 1 cell of key
 /// 3, 2 limit key of 3, 3 limit key of 2 with key 4, 4 limit key of 2 with key 3, 5 limit key of 4
@@ -18,18 +21,6 @@ fn job(rights: u8, exprs: &str) -> Vec<u8> {
 /// A look at a variable: the read of the cell if its key is enabled, else 5.
 fn look_at(variable: u8) -> String {
     format!("32{variable:02x} 3200 390100 3005000000 40 0000 0200 0300 0000")
-}
-
-fn prints(job: &[u8], lines: &str) {
-    assert_eq!(desk(job), lines);
-}
-
-fn refused(job: &[u8], number: u32, place: u32) {
-    assert_eq!(check(job).err(), Some(Refusal { number, place }));
-}
-
-fn runs(job: &[u8], outcome: Outcome, steps: u64) {
-    assert_eq!(Machine::start(job).unwrap().run(100_000), (outcome, steps));
 }
 
 #[test]
