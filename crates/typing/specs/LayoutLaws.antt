@@ -20,6 +20,7 @@ use Rattle.syntax.specs.Job.{Job}
 use Rattle.syntax.specs.Loading.{most-entries}
 use Rattle.syntax.specs.ReadLaws.{JobOk}
 use Rattle.typing.specs.Layout.{newKeys, keyEntries, varEntry, Points, new, old, pointsTo, Layout, point, layoutFrom, layoutOf}
+use Rattle.typing.specs.NumberedTables.{keys-length}
 
 -- How many entries a command makes
 
@@ -150,14 +151,9 @@ getElem?-later (x ∷ l) m i = let e : i + suc (length l) ≡ suc (i + length l)
 unfoldable pub declared : Job → Layout
 declared J = record { entries = J .types ++ keyEntries (length (J .types)) (newKeys (J .cmds)); of = [] }
 
-keys-count : (n : ℕ) (l : List ℕ) → length (keyEntries n l) ≡ 3 * length l
-unfolding keyEntries
-keys-count n [] = refl
-keys-count n (r ∷ l) = omega (arith, keys-count (3 + n) l)
-
-declared-count : (J : Job) → length (declared J .entries) ≡ length (J .types) + 3 * length (newKeys (J .cmds))
+pub declared-count : (J : Job) → length (declared J .entries) ≡ length (J .types) + 3 * length (newKeys (J .cmds))
 unfolding declared
-declared-count J = omega (arith, length-append (J .types) (keyEntries (length (J .types)) (newKeys (J .cmds))), keys-count (length (J .types)) (newKeys (J .cmds)))
+declared-count J = omega (arith, length-append (J .types) (keyEntries (length (J .types)) (newKeys (J .cmds))), keys-length (length (J .types)) (newKeys (J .cmds)))
 
 -- where the entries of an expression begin, after the expressions p: past the declared types, three for each 0x3E of the job, and what the expressions before it make
 unfoldable pub begins : Job → List (Cmd ℕ) → ℕ

@@ -29,8 +29,8 @@ use Rattle.syntax.specs.Context.{stands}
 use Rattle.syntax.specs.TreeExactly.{tree-ok}
 use Rattle.typing.specs.Subtype.{subTy}
 use Rattle.typing.specs.Least.{Typed, typed, untyped, varType, typeAt, get, typesTo, types, typeOf, firstUntyped}
-use Rattle.typing.specs.LayoutLaws.{made, most-each, points-few, new-few}
-use Rattle.typing.specs.Layout.{newKeys, keyEntries, varEntry, firstPart, secondPart, rekeyed, Points, new, old, pointsTo, Layout, point, layoutFrom, layoutOf}
+use Rattle.typing.specs.LayoutLaws.{made, most-each, points-few, new-few, declared, declared-count}
+use Rattle.typing.specs.Layout.{newKeys, varEntry, firstPart, secondPart, rekeyed, Points, new, old, pointsTo, Layout, point, layoutFrom, layoutOf}
 use Rattle.syntax.specs.Loading.{most-entries}
 use Rattle.typing.specs.Tables.{effectOf, effectIn, layoutFor}
 use Rattle.typing.specs.Filled.{typesTo-length, seen, typeOf-is, untyped-not, all-typed}
@@ -39,7 +39,7 @@ use Rattle.typing.specs.Entries.{subIn}
 use Rattle.typing.specs.Numbered.{Ops, Result, makes, points, wrong, needNum, needPair, needCell, needFn, needLim, needGrant, need, fits, keysFrom, resultAt, Sofar, Numbered, next, stop, settle, numberAt, Whole, whole, halted, onto, numberAll, startOf, numbering}
 use Rattle.typing.specs.EntryLaws.{sub-by-second}
 use Rattle.typing.specs.NumberedOps.{Agree, agree-order}
-use Rattle.typing.specs.NumberedTables.{EntryOk, ok-num, ok-pair, ok-cell, ok-fn, ok-lim, ok-grant, TableOk, part-low, table-earlier, table-snoc, keys-length, TreeAt, local-lt, start-ok, start-kept, var-tree}
+use Rattle.typing.specs.NumberedTables.{EntryOk, ok-num, ok-pair, ok-cell, ok-fn, ok-lim, ok-grant, TableOk, part-low, table-earlier, table-snoc, TreeAt, local-lt, start-ok, start-kept, var-tree}
 use Rattle.typing.specs.NumberedStep.{Same, Match, m-made, m-old, m-no, Operand, matches}
 
 -- Where an expression's type stands
@@ -459,8 +459,8 @@ pub record Fits (σ : Sofar) : Type 0 where
   pub effect : (e : ℕ) → e < length (σ .effects) → Within most-names (getD (σ .effects) e pure)
 
 start-length : {J : Job} → JobOk J → length (startOf J .entries) ≡ length (J .types) + 3 * length (newKeys (J .cmds))
-unfolding startOf
-start-length {J} j = length-append (J .types) (keyEntries (length (J .types)) (newKeys (J .cmds))) ∙ omega (arith, keys-length (length (J .types)) (newKeys (J .cmds)))
+unfolding startOf declared
+start-length {J} j = declared-count J
 
 pub inv-fits : {J : Job} → JobOk J → {e : ℕ} {σ : Sofar} → e ≤ length (J .cmds) → Inv J e σ → Fits σ
 inv-fits {J} j {e} {σ} h v =
