@@ -24,6 +24,7 @@ use Rattle.semantics.specs.Keys as Keys
 use Rattle.semantics.specs.Step as Step
 use Rattle.semantics.specs.Room as Room
 use Rattle.semantics.specs.Start as Start
+use Rattle.semantics.specs.Threads as Threads
 use Rattle.semantics.specs.Calls as Calls
 use Rattle.syntax.specs.Loading as Loading
 use Rattle.semantics.specs.Starting as Starting
@@ -73,17 +74,24 @@ unlentLines =
     ∷ 0x75 ∷ 0x6D ∷ 0x62 ∷ 0x65 ∷ 0x72 ∷ 0x20 ∷ 0x30 ∷ 0x0A ∷ []
 
 --   accepted 0000000000000000 number
+--   and the line l
+unfoldable pub acceptedThen : List ℕ → List ℕ
+acceptedThen l =
+    (0x61 ∷ 0x63 ∷ 0x63 ∷ 0x65 ∷ 0x70 ∷ 0x74 ∷ 0x65 ∷ 0x64 ∷ 0x20 ∷ 0x30 ∷ 0x30 ∷ 0x30 ∷ 0x30 ∷ 0x30 ∷ 0x30 ∷ 0x30 ∷ 0x30 ∷ 0x30 ∷ 0x30 ∷ 0x30 ∷ 0x30
+    ∷ 0x30 ∷ 0x30 ∷ 0x30 ∷ 0x30 ∷ 0x20 ∷ 0x6E ∷ 0x75 ∷ 0x6D ∷ 0x62 ∷ 0x65 ∷ 0x72 ∷ 0x0A ∷ []) ++ l ++ (0x0A ∷ [])
+
+--   accepted 0000000000000000 number
 --   done, after so many steps (a digit), number, and which
 unfoldable pub numberLines : ℕ → List ℕ → List ℕ
 numberLines d n =
     (0x61 ∷ 0x63 ∷ 0x63 ∷ 0x65 ∷ 0x70 ∷ 0x74 ∷ 0x65 ∷ 0x64 ∷ 0x20 ∷ 0x30 ∷ 0x30 ∷ 0x30 ∷ 0x30 ∷ 0x30 ∷ 0x30 ∷ 0x30 ∷ 0x30 ∷ 0x30 ∷ 0x30 ∷ 0x30 ∷ 0x30 ∷ 0x30 ∷ 0x30 ∷ 0x30 ∷ 0x30 ∷ 0x20 ∷ 0x6E ∷ 0x75 ∷ 0x6D ∷ 0x62 ∷ 0x65 ∷ 0x72 ∷ 0x0A ∷ 0x64 ∷ 0x6F ∷ 0x6E ∷ 0x65 ∷ 0x20 ∷ d ∷ 0x20 ∷ 0x6E ∷ 0x75 ∷ 0x6D ∷ 0x62 ∷ 0x65 ∷ 0x72 ∷ 0x20 ∷ []) ++ (n ++ (0x0A ∷ []))
 
 --   accepted 0000000000000020 number
---   done 141 number 36
+--   done 146 number 36
 abbrev everyLines : List ℕ
 everyLines =
     0x61 ∷ 0x63 ∷ 0x63 ∷ 0x65 ∷ 0x70 ∷ 0x74 ∷ 0x65 ∷ 0x64 ∷ 0x20 ∷ 0x30 ∷ 0x30 ∷ 0x30 ∷ 0x30 ∷ 0x30 ∷ 0x30 ∷ 0x30 ∷ 0x30 ∷ 0x30 ∷ 0x30 ∷ 0x30 ∷ 0x30
-    ∷ 0x30 ∷ 0x30 ∷ 0x32 ∷ 0x30 ∷ 0x20 ∷ 0x6E ∷ 0x75 ∷ 0x6D ∷ 0x62 ∷ 0x65 ∷ 0x72 ∷ 0x0A ∷ 0x64 ∷ 0x6F ∷ 0x6E ∷ 0x65 ∷ 0x20 ∷ 0x31 ∷ 0x34 ∷ 0x31
+    ∷ 0x30 ∷ 0x30 ∷ 0x32 ∷ 0x30 ∷ 0x20 ∷ 0x6E ∷ 0x75 ∷ 0x6D ∷ 0x62 ∷ 0x65 ∷ 0x72 ∷ 0x0A ∷ 0x64 ∷ 0x6F ∷ 0x6E ∷ 0x65 ∷ 0x20 ∷ 0x31 ∷ 0x34 ∷ 0x36
     ∷ 0x20 ∷ 0x6E ∷ 0x75 ∷ 0x6D ∷ 0x62 ∷ 0x65 ∷ 0x72 ∷ 0x20 ∷ 0x33 ∷ 0x36 ∷ 0x0A ∷ []
 
 unfoldable pub isRead : Reading.Read → Bool
@@ -96,12 +104,12 @@ pub record Told : Type 0 where
   pub count : ℕ
 
 unfoldable pub told : Calls.Ran → Told
-told r = record { answer = r .answer; count = r .count }
+told r = record { answer = r .answer; count = Calls.total (r .counts) }
 
 unfoldable pub ranFrom : ℕ → Reading.Read → Starting.Started → Option Told
 ranFrom n (Reading.refused r) st = none
 ranFrom n (Reading.read J) (Starting.unstarted r) = none
-ranFrom n (Reading.read J) (Starting.started m) = some (told (Calls.run (Calls.stepsOf (Operands.nth (J .cmds))) n 0 m))
+ranFrom n (Reading.read J) (Starting.started m) = some (told (Calls.call (Threads.stepsOf (Operands.nth (J .cmds))) (Calls.run-of n) m))
 
 unfoldable pub started : ℕ → List ℕ → Option Told
 started n s = ranFrom n (Reading.reading s) (Starting.starting s)
@@ -143,6 +151,15 @@ pub record Marked : Type 0 where
   pub share-keyed-by : Verdict.verdictOf (Jobs.keyedSharing 0x04 3 2) ≡ Verdict.accept (Types.pair 0 (Types.num 0) (Types.num 0)) (Effects.ofWord 0x04)
   pub share-refused-by : Verdict.verdictOf (Jobs.keyedSharing 0x00 3 2) ≡ Verdict.refuse (record { number = 14; place = 4 })
   pub share-denied-by : started 100000 (Jobs.keyedSharing 0x00 3 2) ≡ some (record { answer = Calls.denied; count = 8 })
+  -- threads (F-6), in turn by number: thread 0 reads a cell in the round in which thread 1 puts 5 into it, and finds 0, since it goes first; one round later it finds 5
+  pub same-round : Lines.deskOf (Jobs.threadedRead (Jobs.oneStepMore 5) 6) ≡ acceptedThen (0x64 ∷ 0x6F ∷ 0x6E ∷ 0x65 ∷ 0x20 ∷ 0x31 ∷ 0x33 ∷ 0x20 ∷ 0x6E ∷ 0x75 ∷ 0x6D ∷ 0x62 ∷ 0x65 ∷ 0x72 ∷ 0x20 ∷ 0x30 ∷ [])
+  pub next-round : Lines.deskOf (Jobs.threadedRead (Jobs.oneStepMore 5 ++ Jobs.oneStepMore 6) 7) ≡ acceptedThen (0x64 ∷ 0x6F ∷ 0x6E ∷ 0x65 ∷ 0x20 ∷ 0x31 ∷ 0x34 ∷ 0x20 ∷ 0x6E ∷ 0x75 ∷ 0x6D ∷ 0x62 ∷ 0x65 ∷ 0x72 ∷ 0x20 ∷ 0x35 ∷ [])
+  -- a thread whose body has an effect is refused with 16 and, started anyway, denied: the keys of the thread that starts it are not handed on
+  pub spawn-refused : Verdict.verdictOf Jobs.spawnedRead ≡ Verdict.refuse (record { number = 16; place = 2 })
+  pub spawn-denied : started 100000 Jobs.spawnedRead ≡ some (record { answer = Calls.denied; count = 3 })
+  -- eight threads run to their ends; "a ninth is no room"
+  pub eight-threads : Lines.deskOf Jobs.sevenMore ≡ acceptedThen (0x64 ∷ 0x6F ∷ 0x6E ∷ 0x65 ∷ 0x20 ∷ 0x33 ∷ 0x32 ∷ 0x20 ∷ 0x6E ∷ 0x75 ∷ 0x6D ∷ 0x62 ∷ 0x65 ∷ 0x72 ∷ 0x20 ∷ 0x30 ∷ [])
+  pub ninth-thread : Lines.deskOf Jobs.eightMore ≡ acceptedThen (0x6E ∷ 0x6F ∷ 0x20 ∷ 0x72 ∷ 0x6F ∷ 0x6F ∷ 0x6D ∷ 0x20 ∷ 0x32 ∷ 0x38 ∷ [])
   -- an unkeyed cell read with no rights done
   pub unkeyed-done : Lines.deskOf Jobs.unkeyedRead ≡ unkeyedLines
   -- a keyed read inside a limit without keys refused with 13
@@ -175,7 +192,7 @@ pub record Marked : Type 0 where
   pub unscoped-untyped : (T : Types.Ty) (s : Effects.Effect) → Demand2.JobHas Examples.unscoped T s → ⊥
 
 pub marked : Marked
-unfolding Bools._and_ Bools._or_ Order.onUpper Order.belowIn Order.below Sets.bit Sets.consIf Sets.membersFrom Sets.members Sets.setOf Sets.keep Sets.some-of Sets.all-of Effects.ofNames Effects.names Effects.touch Effects.join Effects.effBelow Effects.maximal Effects.reduced Effects.reduce Effects.drop Effects.raise Types.keyOf Types.rekey Types.depth Types.namesIn Types.entryTree Types.treeIn Types.tree Commands.mapCmd Commands.commands Commands.findOp Commands.opOf Commands.operands Commands.total Commands.width Commands.sectionOf Commands.little Commands.fields Operands.nth Operands.plain Operands.inner Operands.children Operands.typesOf Operands.usesVar Operands.bindsVar Operands.bindsName Job.uppers Job.valueOf Job.sourceOf Reading.declared Reading.isHost Reading.hostName Reading.openName Reading.localName Reading.setOk Reading.nameOk Reading.partsOk Reading.typeOk Reading.unkeyedNumber Reading.hostTypeOk Reading.hostValueOk Reading.rightsOk Reading.cmdOk Reading.written Reading.given Reading.enter Reading.misplaced Reading.full Reading.settle Reading.command Reading.ended Reading.onward Reading.onOp Reading.readFrom Reading.reading Tree.binds Tree.varsOf Tree.namesOf Tree.memB Tree.usesName Tree.addHost Tree.nameCtx Tree.valueCtx Tree.hostCtx Tree.root Tree.count Tree.uses Tree.usedRight Tree.boundBy Tree.bindsNew Tree.parent Tree.scopeIn Tree.ctx Tree.nameIn Tree.inScope Tree.firstBad Tree.orElse Tree.numbered Tree.lowest Tree.treeRefusal Subtype.sameTy Subtype.subTy Subtype.superTy Least.with Least.wantNum Least.wantPair Least.wantCell Least.wantFn Least.wantLim Least.wantGrant Least.require Least.isUpper Least.typeIn Least.varType Least.ofVar Least.keysAt Least.typeAt Least.get Least.extend Least.typesTo Least.types Least.typeOf Least.firstUntyped Verdict.unless Verdict.within Verdict.judged Verdict.judge Verdict.judgeRead Verdict.verdictOf Keys.enabled Keys.upto Keys.narrow Keys.add Step.room Step.touch Step.touchAll Step.settle Step.asNum Step.asPair Step.asFn Step.asCell Step.asLim Step.asGrant Step.found Step.bare Step.one Step.two Step.actPair Step.partOf Step.actPart Step.actFn Step.actApp Step.actNew Step.actAsg Step.actRead Step.sumN Step.actSum Step.branch Step.actTest Step.limitKeys Step.keysOf Step.actLim Step.actGrant Step.makeKey Step.actNewkey Step.actAssoc Step.actAccess Step.quotient Step.remainder Step.actDivide Operands.evaluated Step.push Step.act Step.seekIn Step.seekAt Step.seek Step.variable Step.enterAt Step.enterCmd Step.receive Step.handTo Step.planOn Step.plan Step.step Room.doneAt Room.isDone Start.bindTo Start.addName Start.addNames Start.named Start.hostValue Start.hostCell Start.addValues Start.keyNamed Start.valued Start.startOf Calls.turn Calls.run Calls.call Calls.calls Lines.decimalIn Lines.decimal Lines.hexDigit Lines.hex Lines.w-refused Lines.w-at Lines.w-accepted Lines.w-done Lines.w-spent Lines.w-no-room Lines.w-number Lines.w-pair Lines.w-cell Lines.w-function Lines.w-limit Lines.w-grant Lines.space Lines.line Lines.typeKind Lines.valueKind Lines.handed Lines.refusedLine Lines.acceptedLine Lines.ranLine Lines.ranOf Lines.runLine Lines.runRead Lines.reported Lines.deskOf Lines.printed flatMap Jobs.example Jobs.asking Jobs.cellsFrom Jobs.nested Jobs.reckoning Jobs.sharing Jobs.keyedSharing numberLines Jobs.unkeyedRead Jobs.limitedRead Jobs.everyCommand Jobs.unscoped isRead told ranFrom started Loading.unless Loading.inTree Loading.loading Starting.startLoaded Starting.starting Tree.predecessor Types.byType Types.onNum Types.onPair Types.onCell Types.onFn Types.onLim Types.onGrant Effects.setNames Effects.setTouch Effects.setBelow Effects.setReduced Effects.setReduce Effects.setDrop Effects.setRaise
+unfolding Bools._and_ Bools._or_ Order.onUpper Order.belowIn Order.below Sets.bit Sets.consIf Sets.membersFrom Sets.members Sets.setOf Sets.keep Sets.some-of Sets.all-of Effects.ofNames Effects.names Effects.touch Effects.join Effects.effBelow Effects.maximal Effects.reduced Effects.reduce Effects.drop Effects.raise Types.keyOf Types.rekey Types.depth Types.namesIn Types.entryTree Types.treeIn Types.tree Commands.mapCmd Commands.commands Commands.findOp Commands.opOf Commands.operands Commands.total Commands.width Commands.sectionOf Commands.little Commands.fields Operands.nth Operands.plain Operands.inner Operands.children Operands.typesOf Operands.usesVar Operands.bindsVar Operands.bindsName Job.uppers Job.valueOf Job.sourceOf Reading.declared Reading.isHost Reading.hostName Reading.openName Reading.localName Reading.setOk Reading.nameOk Reading.partsOk Reading.typeOk Reading.unkeyedNumber Reading.hostTypeOk Reading.hostValueOk Reading.rightsOk Reading.cmdOk Reading.written Reading.given Reading.enter Reading.misplaced Reading.full Reading.settle Reading.command Reading.ended Reading.onward Reading.onOp Reading.readFrom Reading.reading Tree.binds Tree.varsOf Tree.namesOf Tree.memB Tree.usesName Tree.addHost Tree.nameCtx Tree.valueCtx Tree.hostCtx Tree.root Tree.count Tree.uses Tree.usedRight Tree.boundBy Tree.bindsNew Tree.parent Tree.scopeIn Tree.ctx Tree.nameIn Tree.inScope Tree.firstBad Tree.orElse Tree.numbered Tree.lowest Tree.treeRefusal Subtype.sameTy Subtype.subTy Subtype.superTy Least.with Least.wantNum Least.wantPair Least.wantCell Least.wantFn Least.wantLim Least.wantGrant Least.require Least.isUpper Least.typeIn Least.varType Least.ofVar Least.keysAt Least.typeAt Least.get Least.extend Least.typesTo Least.types Least.typeOf Least.firstUntyped Verdict.unless Verdict.within Verdict.judged Verdict.judge Verdict.judgeRead Verdict.verdictOf Keys.enabled Keys.upto Keys.narrow Keys.add Step.room Step.touch Step.touchAll Step.settle Step.asNum Step.asPair Step.asFn Step.asCell Step.asLim Step.asGrant Step.found Step.bare Step.one Step.two Step.actPair Step.partOf Step.actPart Step.actFn Step.actApp Step.actNew Step.actAsg Step.actRead Step.sumN Step.actSum Step.branch Step.actTest Step.limitKeys Step.keysOf Step.actLim Step.actGrant Step.makeKey Step.actNewkey Step.actAssoc Step.actAccess Step.quotient Step.remainder Step.actDivide Step.actSpawn Operands.evaluated Step.push Step.act Step.seekIn Step.seekAt Step.seek Step.variable Step.enterAt Step.enterCmd Step.receive Step.handTo Step.planOn Step.plan Step.step Room.doneAt Room.isDone Start.bindTo Start.addName Start.addNames Start.named Start.hostValue Start.hostCell Start.addValues Start.keyNamed Start.valued Start.firstThread Start.firstStore Start.startOf Threads.valueOf Threads.liveThread Threads.allDone Threads.handedOn Threads.firstValue Threads.firstFrom Threads.inRound Threads.next Threads.took Threads.stepThread Threads.takeTurn Threads.turn Calls.bump Calls.total Calls.always Calls.together Calls.closing Calls.onTurn Calls.run Calls.call Calls.calls acceptedThen Jobs.oneStepMore Jobs.threadedRead Jobs.spawnedRead Jobs.sevenMore Jobs.eightMore Lines.decimalIn Lines.decimal Lines.hexDigit Lines.hex Lines.w-refused Lines.w-at Lines.w-accepted Lines.w-done Lines.w-spent Lines.w-no-room Lines.w-number Lines.w-pair Lines.w-cell Lines.w-function Lines.w-limit Lines.w-grant Lines.space Lines.line Lines.typeKind Lines.valueKind Lines.handed Lines.refusedLine Lines.acceptedLine Lines.ranLine Lines.ranOf Lines.runLine Lines.runRead Lines.reported Lines.deskOf Lines.printed flatMap Jobs.example Jobs.asking Jobs.cellsFrom Jobs.nested Jobs.reckoning Jobs.sharing Jobs.keyedSharing numberLines Jobs.unkeyedRead Jobs.limitedRead Jobs.everyCommand Jobs.unscoped isRead told ranFrom started Loading.unless Loading.inTree Loading.loading Starting.startLoaded Starting.starting Tree.predecessor Types.byType Types.onNum Types.onPair Types.onCell Types.onFn Types.onLim Types.onGrant Effects.setNames Effects.setTouch Effects.setBelow Effects.setReduced Effects.setReduce Effects.setDrop Effects.setRaise
 marked =
     record {
       bits = refl;
@@ -202,6 +219,12 @@ marked =
       share-keyed-by = refl;
       share-refused-by = refl;
       share-denied-by = refl;
+      same-round = refl;
+      next-round = refl;
+      spawn-refused = refl;
+      spawn-denied = refl;
+      eight-threads = refl;
+      ninth-thread = refl;
       unkeyed-done = refl;
       limited-refused = refl;
       limited-denied = refl;

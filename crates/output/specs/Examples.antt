@@ -3,12 +3,14 @@ use mathlib.Core.Path.{_≡_, refl, ap}
 use Prim.Native.Nat.{ℕ}
 use mathlib.Core.Bool.{true, false}
 use mathlib.Core.List.{List, [], _∷_}
+use mathlib.Core.Option.{Option, some}
 use Rattle.order.specs.Order.{onUpper, belowIn, below}
 use Rattle.order.specs.Sets.{members, membersFrom, consIf, keep, some-of}
 use Rattle.order.specs.Effects.{setNames, names, ofWord}
 use Rattle.syntax.specs.Types.{Ty, num, pair, cell, fn, lim, grant, byType, onCell}
 use Rattle.syntax.specs.Job.{HostValue, Src, uppers}
-use Rattle.semantics.specs.Machine.{Kind, k-num, k-pair, k-fn, k-cell, k-lim, k-grant, Control, hand, Machine}
+use Rattle.semantics.specs.Machine.{Kind, k-num, k-pair, k-fn, k-cell, k-lim, k-grant, Value, System}
+use Rattle.semantics.specs.Threads.{valueOf}
 use Rattle.semantics.specs.Calls.{finished, spent, noroom}
 use Rattle.output.specs.Lines.{
   decimalIn,
@@ -69,15 +71,15 @@ type-kinds = (refl, refl, refl, refl, refl, refl)
 
 -- `spent 100000`, `no room 41`
 pub run-lines :
-    (m : Machine) →
+    (m : System) →
     (ranLine spent 100000 m ≡ 0x73 ∷ 0x70 ∷ 0x65 ∷ 0x6E ∷ 0x74 ∷ 0x20 ∷ 0x31 ∷ 0x30 ∷ 0x30 ∷ 0x30 ∷ 0x30 ∷ 0x30 ∷ 0x0A ∷ [])
     × (ranLine noroom 41 m ≡ 0x6E ∷ 0x6F ∷ 0x20 ∷ 0x72 ∷ 0x6F ∷ 0x6F ∷ 0x6D ∷ 0x20 ∷ 0x34 ∷ 0x31 ∷ 0x0A ∷ [])
 unfolding decimalIn decimal w-spent w-no-room space line ranLine
 run-lines m = (refl, refl)
 
--- a machine that hands on a value of kind k prints these bytes after n steps
+-- a machine whose job has a value of kind k prints these bytes after n steps
 pub record Prints (n : ℕ) (k : Kind) (bytes : List ℕ) : Type 0 where
-  pub prints : (m : Machine) (q : ℕ) → m .thread .control ≡ hand (record { key = q; kind = k }) → ranLine finished n m ≡ bytes
+  pub prints : (m : System) (q : ℕ) → valueOf m ≡ some (record { key = q; kind = k }) → ranLine finished n m ≡ bytes
 
 -- `done 3 number 7`, `done 12 number 4294967295`, `done 3 pair`, `done 3 cell`, `done 3 function`, `done 3 limit`, `done 3 grant`
 pub done-lines :
@@ -100,7 +102,7 @@ done-lines = (
 )
   where
     at : (n : ℕ) (k : Kind) → Prints n k (line (space w-done (space (decimal n) (valueKind k))))
-    at n k = record { prints = λ m q e. ap (λ (c : Control). line (space w-done (space (decimal n) (handed c)))) e }
+    at n k = record { prints = λ m q e. ap (λ (o : Option Value). line (space w-done (space (decimal n) (handed o)))) e }
 
 -- ` 2  1 yes   1`, `63 10 no   64`: the narrowest numbers and the widest
 pub sheet-lines :

@@ -2,6 +2,7 @@
 use Prim.Native.Nat.{ℕ, zero, suc, _+_, _/_, _%_}
 use mathlib.Core.Bool.{cond}
 use mathlib.Core.List.{List, [], _∷_, _++_}
+use mathlib.Core.Option.{Option, none, some}
 use lib.ListN.{take}
 use lib.Dec.{ltb}
 use Rattle.order.specs.Effects.{Effect}
@@ -10,9 +11,10 @@ use Rattle.syntax.specs.Job.{Src, sourceOf}
 use Rattle.syntax.specs.Operands.{nth}
 use Rattle.syntax.specs.Reading.{Refusal, Read, refused, read, reading}
 use Rattle.typing.specs.Verdict.{Verdict, accept, refuse, verdictOf}
-use Rattle.semantics.specs.Machine.{Kind, k-num, k-pair, k-fn, k-cell, k-lim, k-grant, Control, enter, hand, Machine}
+use Rattle.semantics.specs.Machine.{Kind, k-num, k-pair, k-fn, k-cell, k-lim, k-grant, Value, System}
 use Rattle.semantics.specs.Start.{startOf}
-use Rattle.semantics.specs.Calls.{Answer, taken, finished, spent, noroom, stuck, denied, Ran, stepsOf, run}
+use Rattle.semantics.specs.Threads.{stepsOf, valueOf}
+use Rattle.semantics.specs.Calls.{Answer, taken, finished, spent, noroom, stuck, denied, Ran, total, run-of, call}
 
 -- a number in decimal, no leading zeros; at most so many digits
 unfoldable pub decimalIn : ℕ → ℕ → List ℕ
@@ -93,9 +95,9 @@ valueKind (k-cell c) = w-cell
 valueKind (k-lim k) = w-limit
 valueKind (k-grant k) = w-grant
 
-unfoldable pub handed : Control → List ℕ
-handed (enter e) = []
-handed (hand v) = valueKind (v .kind)
+unfoldable pub handed : Option Value → List ℕ
+handed none = []
+handed (some v) = valueKind (v .kind)
 
 -- "`refused N at P`"
 unfoldable pub refusedLine : Refusal → List ℕ
@@ -105,11 +107,11 @@ refusedLine r = line (space w-refused (space (decimal (r .number)) (space w-at (
 unfoldable pub acceptedLine : Ty → Effect → List ℕ
 acceptedLine T s = line (space w-accepted (space (hex 16 (s .set)) (typeKind T)))
 
--- "`done`, steps, kind and, for a number, its value; or `spent 100000`, or `no room` and steps". No line is defined for stuck and denied: demand 3 says that an
+-- "`done`, steps, kind and, for a number, its value; or `spent 100000`, or `no room` and steps": the steps of all threads, and the job's value, which is thread 0's. No line is defined for stuck and denied: demand 3 says that an
 -- accepted job never needs one. A run is never taken, which is a step's answer.
-unfoldable pub ranLine : Answer → ℕ → Machine → List ℕ
+unfoldable pub ranLine : Answer → ℕ → System → List ℕ
 ranLine taken n m = []
-ranLine finished n m = line (space w-done (space (decimal n) (handed (m .thread .control))))
+ranLine finished n m = line (space w-done (space (decimal n) (handed (valueOf m))))
 ranLine spent n m = line (space w-spent (decimal n))
 ranLine noroom n m = line (space w-no-room (decimal n))
 ranLine stuck n m = []
@@ -120,10 +122,10 @@ abbrev pub most-steps : ℕ
 most-steps = 100000
 
 unfoldable pub ranOf : Ran → List ℕ
-ranOf r = ranLine (r .answer) (r .count) (r .machine)
+ranOf r = ranLine (r .answer) (total (r .counts)) (r .machine)
 
 unfoldable pub runLine : Src → List ℕ
-runLine S = ranOf (run (stepsOf (nth (S .cmds))) most-steps 0 (startOf S))
+runLine S = ranOf (call (stepsOf (nth (S .cmds))) (run-of most-steps) (startOf S))
 
 unfoldable pub runRead : Read → List ℕ
 runRead (refused r) = []

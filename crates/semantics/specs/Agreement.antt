@@ -12,11 +12,11 @@ use Rattle.order.specs.Effects.{Effect, pure, names, touch, join, drop, raise}
 use Rattle.order.specs.EffectLaws.{name-not-zero, pure-name, touch-name, touch-old, touch-cases, join-left, join-right, join-cases}
 use Rattle.syntax.specs.Types.{Ty, fn, lim, grant, byType, onNum, onPair, onCell, onFn, onLim, onGrant}
 use Rattle.syntax.specs.Types
-use Rattle.syntax.specs.Commands.{Cmd, c-num, c-top, c-var, c-pair, c-part, c-fn, c-app, c-new, c-asg, c-read, c-sum, c-test, c-lim, c-grant, c-newkey, c-assoc, c-access, c-divide}
+use Rattle.syntax.specs.Commands.{Cmd, c-num, c-top, c-var, c-pair, c-part, c-fn, c-app, c-new, c-asg, c-read, c-sum, c-test, c-lim, c-grant, c-newkey, c-assoc, c-access, c-divide, c-spawn}
 use Rattle.syntax.specs.Operands.{evaluated}
 use Rattle.syntax.specs.Job.{Src, upOf}
 use Rattle.syntax.specs.Tree.{Entry, e-var, e-name, keyPair}
-use Rattle.typing.specs.Rules.{codeOf, Has, h-num, h-top, h-var, h-pair, h-part1, h-part2, h-fn, h-app, h-new, h-asg, h-read, h-sum, h-test, h-lim, h-grant, h-newkey, h-assoc, h-access, h-divide, h-sub, HasKeys, k-nil, k-cons}
+use Rattle.typing.specs.Rules.{codeOf, Has, h-num, h-top, h-var, h-pair, h-part1, h-part2, h-fn, h-app, h-new, h-asg, h-read, h-sum, h-test, h-lim, h-grant, h-newkey, h-assoc, h-access, h-divide, h-spawn, h-sub, HasKeys, k-nil, k-cons}
 use Rattle.semantics.specs.Wants.{Want, anything, a-number, a-pair, a-function, a-cell, a-limit, a-grant, read, Use, touches, alike, wantsOf, holds, isTouched}
 
 -- a type is of the kind wanted
@@ -68,6 +68,7 @@ pub data Brings (S : Src) (Γ : List Entry) : Cmd Ty → List Ty → Effect → 
   b-assoc : {a b : ℕ} {As : List Ty} → Brings S Γ (c-assoc a b) As pure
   b-access : {a b c q r : ℕ} {B C T : Ty} {t u : Effect} {As : List Ty} → Has S Γ b B t → Has S Γ c C u → Brings S Γ (c-access a b c T) (lim q r ∷ As) (join (drop (upOf S) r t) u)
   b-divide : {a b : ℕ} {As : List Ty} → Brings S Γ (c-divide a b) As pure
+  b-spawn : {b : ℕ} {As : List Ty} → Brings S Γ (c-spawn b) As pure
 
 -- the name is in one of the effects
 pub data InOne (n : ℕ) : List Effect → Type 0 where
@@ -110,6 +111,7 @@ bySub (h-newkey c w h u v f i p) = false
 bySub (h-assoc c h i) = false
 bySub (h-access c w h i j p q) = false
 bySub (h-divide c h i) = false
+bySub (h-spawn c h) = false
 bySub (h-sub h p w q x) = true
 
 -- Names in the effects that the rules write
@@ -241,4 +243,5 @@ touched-exactly (h-newkey {q = q} {s = s} c w h u v f i p) z = rw c (by-act (op-
 touched-exactly (h-assoc {q = q} {A = A} {s = s} {t = t} c h i) z = rw c (by-act (op-cons h (op-cons i op-nil)) refl b-assoc (touching (Types.keyOf A) (touching q (joining s t (alone t)))))
 touched-exactly (h-access {q = q} {s = s} c w h i j p r) z = rw c (by-act (op-cons h op-nil) refl (b-access i j) (touching q (and-body s _ (alone s))))
 touched-exactly (h-divide {p = p} {q = q} {s = s} {t = t} c h i) z = rw c (by-act (op-cons h (op-cons i op-nil)) refl b-divide (touching p (touching q (joining s t (alone t)))))
+touched-exactly (h-spawn c h) z = rw c (by-act op-nil refl b-spawn nothing)
 touched-exactly (h-sub h p w q x) z = absurd (false≢true (sym z))

@@ -101,6 +101,7 @@ after m c env on fs ps =
     record {
       thread = record { control = c; env = env; on = on; frames = fs };
       store = record { cells = m .store .cells; keys = m .store .keys; pairs = ps; functions = m .store .functions; bindings = m .store .bindings };
+      threads = m .threads;
     }
 
 -- the new pair t is handed on, with no key; the frame f is popped, and its own bindings and enabled keys are back

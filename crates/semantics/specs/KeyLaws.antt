@@ -25,7 +25,7 @@ use Rattle.typing.specs.Rules.{h-num}
 use Rattle.semantics.specs.Machine.{k-lim, Value, Frame, Control, enter, hand, Machine}
 use Rattle.semantics.specs.Keys.{enabled, upto, narrow, add}
 use Rattle.semantics.specs.Step.{Out, o-step, o-done, o-room, o-stuck, o-denied, entering, withFrames, step}
-use Rattle.semantics.specs.Start.{named, keyNamed, startOf}
+use Rattle.semantics.specs.Start.{named, keyNamed, firstThread, firstStore, startOf}
 use Rattle.semantics.specs.Invariant.{On, on-zero, on-key}
 use Rattle.semantics.specs.Enabled.{mem-upto, enabled-on}
 use Rattle.semantics.specs.Begin.{start-ok}
@@ -142,7 +142,7 @@ idle : Src → Src
 idle S = record { names = S .names; values = S .values; rights = pure; cmds = c-num 0 ∷ [] }
 
 pub start-proper : (S : Src) → WellRead S → Proper (named S .keys)
-unfolding idle startOf named nth root predecessor
+unfolding idle startOf firstThread firstStore named nth root predecessor
 start-proper S wr = start-ok (idle S) quiet (h-num {n = 0} last) eff-pure .keys .proper
   where
     quiet : WellRead (idle S)
@@ -152,8 +152,8 @@ start-proper S wr = start-ok (idle S) quiet (h-num {n = 0} last) eff-pure .keys 
     last = refl
 
 pub start-exactly : (S : Src) → WellRead S → (k : ℕ)
-    → (enabled (named S .keys) (startOf S .thread .on) k ≡ true) ↔ ((k ≡ 0) ⊎ ((n : ℕ) × List·Memᴰ n (names (S .rights)) × Below (named S .keys) k (keyNamed S n)))
-unfolding startOf
+    → (enabled (named S .keys) (firstThread S .on) k ≡ true) ↔ ((k ≡ 0) ⊎ ((n : ℕ) × List·Memᴰ n (names (S .rights)) × Below (named S .keys) k (keyNamed S n)))
+unfolding firstThread
 start-exactly S wr k = (λ e. to (enabled-from (named S .keys) on k e), from)
   where
     on : ℕ

@@ -11,7 +11,7 @@ use lib.ListN.{length, getElem?}
 use Rattle.order.specs.Bools.{and-l, and-r}
 use Rattle.order.specs.Effects.{Effect}
 use Rattle.syntax.specs.Types.{Ty, num, pair, cell, fn, lim, grant, byType, onCell, onFn, onGrant, onLim, onNum, onPair}
-use Rattle.syntax.specs.Commands.{Cmd, c-num, c-top, c-var, c-pair, c-part, c-fn, c-app, c-new, c-asg, c-read, c-sum, c-test, c-lim, c-grant, c-newkey, c-assoc, c-access, c-divide}
+use Rattle.syntax.specs.Commands.{Cmd, c-num, c-top, c-var, c-pair, c-part, c-fn, c-app, c-new, c-asg, c-read, c-sum, c-test, c-lim, c-grant, c-newkey, c-assoc, c-access, c-divide, c-spawn}
 use Rattle.syntax.specs.Operands.{evaluated}
 use Rattle.syntax.specs.Job.{Src, upOf}
 use Rattle.typing.specs.Least.{Typed, typed, untyped, with, wantNum, wantPair, wantCell, wantFn, wantLim, wantGrant, require, isUpper, varType, ofVar, keysAt, typeAt}
@@ -45,7 +45,7 @@ unfolding ofVar
 no-variable none h = refl
 no-variable (some T) h = no-number h
 
--- refusals 12 and 13 are not 11
+-- refusals 12, 13 and 16 are not 11
 no-other : {A : Type 0} (n : ℕ) → n ≢ 11 → (b : Bool) {t : Typed} → (t ≡ untyped 11 → A) → require n b t ≡ untyped 11 → A
 unfolding require
 no-other n d true f h = f h
@@ -148,3 +148,4 @@ module _ (S : Src) (ty : ℕ → Ty) (ef : ℕ → Effect) (s : Store) where
   wrong-is-11 (c-assoc x y) (of-cons k (of-cons l o)) a e = lim-is s l (and-l _ _ (and-r _ _ a)) _ (λ q r i z. no-number z) e
   wrong-is-11 (c-access x y z T) (of-cons k o) a e = lim-is s k (and-l _ _ a) _ (λ q r i w. no-12 _ (no-12 _ no-number) w) e
   wrong-is-11 (c-divide x y) (of-cons k (of-cons l o)) a e = num-is s k (and-l _ _ a) _ (λ p c z. num-is s l (and-l _ _ (and-r _ _ a)) _ (λ q d y. no-number y) z) e
+  wrong-is-11 (c-spawn b) o a e = no-other 16 (λ w. omega arith) _ no-number e

@@ -23,12 +23,12 @@ use Rattle.syntax.specs.Tree.{Entry, e-var, e-name, keyPair}
 use Rattle.typing.specs.Subtype.{Sub}
 use Rattle.typing.specs.FreeNames.{Free}
 use Rattle.typing.specs.Scoped.{scoped-free}
-use Rattle.typing.specs.Rules.{Has, h-num, h-top, h-var, h-pair, h-part1, h-part2, h-fn, h-app, h-new, h-asg, h-read, h-sum, h-test, h-lim, h-grant, h-newkey, h-assoc, h-access, h-divide, h-sub, HasKeys, k-nil, k-cons, Fresh, codeOf}
+use Rattle.typing.specs.Rules.{Has, h-num, h-top, h-var, h-pair, h-part1, h-part2, h-fn, h-app, h-new, h-asg, h-read, h-sum, h-test, h-lim, h-grant, h-newkey, h-assoc, h-access, h-divide, h-spawn, h-sub, HasKeys, k-nil, k-cons, Fresh, codeOf}
 use Rattle.semantics.specs.Machine.{Kind, k-num, k-pair, k-fn, k-lim, k-grant, Value, unkeyed, Bind, b-var, b-name, Link, Frame, Control, hand, Thread, Store, Machine, most-bindings}
 use Rattle.semantics.specs.Keys.{enabled, add}
 use Rattle.semantics.specs.Step
 use Rattle.semantics.specs.Step.{Out, o-step, o-done, o-room, Plan, p-done, p-try, room, touchAll, settle, asNum, asPair, asFn, asCell, asLim, asGrant, found, bare, one, two}
-use Rattle.semantics.specs.Step.{makesPair, actPair, partOf, actPart, actFn, actApp, actNew, actAsg, actRead, actSum, branch, actTest, limitKeys, keysOf, actLim, actGrant, makeKey, actNewkey, actAssoc, actAccess, actDivide}
+use Rattle.semantics.specs.Step.{makesPair, actPair, partOf, actPart, actFn, actApp, actNew, actAsg, actRead, actSum, branch, actTest, limitKeys, keysOf, actLim, actGrant, makeKey, actNewkey, actAssoc, actAccess, actDivide, actSpawn}
 use Rattle.semantics.specs.Step.{variable, push, act, enterAt, enterCmd, receive, handTo, planOn, plan, step}
 use Rattle.semantics.specs.RuntimeTypes.{RTy, rnum, rpair, rcell, rfn, rlim, rgrant, Under, RSub, r-num, r-pair, r-cell, r-fn, r-lim, r-grant, rkey, rrekey, inst, rsub-refl, rsub-trans, rsub-key, rsub-rekey, inst-rekey, inst-key, under-refl}
 use Rattle.semantics.specs.Chains.{look, lookVar, Chain, ch-cons, chain-le, chain-seek, chain-wider, seam, seam-next, length-two}
@@ -111,17 +111,17 @@ val k x = record { key = k; kind = x }
 
 -- everything below is about one store that is well typed
 module _ (S : Src) (σ : Store) (pt : List TwoTy) (ft : List FnTy) (ct : List RTy) (ko : KeysOk (σ .keys)) (few : length (σ .bindings) ≤ most-bindings)
-    (st : StoreOk S (worldOf pt ft ct σ) (σ .cells) (σ .pairs) (σ .functions)) where
+    (st : StoreOk S (worldOf pt ft ct σ) (σ .cells) (σ .pairs) (σ .functions)) (ts : List Thread) where
   abbrev W : World
   W = worldOf pt ft ct σ
 
-  step-ok : {t : Thread} → ThreadOk S W (t .control) (t .env) (t .on) (t .frames) → Good S W (o-step (record { thread = t; store = σ }))
+  step-ok : {t : Thread} {us : List Thread} → ThreadOk S W (t .control) (t .env) (t .on) (t .frames) → Good S W (o-step (record { thread = t; store = σ; threads = us }))
   step-ok h = g-step (record { pt = pt; ft = ft; ct = ct; keys = ko; few = few; store = st; thread = h }) (ext-refl W)
 
   -- a machine of one thread over the store
   module _ (θ : Thread) where
     abbrev m : Machine
-    m = record { thread = θ; store = σ }
+    m = record { thread = θ; store = σ; threads = ts }
 
     abbrev OnHere : ℕ → Type 0
     OnHere k = On (σ .keys) (members (θ .on)) k
@@ -193,7 +193,7 @@ module _ (S : Src) (σ : Store) (pt : List TwoTy) (ft : List FnTy) (ct : List RT
 
     enter-ok : {a : ℕ} {E : List Bind} {Γ : List Entry} {T : Ty} {n : Effect}
         → Envs E Γ → Has S Γ a T n → CoversHere E n → Stack (inst (look E) T) → Sure S W (enterCmd a (codeOf S a) m)
-    unfolding enterCmd enterAt evaluated act bare inst
+    unfolding enterCmd enterAt evaluated act bare actSpawn inst
     enter-ok o (h-num c) v k = rw c (sure-try no-key (λ z. step-ok (to-hand (record { exact = rnum 0; typ = t-num; sub = r-num bot }) k)))
     enter-ok o (h-top c) v k = let p : 0 < 1 = omega arith in rw c (sure-try no-key (λ z. step-ok (to-hand (record { exact = rlim 0 1; typ = t-lim p; sub = rw (env-one (o .ok)) (r-lim bot) }) k)))
     enter-ok o (h-var c l) v k = let z = env-lookup (o .ok) l in rw c (var-ok _ o (z .1) (z .2) k)
@@ -250,6 +250,7 @@ module _ (S : Src) (σ : Store) (pt : List TwoTy) (ft : List FnTy) (ct : List RT
         let w = covers-old q (join s t) u in
         rw c (push-ok _ c o x (covers-join-l s t w) kb-refl
         (fo-divide1 o y (covers-join-r s t w) (covers-touch (env-zero (o .ok)) p _ v) (covers-touch (env-zero (o .ok)) q (join s t) u)) (stack-sub (r-pair bot (r-num bot) (r-num bot)) k))
+    enter-ok o (h-spawn c x) v k = rw c (sure-try no-key (λ z. step-ok (to-hand (record { exact = rnum 0; typ = t-num; sub = r-num bot }) k)))
     enter-ok o (h-sub d x p u i) v k = enter-ok o d (covers-below ko (o .ok) v u) (stack-sub (env-sub (o .ok) x) k)
 
     part1-ok : {k q : ℕ} {x : Kind} {X A B : RTy} → RSub (σ .keys) X (rpair q A B) → Typ W k x X → OnHere q → Stack A → Sure S W (actPart true (val k x) m)
@@ -517,7 +518,7 @@ module _ (S : Src) (σ : Store) (pt : List TwoTy) (ft : List FnTy) (ct : List RT
         at i w false z = rw z (on-ext wx (c i w (eqb-false i r z)))
 
   abbrev machine : Thread → Machine
-  machine θ = record { thread = θ; store = σ }
+  machine θ = record { thread = θ; store = σ; threads = ts }
 
   abbrev frame : ℕ → ℕ → ℕ → List Value → Frame
   frame at e on h = record { at = at; env = e; on = on; hand = h }
@@ -584,4 +585,4 @@ module _ (S : Src) (σ : Store) (pt : List TwoTy) (ft : List FnTy) (ct : List RT
 
 pub sound : (S : Src) (m : Machine) (k : Ok S m) → Good S (worldOf (k .pt) (k .ft) (k .ct) (m .store)) (step (codeOf S) m)
 unfolding step plan
-sound S m o = settled (thread-ok S (m .store) (o .pt) (o .ft) (o .ct) (o .keys) (o .few) (o .store) (m .thread) (o .thread))
+sound S m o = settled (thread-ok S (m .store) (o .pt) (o .ft) (o .ct) (o .keys) (o .few) (o .store) (m .threads) (m .thread) (o .thread))

@@ -8,9 +8,9 @@ use lib.ListN.{length, getElem?, set}
 use lib.Dec.{eqb, ltb}
 use Rattle.order.specs.Bools.{_and_}
 use Rattle.syntax.specs.Operands.{evaluated}
-use Rattle.syntax.specs.Commands.{Cmd, c-num, c-top, c-var, c-pair, c-part, c-fn, c-app, c-new, c-asg, c-read, c-sum, c-test, c-lim, c-grant, c-newkey, c-assoc, c-access, c-divide}
-use Rattle.semantics.specs.Machine.{Kind, k-num, k-pair, k-fn, k-cell, k-lim, k-grant, Value, unkeyed, Two, Bind, b-var, b-name, Link, Closure, KeySet, Frame, Control, enter, hand, Machine}
-use Rattle.semantics.specs.Machine.{most-number, most-cells, most-keys, most-pairs, most-functions, most-frames, most-bindings}
+use Rattle.syntax.specs.Commands.{Cmd, c-num, c-top, c-var, c-pair, c-part, c-fn, c-app, c-new, c-asg, c-read, c-sum, c-test, c-lim, c-grant, c-newkey, c-assoc, c-access, c-divide, c-spawn}
+use Rattle.semantics.specs.Machine.{Kind, k-num, k-pair, k-fn, k-cell, k-lim, k-grant, Value, unkeyed, Two, Bind, b-var, b-name, Link, Closure, KeySet, Frame, Control, enter, hand, Thread, Machine}
+use Rattle.semantics.specs.Machine.{most-number, most-cells, most-keys, most-pairs, most-functions, most-frames, most-bindings, most-threads}
 use Rattle.semantics.specs.Keys.{enabled, narrow, add}
 
 -- what a step comes to: the machine after it, or why it is not taken
@@ -20,29 +20,32 @@ pub data Out : Type 0 where
 
 -- the machine with a new control
 abbrev pub handing : Value → Machine → Machine
-handing v m = record { thread = record { control = hand v; env = m .thread .env; on = m .thread .on; frames = m .thread .frames }; store = m .store }
+handing v m = record { thread = record { control = hand v; env = m .thread .env; on = m .thread .on; frames = m .thread .frames }; store = m .store; threads = m .threads }
 
 abbrev pub entering : ℕ → ℕ → KeySet → Machine → Machine
-entering e env on m = record { thread = record { control = enter e; env = env; on = on; frames = m .thread .frames }; store = m .store }
+entering e env on m = record { thread = record { control = enter e; env = env; on = on; frames = m .thread .frames }; store = m .store; threads = m .threads }
 
 -- the parts of the store that a step changes
 abbrev pub withCells : Machine → List Value → Machine
-withCells m x = record { thread = m .thread; store = record { cells = x; keys = m .store .keys; pairs = m .store .pairs; functions = m .store .functions; bindings = m .store .bindings } }
+withCells m x = record { thread = m .thread; store = record { cells = x; keys = m .store .keys; pairs = m .store .pairs; functions = m .store .functions; bindings = m .store .bindings }; threads = m .threads }
 
 abbrev pub withKeys : Machine → List ℕ → Machine
-withKeys m x = record { thread = m .thread; store = record { cells = m .store .cells; keys = x; pairs = m .store .pairs; functions = m .store .functions; bindings = m .store .bindings } }
+withKeys m x = record { thread = m .thread; store = record { cells = m .store .cells; keys = x; pairs = m .store .pairs; functions = m .store .functions; bindings = m .store .bindings }; threads = m .threads }
 
 abbrev pub withPairs : Machine → List Two → Machine
-withPairs m x = record { thread = m .thread; store = record { cells = m .store .cells; keys = m .store .keys; pairs = x; functions = m .store .functions; bindings = m .store .bindings } }
+withPairs m x = record { thread = m .thread; store = record { cells = m .store .cells; keys = m .store .keys; pairs = x; functions = m .store .functions; bindings = m .store .bindings }; threads = m .threads }
 
 abbrev pub withFunctions : Machine → List Closure → Machine
-withFunctions m x = record { thread = m .thread; store = record { cells = m .store .cells; keys = m .store .keys; pairs = m .store .pairs; functions = x; bindings = m .store .bindings } }
+withFunctions m x = record { thread = m .thread; store = record { cells = m .store .cells; keys = m .store .keys; pairs = m .store .pairs; functions = x; bindings = m .store .bindings }; threads = m .threads }
 
 abbrev pub withBindings : Machine → List Link → Machine
-withBindings m x = record { thread = m .thread; store = record { cells = m .store .cells; keys = m .store .keys; pairs = m .store .pairs; functions = m .store .functions; bindings = x } }
+withBindings m x = record { thread = m .thread; store = record { cells = m .store .cells; keys = m .store .keys; pairs = m .store .pairs; functions = m .store .functions; bindings = x }; threads = m .threads }
 
 abbrev pub withFrames : Machine → List Frame → Machine
-withFrames m x = record { thread = record { control = m .thread .control; env = m .thread .env; on = m .thread .on; frames = x }; store = m .store }
+withFrames m x = record { thread = record { control = m .thread .control; env = m .thread .env; on = m .thread .on; frames = x }; store = m .store; threads = m .threads }
+
+abbrev pub withThreads : Machine → List Thread → Machine
+withThreads m x = record { thread = m .thread; store = m .store; threads = x }
 
 -- a step before its keys and its room are tested
 pub data Plan : Type 0 where
@@ -260,6 +263,14 @@ actDivide v w m =
     found (asNum (v .kind)) (λ a. found (asNum (w .kind)) (λ b.
     makesPair (v .key ∷ w .key ∷ []) (unkeyed (k-num (quotient a b))) (unkeyed (k-num (remainder a b))) m))
 
+-- 0x42: "The new thread has the bindings in force and no enabled keys." It has no frame, and enters the body (b) first.
+abbrev pub fresh : ℕ → ℕ → Thread
+fresh b env = record { control = enter b; env = env; on = 0; frames = [] }
+
+-- "Entering it starts the thread and hands on that 0 in one step, without a frame."
+unfoldable pub actSpawn : ℕ → Machine → Plan
+actSpawn b m = p-try [] (ltb (length (m .threads)) most-threads) m (handing (unkeyed (k-num 0)) (withThreads m (m .threads ++ (fresh b (m .thread .env) ∷ []))))
+
 -- "pushes one frame and enters the first operand"
 unfoldable pub push : ℕ → ℕ → Machine → Plan
 push e a m =
@@ -287,8 +298,9 @@ module _ {T : Type 0} where
   act (c-assoc a b) h m = two h (λ v w. actAssoc v w m)
   act (c-access a b c t) h m = one h (λ v. actAccess b c v m)
   act (c-divide a b) h m = two h (λ v w. actDivide v w m)
+  act (c-spawn b) h m = bare h (actSpawn b m)
 
-  -- entering an expression with no operand to evaluate is its act: 0x30, 0x31, 0x32, 0x35, and "3C with no keys pushes none and enters its body with no key enabled"
+  -- entering an expression with no operand to evaluate is its act: 0x30, 0x31, 0x32, 0x35, 0x42, and "3C with no keys pushes none and enters its body with no key enabled"
   unfoldable pub enterAt : ℕ → List ℕ → Cmd T → Machine → Plan
   enterAt e [] k m = act k [] m
   enterAt e (a ∷ l) k m = push e a m
@@ -298,7 +310,7 @@ module _ {T : Type 0} where
 
 -- the frame's own bindings and enabled keys are brought back
 abbrev pub resume : Frame → List Frame → Machine → Machine
-resume f fs m = record { thread = record { control = m .thread .control; env = f .env; on = f .on; frames = fs }; store = m .store }
+resume f fs m = record { thread = record { control = m .thread .control; env = f .env; on = f .on; frames = fs }; store = m .store; threads = m .threads }
 
 abbrev pub holding : Frame → List Value → Frame
 holding f h = record { at = f .at; env = f .env; on = f .on; hand = h }

@@ -13,18 +13,18 @@ use borrow.Author.Tests.{ltb-true, ltb-false, lt-ltb, le-ltb}
 use Rattle.order.specs.Bools.{_and_, _or_}
 use Rattle.order.specs.Sets.{some-of}
 use Rattle.order.specs.Sets
-use Rattle.syntax.specs.Commands.{Cmd, c-num, c-top, c-var, c-pair, c-part, c-fn, c-app, c-new, c-asg, c-read, c-sum, c-test, c-lim, c-grant, c-newkey, c-assoc, c-access, c-divide}
+use Rattle.syntax.specs.Commands.{Cmd, c-num, c-top, c-var, c-pair, c-part, c-fn, c-app, c-new, c-asg, c-read, c-sum, c-test, c-lim, c-grant, c-newkey, c-assoc, c-access, c-divide, c-spawn}
 use Rattle.syntax.specs.Operands.{evaluated}
 use Rattle.syntax.specs.Operands
-use Rattle.semantics.specs.Machine.{Kind, k-num, k-pair, k-fn, k-cell, k-lim, k-grant, Value, Frame, Control, enter, hand, Thread, Store, Machine, most-cells, most-keys, most-pairs, most-functions, most-frames, most-bindings}
+use Rattle.semantics.specs.Machine.{Kind, k-num, k-pair, k-fn, k-cell, k-lim, k-grant, Value, Frame, Control, enter, hand, Thread, Store, Machine, most-cells, most-keys, most-pairs, most-functions, most-frames, most-bindings, most-threads}
 use Rattle.semantics.specs.Keys.{enabled}
 use Rattle.semantics.specs.Step
 use Rattle.semantics.specs.Step.{Out, o-step, o-done, o-room, o-stuck, o-denied, Plan, p-done, p-wrong, p-try, room, touchAll, settle, onKind, other, asNum, asPair, asFn, asCell, asLim, asGrant, found, bare, one, two}
-use Rattle.semantics.specs.Step.{seek, variable, actPair, actPart, actFn, actApp, actNew, actAsg, actRead, actSum, actTest, limitKeys, keysOf, actLim, actGrant, makeKey, actNewkey, actAssoc, actAccess, actDivide}
+use Rattle.semantics.specs.Step.{seek, variable, actPair, actPart, actFn, actApp, actNew, actAsg, actRead, actSum, actTest, limitKeys, keysOf, actLim, actGrant, makeKey, actNewkey, actAssoc, actAccess, actDivide, actSpawn}
 use Rattle.semantics.specs.Step.{push, act, enterAt, enterCmd, receive, handTo, planOn, plan, step}
 use Rattle.semantics.specs.Room.{doneAt, isDone, lacking, anyLacking}
 use Rattle.semantics.specs.Wants.{Use, read, write, read-and-write, takes, touches, anything, a-number, a-pair, a-function, a-cell, a-limit, a-grant, alike, wantsOf, holds, isThere, byKind, yes, no, suits, suit, isTouched, touchedIn, touched, acting, toEnter, toReceive, toHand, needsOn, needs, wrong, shut, lacks, Stuck, Denied, NoRoom, Ready}
-use Rattle.semantics.specs.Calls.{Steps, stepsOf}
+use Rattle.semantics.specs.Threads.{Steps, stepsOf}
 
 -- done, wrong, shut and lacking, in this order, against an outcome
 pub data Exact : Bool → Bool → Bool → Bool → Out → Type 0 where
@@ -42,14 +42,14 @@ pub record Exactly (K : Steps) : Type 0 where
 pub data ExactPlan (s : Store) (on : ℕ) : Bool → Bool → List ℕ → Bool → Plan → Type 0 where
   xp-done : ExactPlan s on true false [] false p-done
   xp-wrong : {ks : List ℕ} {l : Bool} → ExactPlan s on false true ks l p-wrong
-  xp-try : {ks : List ℕ} {l : Bool} {t : Thread} {free : Bool} {n : Machine} → t .on ≡ on → l ≡ not free
-      → ExactPlan s on false false ks l (p-try ks free (record { thread = t; store = s }) n)
+  xp-try : {ks : List ℕ} {l : Bool} {t : Thread} {ts : List Thread} {free : Bool} {n : Machine} → t .on ≡ on → l ≡ not free
+      → ExactPlan s on false false ks l (p-try ks free (record { thread = t; store = s; threads = ts }) n)
 
 settle-exact : {s : Store} {on : ℕ} {d w l : Bool} {ks : List ℕ} {p : Plan} → ExactPlan s on d w ks l p → Exact d w (some-of (λ k. not (enabled (s .keys) on k)) ks) l (settle p)
 unfolding settle touchAll Step.touch room some-of
 settle-exact xp-done = ex-done
 settle-exact xp-wrong = ex-stuck
-settle-exact {s} (xp-try {ks = ks} {t = t} {free = free} {n = n} e f) = rw (sym e, f) (all ks)
+settle-exact {s} (xp-try {ks = ks} {t = t} {ts = ts} {free = free} {n = n} e f) = rw (sym e, f) (all ks)
   where
     last : (b : Bool) → Exact false false false (not b) (room b (o-step n))
     last true = ex-step
@@ -59,7 +59,7 @@ settle-exact {s} (xp-try {ks = ks} {t = t} {free = free} {n = n} e f) = rw (sym 
     at true h = h
     at false h = ex-denied
 
-    all : (ks : List ℕ) → Exact false false (some-of (λ k. not (enabled (s .keys) (t .on) k)) ks) (not free) (touchAll ks (record { thread = t; store = s }) (room free (o-step n)))
+    all : (ks : List ℕ) → Exact false false (some-of (λ k. not (enabled (s .keys) (t .on) k)) ks) (not free) (touchAll ks (record { thread = t; store = s; threads = ts }) (room free (o-step n)))
     all [] = last free
     all (k ∷ ks) = at (enabled (s .keys) (t .on) k) (all ks)
 
@@ -186,44 +186,45 @@ all-touched [] = refl
 all-touched (v ∷ vs) = rw (all-touched vs)
 
 module _ {T : Type 0} where
-  act-exact : (k : Cmd T) (h : List Value) (t u : Thread) (s : Store)
+  act-exact : (k : Cmd T) (h : List Value) (t u : Thread) (s : Store) (ts : List Thread)
       → ExactPlan s (t .on) false (not (acting k h (t .env) (t .on) s .suited)) (touched (acting k h (t .env) (t .on) s))
-      (anyLacking (acting k h (t .env) (t .on) s .places) (record { thread = u; store = s })) (act k h (record { thread = t; store = s }))
-  unfolding act acting wantsOf Operands.usesVar Sets.all-of touchedIn isTouched holds suits _and_ anyLacking lacking actPair actPart actFn actApp actNew actAsg actRead actSum actTest actLim actGrant makeKey actNewkey actAssoc actAccess actDivide variable found
-  act-exact (c-num n) h t u s = bare-exact true h _ (xp-try refl refl)
-  act-exact c-top h t u s = bare-exact true h _ (xp-try refl refl)
-  act-exact (c-var x) h t u s = bare-exact _ h _ (at (seek most-bindings (s .bindings) (t .env) x))
+      (anyLacking (acting k h (t .env) (t .on) s .places) (record { thread = u; store = s; threads = ts })) (act k h (record { thread = t; store = s; threads = ts }))
+  unfolding act acting wantsOf Operands.usesVar Sets.all-of touchedIn isTouched holds suits _and_ anyLacking lacking actPair actPart actFn actApp actNew actAsg actRead actSum actTest actLim actGrant makeKey actNewkey actAssoc actAccess actDivide actSpawn variable found
+  act-exact (c-num n) h t u s ts = bare-exact true h _ (xp-try refl refl)
+  act-exact c-top h t u s ts = bare-exact true h _ (xp-try refl refl)
+  act-exact (c-var x) h t u s ts = bare-exact _ h _ (at (seek most-bindings (s .bindings) (t .env) x))
     where
-      at : (o : Option Value) → ExactPlan s (t .on) false (not (cond (holds o (λ v. true)) true false)) [] false (found o (λ v. Step.gives [] v (record { thread = t; store = s })))
+      at : (o : Option Value) → ExactPlan s (t .on) false (not (cond (holds o (λ v. true)) true false)) [] false (found o (λ v. Step.gives [] v (record { thread = t; store = s; threads = ts })))
       at none = xp-wrong
       at (some v) = xp-try refl refl
-  act-exact (c-pair a b) h t u s = two-exact (takes anything) (takes anything) h _ (λ v w. xp-try refl (one-full (length (s .pairs)) most-pairs))
-  act-exact (c-part a i) h t u s = one-exact (touches read a-pair) h _ (λ v. rw (is-pair (v .kind) s) (found-exact (asPair (v .kind)) _ _ true (λ p. found-exact (getElem? (s .pairs) p) _ (λ x. true) true (λ x. xp-try refl refl))))
-  act-exact (c-fn x ty b) h t u s = bare-exact true h _ (xp-try refl (one-full (length (s .functions)) most-functions))
-  act-exact (c-app a b) h t u s = two-exact (touches read a-function) (takes anything) h _ (λ v w. rw (is-function (v .kind) s) (found-exact (asFn (v .kind)) _ _ true (λ p. found-exact (getElem? (s .functions) p) _ (λ x. true) true (λ x. xp-try refl (one-full (length (s .bindings)) most-bindings)))))
-  act-exact (c-new ty a) h t u s = one-exact (takes anything) h _ (λ v. xp-try refl (one-full (length (s .cells)) most-cells))
-  act-exact (c-asg a b) h t u s = two-exact (touches write a-cell) (takes anything) h _ (λ v w. rw (is-cell (v .kind) s) (found-exact (asCell (v .kind)) _ _ true (λ p. found-exact (getElem? (s .cells) p) _ (λ x. true) true (λ x. xp-try refl refl))))
-  act-exact (c-read a) h t u s = one-exact (touches read a-cell) h _ (λ v. rw (is-cell (v .kind) s) (found-exact (asCell (v .kind)) _ _ true (λ p. found-exact (getElem? (s .cells) p) _ (λ x. true) true (λ x. xp-try refl refl))))
-  act-exact (c-sum i a b) h t u s = two-exact (touches read a-number) (touches read a-number) h _ (λ v w. rw (is-number (v .kind) s) (found-exact (asNum (v .kind)) _ (λ x. true) _ (λ x. rw (is-number (w .kind) s) (found-exact (asNum (w .kind)) _ (λ y. true) true (λ y. xp-try refl refl)))))
-  act-exact (c-test a b c ty) h t u s = one-exact (touches read a-number) h _ (λ v. rw (is-number (v .kind) s) (found-exact (asNum (v .kind)) _ (λ x. true) true (λ n. xp-try refl refl)))
-  act-exact (c-lim ks b) h t u s = rw (all-touched h) (whole (suit (alike (length h) (touches read a-limit)) h s) (limits-exact h _ (λ js. xp-try refl refl)))
-  act-exact (c-grant a b) h t u s = one-exact (touches read a-grant) h _ (λ v. rw (is-grant (v .kind) s) (found-exact (asGrant (v .kind)) _ (λ x. true) true (λ j. xp-try refl refl)))
-  act-exact (c-newkey x r a b ty) h t u s = one-exact (touches read a-limit) h _ (λ v. rw (is-limit (v .kind) s) (found-exact (asLim (v .kind)) _ (λ x. true) true (λ j. xp-try refl (three-full (length (s .keys)) most-keys (length (s .pairs)) most-pairs (length (s .bindings)) most-bindings))))
-  act-exact (c-assoc a b) h t u s = two-exact (touches read-and-write anything) (touches read a-limit) h _ (λ v w. rw (is-limit (w .kind) s) (found-exact (asLim (w .kind)) _ (λ x. true) true (λ j. xp-try refl refl)))
-  act-exact (c-access a b c ty) h t u s = one-exact (touches read a-limit) h _ (λ v. rw (is-limit (v .kind) s) (found-exact (asLim (v .kind)) _ (λ x. true) true (λ j. xp-try refl refl)))
-  act-exact (c-divide a b) h t u s = two-exact (touches read a-number) (touches read a-number) h _ (λ v w. rw (is-number (v .kind) s) (found-exact (asNum (v .kind)) _ (λ x. true) _ (λ x. rw (is-number (w .kind) s) (found-exact (asNum (w .kind)) _ (λ y. true) true (λ y. xp-try refl (one-full (length (s .pairs)) most-pairs))))))
+  act-exact (c-pair a b) h t u s ts = two-exact (takes anything) (takes anything) h _ (λ v w. xp-try refl (one-full (length (s .pairs)) most-pairs))
+  act-exact (c-part a i) h t u s ts = one-exact (touches read a-pair) h _ (λ v. rw (is-pair (v .kind) s) (found-exact (asPair (v .kind)) _ _ true (λ p. found-exact (getElem? (s .pairs) p) _ (λ x. true) true (λ x. xp-try refl refl))))
+  act-exact (c-fn x ty b) h t u s ts = bare-exact true h _ (xp-try refl (one-full (length (s .functions)) most-functions))
+  act-exact (c-app a b) h t u s ts = two-exact (touches read a-function) (takes anything) h _ (λ v w. rw (is-function (v .kind) s) (found-exact (asFn (v .kind)) _ _ true (λ p. found-exact (getElem? (s .functions) p) _ (λ x. true) true (λ x. xp-try refl (one-full (length (s .bindings)) most-bindings)))))
+  act-exact (c-new ty a) h t u s ts = one-exact (takes anything) h _ (λ v. xp-try refl (one-full (length (s .cells)) most-cells))
+  act-exact (c-asg a b) h t u s ts = two-exact (touches write a-cell) (takes anything) h _ (λ v w. rw (is-cell (v .kind) s) (found-exact (asCell (v .kind)) _ _ true (λ p. found-exact (getElem? (s .cells) p) _ (λ x. true) true (λ x. xp-try refl refl))))
+  act-exact (c-read a) h t u s ts = one-exact (touches read a-cell) h _ (λ v. rw (is-cell (v .kind) s) (found-exact (asCell (v .kind)) _ _ true (λ p. found-exact (getElem? (s .cells) p) _ (λ x. true) true (λ x. xp-try refl refl))))
+  act-exact (c-sum i a b) h t u s ts = two-exact (touches read a-number) (touches read a-number) h _ (λ v w. rw (is-number (v .kind) s) (found-exact (asNum (v .kind)) _ (λ x. true) _ (λ x. rw (is-number (w .kind) s) (found-exact (asNum (w .kind)) _ (λ y. true) true (λ y. xp-try refl refl)))))
+  act-exact (c-test a b c ty) h t u s ts = one-exact (touches read a-number) h _ (λ v. rw (is-number (v .kind) s) (found-exact (asNum (v .kind)) _ (λ x. true) true (λ n. xp-try refl refl)))
+  act-exact (c-lim ks b) h t u s ts = rw (all-touched h) (whole (suit (alike (length h) (touches read a-limit)) h s) (limits-exact h _ (λ js. xp-try refl refl)))
+  act-exact (c-grant a b) h t u s ts = one-exact (touches read a-grant) h _ (λ v. rw (is-grant (v .kind) s) (found-exact (asGrant (v .kind)) _ (λ x. true) true (λ j. xp-try refl refl)))
+  act-exact (c-newkey x r a b ty) h t u s ts = one-exact (touches read a-limit) h _ (λ v. rw (is-limit (v .kind) s) (found-exact (asLim (v .kind)) _ (λ x. true) true (λ j. xp-try refl (three-full (length (s .keys)) most-keys (length (s .pairs)) most-pairs (length (s .bindings)) most-bindings))))
+  act-exact (c-assoc a b) h t u s ts = two-exact (touches read-and-write anything) (touches read a-limit) h _ (λ v w. rw (is-limit (w .kind) s) (found-exact (asLim (w .kind)) _ (λ x. true) true (λ j. xp-try refl refl)))
+  act-exact (c-access a b c ty) h t u s ts = one-exact (touches read a-limit) h _ (λ v. rw (is-limit (v .kind) s) (found-exact (asLim (v .kind)) _ (λ x. true) true (λ j. xp-try refl refl)))
+  act-exact (c-divide a b) h t u s ts = two-exact (touches read a-number) (touches read a-number) h _ (λ v w. rw (is-number (v .kind) s) (found-exact (asNum (v .kind)) _ (λ x. true) _ (λ x. rw (is-number (w .kind) s) (found-exact (asNum (w .kind)) _ (λ y. true) true (λ y. xp-try refl (one-full (length (s .pairs)) most-pairs))))))
+  act-exact (c-spawn b) h t u s ts = bare-exact true h _ (xp-try refl (one-full (length ts) most-threads))
 
   enter-exact : (e : ℕ) (l : List ℕ) (k : Cmd T) (m : Machine)
       → ExactPlan (m .store) (toEnter l k m .on) false (not (toEnter l k m .suited)) (touched (toEnter l k m)) (anyLacking (toEnter l k m .places) m) (enterAt e l k m)
   unfolding enterAt toEnter push anyLacking lacking acting touchedIn
-  enter-exact e [] k m = act-exact k [] (m .thread) (m .thread) (m .store)
+  enter-exact e [] k m = act-exact k [] (m .thread) (m .thread) (m .store) (m .threads)
   enter-exact e (a ∷ l) k m = xp-try refl (one-full (length (m .thread .frames)) most-frames)
 
 module _ {T : Type 0} (code : ℕ → Cmd T) where
   receive-exact : (o : Option ℕ) (f : Frame) (h : List Value) (fs : List Frame) (m : Machine)
       → let n = toReceive o (code (f .at)) f h m in ExactPlan (m .store) (n .on) false (not (n .suited)) (touched n) (anyLacking (n .places) m) (receive code o f h fs m)
   unfolding receive toReceive anyLacking acting touchedIn
-  receive-exact none f h fs m = act-exact (code (f .at)) h _ (m .thread) (m .store)
+  receive-exact none f h fs m = act-exact (code (f .at)) h _ (m .thread) (m .store) (m .threads)
   receive-exact (some a) f h fs m = xp-try refl refl
 
   pub on-exact : (c : Control) (m : Machine)

@@ -3,7 +3,7 @@
 use mathlib.Core.Path.{_≡_, refl, sym, ap, _∙_}
 use Prim.Native.Nat.{ℕ, zero, suc, _≤_}
 use native.Mathlib.Omega.{arith}
-use mathlib.Core.Bool.{Bool, true, false, cond, false≢true}
+use mathlib.Core.Bool.{Bool, true, false, false≢true}
 use mathlib.Core.List.{List, [], _∷_, _++_}
 use mathlib.Core.Option.{Option, none, some}
 use mathlib.Core.Logic.{_≢_}
@@ -12,81 +12,30 @@ use lib.Dec.{eqb, ltb}
 use borrow.Author.Tests.{ltb-true}
 use Rattle.order.specs.Bools.{_or_, and-l, and-r}
 use Rattle.order.specs.OrderLaws.{getElem?-append}
-use Rattle.syntax.specs.Commands.{Cmd, c-num, c-top, c-var, c-pair, c-part, c-fn, c-app, c-new, c-asg, c-read, c-sum, c-test, c-lim, c-grant, c-newkey, c-assoc, c-access, c-divide, form, row}
+use Rattle.syntax.specs.Commands.{Cmd, c-num, c-top, c-var, c-pair, c-part, c-fn, c-app, c-new, c-asg, c-read, c-sum, c-test, c-lim, c-grant, c-newkey, c-assoc, c-access, c-divide, c-spawn, form, row}
 use Rattle.syntax.specs.Operands.{evaluated}
-use Rattle.semantics.specs.Machine.{k-num, k-cell, Value, unkeyed, Frame, Control, enter, hand, Store, Machine, most-cells, most-keys, most-pairs, most-functions, most-frames, most-bindings}
+use Rattle.semantics.specs.Machine.{k-num, k-cell, Value, unkeyed, Frame, Control, enter, hand, Thread, Store, Machine, most-cells, most-keys, most-pairs, most-functions, most-frames, most-bindings, most-threads}
 use Rattle.semantics.specs.Keys.{enabled}
-use Rattle.semantics.specs.Step.{Out, o-step, o-denied, Plan, p-done, p-wrong, p-try, handing, withCells, room, touch, touchAll, settle, asNum, asPair, asFn, asCell, asLim, asGrant, found, bare, one, two}
-use Rattle.semantics.specs.Step.{seek, variable, actPair, actPart, actFn, actApp, actNew, actAsg, actRead, actSum, actTest, limitKeys, actLim, actGrant, makeKey, actNewkey, actAssoc, actAccess, actDivide}
+use Rattle.semantics.specs.Step.{o-step, handing, withCells, room, touch, touchAll, settle, asNum, asPair, asFn, asCell, asLim, asGrant, found, one, two}
+use Rattle.semantics.specs.Step.{seek, variable, actPair, actPart, actFn, actApp, actNew, actAsg, actRead, actSum, actTest, actLim, actGrant, makeKey, actNewkey, actAssoc, actAccess, actDivide, actSpawn}
 use Rattle.semantics.specs.Step.{resume, push, act, enterAt, enterCmd, receive, handTo, planOn, plan, step}
+use Rattle.semantics.specs.Ends.{Ends, en-done, en-try, settle-ends, found-ends, bare-ends, one-ends, two-ends, limits-end}
 use Rattle.semantics.specs.Wants.{Usage, read, write, read-and-write, Use, touches, a-limit, alike, wantsOf, acting, toEnter, toReceive, toHand, needsOn, needs}
-
--- the machine after a plan, if its room is found free, is one of P
-data Ends (P : Machine → Type 0) : Plan → Type 0 where
-  en-done : Ends P p-done
-  en-wrong : Ends P p-wrong
-  en-try : {ks : List ℕ} {free : Bool} {m n : Machine} → (free ≡ true → P n) → Ends P (p-try ks free m n)
-
-module _ {P : Machine → Type 0} where
-  settle-ends : {p : Plan} {n : Machine} → Ends P p → settle p ≡ o-step n → P n
-  unfolding settle touchAll touch room
-  settle-ends en-done e = let z : _≡_ {A = ℕ} 0 1 = cc in absurd (omega arith)
-  settle-ends en-wrong e = let z : _≡_ {A = ℕ} 0 1 = cc in absurd (omega arith)
-  settle-ends {n = n} (en-try {ks = ks} {free = free} {m = m} {n = x} h) e = all ks e
-    where
-      last : (b : Bool) → (b ≡ true → P x) → room b (o-step x) ≡ o-step n → P n
-      last true g e = let z : x ≡ n = cc in rw (sym z) (g refl)
-      last false g e = let z : _≡_ {A = ℕ} 0 1 = cc in absurd (omega arith)
-
-      at : (b : Bool) (o : Out) → (o ≡ o-step n → P n) → cond b o o-denied ≡ o-step n → P n
-      at true o g e = g e
-      at false o g e = let z : _≡_ {A = ℕ} 0 1 = cc in absurd (omega arith)
-
-      all : (ks : List ℕ) → touchAll ks m (room free (o-step x)) ≡ o-step n → P n
-      all [] e = last free h e
-      all (k ∷ ks) e = at (enabled (m .store .keys) (m .thread .on) k) _ (all ks) e
-
-  found-ends : {A : Type 0} (o : Option A) (f : A → Plan) → ((a : A) → Ends P (f a)) → Ends P (found o f)
-  unfolding found
-  found-ends none f g = en-wrong
-  found-ends (some a) f g = g a
-
-  bare-ends : (h : List Value) {p : Plan} → Ends P p → Ends P (bare h p)
-  unfolding bare
-  bare-ends [] g = g
-  bare-ends (v ∷ h) g = en-wrong
-
-  one-ends : (h : List Value) (f : Value → Plan) → ((v : Value) → Ends P (f v)) → Ends P (one h f)
-  unfolding one
-  one-ends [] f g = en-wrong
-  one-ends (v ∷ []) f g = g v
-  one-ends (v ∷ w ∷ h) f g = en-wrong
-
-  two-ends : (h : List Value) (f : Value → Value → Plan) → ((v w : Value) → Ends P (f v w)) → Ends P (two h f)
-  unfolding two
-  two-ends [] f g = en-wrong
-  two-ends (v ∷ []) f g = en-wrong
-  two-ends (v ∷ w ∷ []) f g = g v w
-  two-ends (v ∷ w ∷ x ∷ h) f g = en-wrong
-
-  limits-end : (vs : List Value) (f : List ℕ → Plan) → ((js : List ℕ) → Ends P (f js)) → Ends P (limitKeys vs f)
-  unfolding limitKeys
-  limits-end [] f g = g []
-  limits-end (v ∷ vs) f g = found-ends (asLim (v .kind)) _ (λ j. limits-end vs _ (λ js. g (j ∷ js)))
 
 -- Room
 
--- frames and a store that are within their room
-pub record Within (fs : List Frame) (s : Store) : Type 0 where
+-- frames, a store and threads that are within their room
+pub record Within (fs : List Frame) (s : Store) (ts : List Thread) : Type 0 where
   pub cells : length (s .cells) ≤ most-cells
   pub keys : length (s .keys) ≤ most-keys
   pub pairs : length (s .pairs) ≤ most-pairs
   pub functions : length (s .functions) ≤ most-functions
   pub bindings : length (s .bindings) ≤ most-bindings
   pub frames : length fs ≤ most-frames
+  pub threads : length ts ≤ most-threads
 
 abbrev pub Fits : Machine → Type 0
-Fits m = Within (m .thread .frames) (m .store)
+Fits m = Within (m .thread .frames) (m .store) (m .threads)
 
 -- one entry more, where there is room for it
 one-more : {A : Type 0} (l : List A) (x : A) (most : ℕ) → ltb (length l) most ≡ true → length (l ++ (x ∷ [])) ≤ most
@@ -98,23 +47,23 @@ two-more l x y most e = omega (arith, length-append l (x ∷ y ∷ []), ltb-true
 
 module _ {T : Type 0} where
   act-fits : (k : Cmd T) (h : List Value) (m : Machine) → Fits m → Ends Fits (act k h m)
-  unfolding act actPair actPart actFn actApp actNew actAsg actRead actSum actTest actLim actGrant makeKey actNewkey actAssoc actAccess actDivide variable
+  unfolding act actPair actPart actFn actApp actNew actAsg actRead actSum actTest actLim actGrant makeKey actNewkey actAssoc actAccess actDivide actSpawn variable
   act-fits (c-num n) h m r = bare-ends h (en-try (λ e. r))
   act-fits c-top h m r = bare-ends h (en-try (λ e. r))
   act-fits (c-var x) h m r = bare-ends h (found-ends (seek most-bindings (m .store .bindings) (m .thread .env) x) _ (λ v. en-try (λ e. r)))
   act-fits (c-pair a b) h m r =
-      two-ends h _ (λ v w. en-try (λ e. record { cells = r .cells; keys = r .keys; pairs = one-more (m .store .pairs) _ most-pairs e; functions = r .functions; bindings = r .bindings; frames = r .frames }))
+      two-ends h _ (λ v w. en-try (λ e. record { cells = r .cells; keys = r .keys; pairs = one-more (m .store .pairs) _ most-pairs e; functions = r .functions; bindings = r .bindings; frames = r .frames; threads = r .threads }))
   act-fits (c-part a i) h m r = one-ends h _ (λ v. found-ends (asPair (v .kind)) _ (λ p. found-ends (getElem? (m .store .pairs) p) _ (λ t. en-try (λ e. r))))
   act-fits (c-fn x t b) h m r =
-      bare-ends h (en-try (λ e. record { cells = r .cells; keys = r .keys; pairs = r .pairs; functions = one-more (m .store .functions) _ most-functions e; bindings = r .bindings; frames = r .frames }))
+      bare-ends h (en-try (λ e. record { cells = r .cells; keys = r .keys; pairs = r .pairs; functions = one-more (m .store .functions) _ most-functions e; bindings = r .bindings; frames = r .frames; threads = r .threads }))
   act-fits (c-app a b) h m r =
       two-ends h _ (λ v w. found-ends (asFn (v .kind)) _ (λ f. found-ends (getElem? (m .store .functions) f) _ (λ c.
-      en-try (λ e. record { cells = r .cells; keys = r .keys; pairs = r .pairs; functions = r .functions; bindings = one-more (m .store .bindings) _ most-bindings e; frames = r .frames }))))
+      en-try (λ e. record { cells = r .cells; keys = r .keys; pairs = r .pairs; functions = r .functions; bindings = one-more (m .store .bindings) _ most-bindings e; frames = r .frames; threads = r .threads }))))
   act-fits (c-new t a) h m r =
-      one-ends h _ (λ v. en-try (λ e. record { cells = one-more (m .store .cells) v most-cells e; keys = r .keys; pairs = r .pairs; functions = r .functions; bindings = r .bindings; frames = r .frames }))
+      one-ends h _ (λ v. en-try (λ e. record { cells = one-more (m .store .cells) v most-cells e; keys = r .keys; pairs = r .pairs; functions = r .functions; bindings = r .bindings; frames = r .frames; threads = r .threads }))
   act-fits (c-asg a b) h m r =
       two-ends h _ (λ v w. found-ends (asCell (v .kind)) _ (λ c. found-ends (getElem? (m .store .cells) c) _ (λ old.
-      en-try (λ e. record { cells = omega (arith, length-set (m .store .cells) c w, r .cells); keys = r .keys; pairs = r .pairs; functions = r .functions; bindings = r .bindings; frames = r .frames }))))
+      en-try (λ e. record { cells = omega (arith, length-set (m .store .cells) c w, r .cells); keys = r .keys; pairs = r .pairs; functions = r .functions; bindings = r .bindings; frames = r .frames; threads = r .threads }))))
   act-fits (c-read a) h m r = one-ends h _ (λ v. found-ends (asCell (v .kind)) _ (λ c. found-ends (getElem? (m .store .cells) c) _ (λ w. en-try (λ e. r))))
   act-fits (c-sum i a b) h m r = two-ends h _ (λ v w. found-ends (asNum (v .kind)) _ (λ x. found-ends (asNum (w .kind)) _ (λ y. en-try (λ e. r))))
   act-fits (c-test a b c t) h m r = one-ends h _ (λ v. found-ends (asNum (v .kind)) _ (λ n. en-try (λ e. r)))
@@ -128,33 +77,36 @@ module _ {T : Type 0} where
         functions = r .functions;
         bindings = two-more (m .store .bindings) _ _ most-bindings (and-r _ _ e);
         frames = r .frames;
+        threads = r .threads;
       })))
   act-fits (c-assoc a b) h m r = two-ends h _ (λ v w. found-ends (asLim (w .kind)) _ (λ j. en-try (λ e. r)))
   act-fits (c-access a b c t) h m r = one-ends h _ (λ v. found-ends (asLim (v .kind)) _ (λ j. en-try (λ e. r)))
   act-fits (c-divide a b) h m r =
       two-ends h _ (λ v w. found-ends (asNum (v .kind)) _ (λ x. found-ends (asNum (w .kind)) _ (λ y.
-      en-try (λ e. record { cells = r .cells; keys = r .keys; pairs = one-more (m .store .pairs) _ most-pairs e; functions = r .functions; bindings = r .bindings; frames = r .frames }))))
+      en-try (λ e. record { cells = r .cells; keys = r .keys; pairs = one-more (m .store .pairs) _ most-pairs e; functions = r .functions; bindings = r .bindings; frames = r .frames; threads = r .threads }))))
+  act-fits (c-spawn b) h m r =
+      bare-ends h (en-try (λ e. record { cells = r .cells; keys = r .keys; pairs = r .pairs; functions = r .functions; bindings = r .bindings; frames = r .frames; threads = one-more (m .threads) _ most-threads e }))
 
   enter-fits : (e : ℕ) (l : List ℕ) (k : Cmd T) (m : Machine) → Fits m → Ends Fits (enterAt e l k m)
   unfolding enterAt push
   enter-fits e [] k m r = act-fits k [] m r
   enter-fits e (a ∷ l) k m r =
-      en-try (λ z. record { cells = r .cells; keys = r .keys; pairs = r .pairs; functions = r .functions; bindings = r .bindings; frames = ltb-true (length (m .thread .frames)) most-frames z })
+      en-try (λ z. record { cells = r .cells; keys = r .keys; pairs = r .pairs; functions = r .functions; bindings = r .bindings; frames = ltb-true (length (m .thread .frames)) most-frames z; threads = r .threads })
 
 module _ {T : Type 0} (code : ℕ → Cmd T) where
-  receive-fits : (o : Option ℕ) (f : Frame) (h : List Value) (fs : List Frame) (m : Machine) → Within (f ∷ fs) (m .store) → Ends Fits (receive code o f h fs m)
+  receive-fits : (o : Option ℕ) (f : Frame) (h : List Value) (fs : List Frame) (m : Machine) → Within (f ∷ fs) (m .store) (m .threads) → Ends Fits (receive code o f h fs m)
   unfolding receive
   receive-fits none f h fs m r =
-      act-fits (code (f .at)) h (resume f fs m) (record { cells = r .cells; keys = r .keys; pairs = r .pairs; functions = r .functions; bindings = r .bindings; frames = omega (arith, r .frames) })
+      act-fits (code (f .at)) h (resume f fs m) (record { cells = r .cells; keys = r .keys; pairs = r .pairs; functions = r .functions; bindings = r .bindings; frames = omega (arith, r .frames); threads = r .threads })
   receive-fits (some a) f h fs m r =
-      en-try (λ e. record { cells = r .cells; keys = r .keys; pairs = r .pairs; functions = r .functions; bindings = r .bindings; frames = r .frames })
+      en-try (λ e. record { cells = r .cells; keys = r .keys; pairs = r .pairs; functions = r .functions; bindings = r .bindings; frames = r .frames; threads = r .threads })
 
   on-fits : (c : Control) (m : Machine) → Fits m → Ends Fits (planOn code c m)
   unfolding planOn handTo enterCmd
   on-fits (enter e) m r = enter-fits e (evaluated (code e)) (code e) m r
   on-fits (hand v) m r = at (m .thread .frames) r
     where
-      at : (fs : List Frame) → Within fs (m .store) → Ends Fits (handTo code v fs m)
+      at : (fs : List Frame) → Within fs (m .store) (m .threads) → Ends Fits (handTo code v fs m)
       at [] r = en-done
       at (f ∷ fs) r = receive-fits (getElem? (evaluated (code (f .at))) (suc (length (f .hand)))) f (f .hand ++ (v ∷ [])) fs m r
 
@@ -184,7 +136,7 @@ pub record Kept (s : Store) (n : Machine) : Type 0 where
 module _ {T : Type 0} where
   -- a command whose row has no operand that is written
   act-keeps : (k : Cmd T) (h : List Value) (m : Machine) → anyWritten (wantsOf k (length h) .uses) ≡ false → Ends (Kept (m .store)) (act k h m)
-  unfolding act actPair actPart actFn actApp actNew actAsg actRead actSum actTest actLim actGrant makeKey actNewkey actAssoc actAccess actDivide variable wantsOf anyWritten isWrite _or_
+  unfolding act actPair actPart actFn actApp actNew actAsg actRead actSum actTest actLim actGrant makeKey actNewkey actAssoc actAccess actDivide actSpawn variable wantsOf anyWritten isWrite _or_
   act-keeps (c-num n) h m r = bare-ends h (en-try (λ e. record { at = λ i v z. z }))
   act-keeps c-top h m r = bare-ends h (en-try (λ e. record { at = λ i v z. z }))
   act-keeps (c-var x) h m r = bare-ends h (found-ends (seek most-bindings (m .store .bindings) (m .thread .env) x) _ (λ v. en-try (λ e. record { at = λ i v z. z })))
@@ -203,6 +155,7 @@ module _ {T : Type 0} where
   act-keeps (c-assoc a b) h m r = two-ends h _ (λ v w. found-ends (asLim (w .kind)) _ (λ j. en-try (λ e. record { at = λ i v z. z })))
   act-keeps (c-access a b c t) h m r = one-ends h _ (λ v. found-ends (asLim (v .kind)) _ (λ j. en-try (λ e. record { at = λ i v z. z })))
   act-keeps (c-divide a b) h m r = two-ends h _ (λ v w. found-ends (asNum (v .kind)) _ (λ x. found-ends (asNum (w .kind)) _ (λ y. en-try (λ e. record { at = λ i v z. z }))))
+  act-keeps (c-spawn b) h m r = bare-ends h (en-try (λ e. record { at = λ i v z. z }))
 
   enter-keeps : (e : ℕ) (l : List ℕ) (k : Cmd T) (m : Machine) → anyWritten (toEnter l k m .uses) ≡ false → Ends (Kept (m .store)) (enterAt e l k m)
   unfolding enterAt push toEnter acting
@@ -236,6 +189,7 @@ abbrev oneCell : Machine
 oneCell = record {
   thread = record { control = enter 0; env = 0; on = 0; frames = [] };
   store = record { cells = unkeyed (k-num 0) ∷ []; keys = []; pairs = []; functions = []; bindings = [] };
+  threads = [];
 }
 
 apart : k-num 0 ≢ k-num 1
@@ -291,6 +245,7 @@ module _ {T : Type 0} where
   written-changes (c-assoc a b) i e = absurd (false≢true e)
   written-changes (c-access a b c t) i e = absurd (false≢true e)
   written-changes (c-divide a b) i e = absurd (false≢true e)
+  written-changes (c-spawn b) i e = absurd (false≢true e)
 
 -- Nor is another operand read and written than the value of 0x3F, by the command's byte
 
@@ -330,3 +285,4 @@ module _ {T : Type 0} where
   both-exactly (c-assoc a b) i = refl
   both-exactly (c-access a b c t) i = refl
   both-exactly (c-divide a b) i = refl
+  both-exactly (c-spawn b) i = refl

@@ -4,12 +4,12 @@ use Prim.Native.Nat.{ℕ, suc}
 use mathlib.Core.List.{List, [], _∷_, _++_}
 use mathlib.Core.Option.{Option, none, some}
 use lib.ListN.{length, getElem?}
-use Rattle.syntax.specs.Commands.{Cmd, c-num, c-top, c-var, c-pair, c-part, c-fn, c-app, c-new, c-asg, c-read, c-sum, c-test, c-lim, c-grant, c-newkey, c-assoc, c-access, c-divide, mapCmd}
+use Rattle.syntax.specs.Commands.{Cmd, c-num, c-top, c-var, c-pair, c-part, c-fn, c-app, c-new, c-asg, c-read, c-sum, c-test, c-lim, c-grant, c-newkey, c-assoc, c-access, c-divide, c-spawn, mapCmd}
 use Rattle.syntax.specs.Operands.{evaluated, usesVar}
 use Rattle.semantics.specs.Machine.{Value, Frame, Control, enter, hand, Store, Machine}
 use Rattle.semantics.specs.Step.{act, enterAt, enterCmd, receive, handTo, planOn, plan, settle, step}
 use Rattle.semantics.specs.Wants.{wantsOf, acting, toEnter, toReceive, toHand, needsOn, needs}
-use Rattle.semantics.specs.Calls.{stepsOf}
+use Rattle.semantics.specs.Threads.{stepsOf}
 
 module _ {T U : Type 0} (f : T → U) where
   -- what the machine reads of a command is the same with another type operand
@@ -39,6 +39,7 @@ module _ {T U : Type 0} (f : T → U) where
   untyped (c-assoc a b) = record { operands = refl; variables = refl; acts = λ h m. refl; wanted = λ i. refl }
   untyped (c-access a b c t) = record { operands = refl; variables = refl; acts = λ h m. refl; wanted = λ i. refl }
   untyped (c-divide a b) = record { operands = refl; variables = refl; acts = λ h m. refl; wanted = λ i. refl }
+  untyped (c-spawn b) = record { operands = refl; variables = refl; acts = λ h m. refl; wanted = λ i. refl }
 
 -- two codes, of which the second is the first with other type operands
 module _ {T U : Type 0} (f : T → U) (code : ℕ → Cmd T) (other : ℕ → Cmd U) (same : (e : ℕ) → other e ≡ mapCmd f (code e)) where

@@ -8,12 +8,12 @@ use mathlib.Core.Option.{Option, none, some}
 use lib.ListN.{length, getElem?}
 use Rattle.order.specs.Bools.{_and_}
 use Rattle.order.specs.Sets.{some-of, all-of}
-use Rattle.syntax.specs.Commands.{Cmd, c-num, c-top, c-var, c-pair, c-part, c-fn, c-app, c-new, c-asg, c-read, c-sum, c-test, c-lim, c-grant, c-newkey, c-assoc, c-access, c-divide}
+use Rattle.syntax.specs.Commands.{Cmd, c-num, c-top, c-var, c-pair, c-part, c-fn, c-app, c-new, c-asg, c-read, c-sum, c-test, c-lim, c-grant, c-newkey, c-assoc, c-access, c-divide, c-spawn}
 use Rattle.syntax.specs.Operands.{evaluated, usesVar}
 use Rattle.semantics.specs.Machine.{Kind, k-num, k-pair, k-fn, k-cell, k-lim, k-grant, Value, KeySet, Frame, Control, enter, hand, Store, Machine, most-bindings}
 use Rattle.semantics.specs.Keys.{enabled}
 use Rattle.semantics.specs.Step.{seek}
-use Rattle.semantics.specs.Room.{isDone, Place, cells, keys, pairs, functions, frames, bindings, anyLacking}
+use Rattle.semantics.specs.Room.{isDone, Place, cells, keys, pairs, functions, frames, bindings, threads, anyLacking}
 
 -- what a place of a command asks of its value
 pub data Want : Type 0 where
@@ -49,6 +49,7 @@ wants us ps = record { uses = us; places = ps }
 module _ {T : Type 0} where
   -- "Touched: the pair in 34, the function in 36, the cell in 38 and 39, both numbers in 3A, the number tested in 3B, every key in 3C, 3D, 3E, both operands in 3F."
   -- Of 0x40: "The key is touched". Whether the key that it stands for is enabled is a question and no touch. Of 0x41: "Both numbers are touched. It takes one pair of the machine's room".
+  -- 0x42 touches nothing and takes the place of a thread.
   -- So many values are in hand (a limit takes as many keys as there are).
   unfoldable pub wantsOf : Cmd T → ℕ → Wanted
   wantsOf (c-num n) i = wants [] []
@@ -69,6 +70,7 @@ module _ {T : Type 0} where
   wantsOf (c-assoc a b) i = wants (touches read-and-write anything ∷ touches read a-limit ∷ []) []
   wantsOf (c-access a b c t) i = wants (touches read a-limit ∷ []) []
   wantsOf (c-divide a b) i = wants (touches read a-number ∷ touches read a-number ∷ []) (pairs 1 ∷ [])
+  wantsOf (c-spawn b) i = wants [] (threads 1 ∷ [])
 
 unfoldable pub holds : {A : Type 0} → Option A → (A → Bool) → Bool
 holds none f = false

@@ -12,7 +12,7 @@ use borrow.Author.Tests.{eqb-true, ltb-false, le-leb, lt-leb}
 use Rattle.order.specs.Effects.{Effect}
 use Rattle.syntax.specs.Types.{TypeEntry}
 use Rattle.syntax.specs.Commands.{Cmd, Op, o-host, o-local, o-number, o-pair, o-cell, o-function, o-limit, o-grant, o-value, o-rights, o-end, form, opOf, operands, total, width, sectionOf, little, fields}
-use Rattle.syntax.specs.Commands.{x-number, x-top, x-variable, x-pair, x-part, x-function, x-apply, x-cell, x-assign, x-read, x-sum, x-test, x-limit, x-grant, x-newkey, x-associate, x-access, x-divide}
+use Rattle.syntax.specs.Commands.{x-number, x-top, x-variable, x-pair, x-part, x-function, x-apply, x-cell, x-assign, x-read, x-sum, x-test, x-limit, x-grant, x-newkey, x-associate, x-access, x-divide, x-spawn}
 use Rattle.syntax.specs.Job.{Name, HostValue, Job}
 use Rattle.syntax.specs.Reading.{State, Written, w-name, w-type, w-value, w-rights, w-cmd, w-end, unwritten, written, given, enter, misplaced, full, nameOk, typeOk, hostValueOk, rightsOk, cmdOk}
 use Rattle.syntax.specs.Reading.{Refusal, Step, refuse, proceed, finish, settle, command, refused, read, ended, onward, onOp, readFrom, noJob, reading}
@@ -97,6 +97,7 @@ row-back x-newkey o h = cmd-back x-newkey o h refl
 row-back x-associate o h = cmd-back x-associate o h refl
 row-back x-access o h = cmd-back x-access o h refl
 row-back x-divide o h = cmd-back x-divide o h refl
+row-back x-spawn o h = cmd-back x-spawn o h refl
 row-back o-end o h = back-row (ap (λ (l : List ℕ). (o-end, l)) (firsts-are 0 o h))
 
 -- Entries

@@ -46,6 +46,8 @@ pub data Cmd (T : Type 0) : Type 0 where
   c-access : ℕ → ℕ → ℕ → T → Cmd T
   -- 0x41 e e: dividend, divisor
   c-divide : ℕ → ℕ → Cmd T
+  -- 0x42 e: body of a new thread (spawn of document 000)
+  c-spawn : ℕ → Cmd T
 
 -- the same with another form of type operands
 unfoldable pub mapCmd : {T U : Type 0} → (T → U) → Cmd T → Cmd U
@@ -67,13 +69,14 @@ mapCmd f (c-newkey v r a b t) = c-newkey v r a b (f t)
 mapCmd f (c-assoc a b) = c-assoc a b
 mapCmd f (c-access a b c t) = c-access a b c (f t)
 mapCmd f (c-divide a b) = c-divide a b
+mapCmd f (c-spawn b) = c-spawn b
 
 -- what a command byte says
 pub data Op : Type 0 where
   o-host o-local : Op
   o-number o-pair o-cell o-function o-limit o-grant : Op
   o-value o-rights : Op
-  x-number x-top x-variable x-pair x-part x-function x-apply x-cell x-assign x-read x-sum x-test x-limit x-grant x-newkey x-associate x-access x-divide : Op
+  x-number x-top x-variable x-pair x-part x-function x-apply x-cell x-assign x-read x-sum x-test x-limit x-grant x-newkey x-associate x-access x-divide x-spawn : Op
   o-end : Op
 
 -- what an operand is for
@@ -166,6 +169,7 @@ form x-newkey = form-of 0x3E 4 (r-keypair ∷ r-local ∷ r-evaluated ∷ r-insi
 form x-associate = form-of 0x3F 4 (r-evaluated ∷ r-evaluated ∷ [])
 form x-access = form-of 0x40 4 (r-evaluated ∷ r-entered ∷ r-entered ∷ r-type ∷ [])
 form x-divide = form-of 0x41 4 (r-evaluated ∷ r-evaluated ∷ [])
+form x-spawn = form-of 0x42 4 (r-entered ∷ [])
 form o-end = form-of 0xFF 5 []
 
 -- what is given for an operand: numbers, one but for 0x3C's keys; or a type
@@ -203,13 +207,14 @@ row (c-newkey v r a b t) = row-of x-newkey (one v ∷ one r ∷ one a ∷ one b 
 row (c-assoc a b) = row-of x-associate (one a ∷ one b ∷ [])
 row (c-access a b c t) = row-of x-access (one a ∷ one b ∷ one c ∷ type t ∷ [])
 row (c-divide a b) = row-of x-divide (one a ∷ one b ∷ [])
+row (c-spawn b) = row-of x-spawn (one b ∷ [])
 
 -- every command
 unfoldable pub commands : List Op
 commands =
     o-host ∷ o-local ∷ o-number ∷ o-pair ∷ o-cell ∷ o-function ∷ o-limit ∷ o-grant ∷ o-value ∷ o-rights
     ∷ x-number ∷ x-top ∷ x-variable ∷ x-pair ∷ x-part ∷ x-function ∷ x-apply ∷ x-cell ∷ x-assign ∷ x-read
-    ∷ x-sum ∷ x-test ∷ x-limit ∷ x-grant ∷ x-newkey ∷ x-associate ∷ x-access ∷ x-divide ∷ o-end ∷ []
+    ∷ x-sum ∷ x-test ∷ x-limit ∷ x-grant ∷ x-newkey ∷ x-associate ∷ x-access ∷ x-divide ∷ x-spawn ∷ o-end ∷ []
 
 unfoldable pub findOp : List Op → ℕ → Option Op
 unfolding form

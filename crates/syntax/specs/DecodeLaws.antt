@@ -7,7 +7,7 @@ use mathlib.Core.Option.{some}
 use lib.ListN.{drop, take}
 use lib.Dec.{eqb}
 use borrow.Author.Tests.{eqb-true}
-use Rattle.syntax.specs.Commands.{Cmd, c-num, c-top, c-var, c-pair, c-part, c-fn, c-app, c-new, c-asg, c-read, c-sum, c-test, c-lim, c-grant, c-newkey, c-assoc, c-access, c-divide, Op, o-host, o-local, o-number, o-pair, o-cell, o-function, o-limit, o-grant, o-value, o-rights, x-number, form, commands, findOp}
+use Rattle.syntax.specs.Commands.{Cmd, c-num, c-top, c-var, c-pair, c-part, c-fn, c-app, c-new, c-asg, c-read, c-sum, c-test, c-lim, c-grant, c-newkey, c-assoc, c-access, c-divide, c-spawn, Op, o-host, o-local, o-number, o-pair, o-cell, o-function, o-limit, o-grant, o-value, o-rights, x-number, form, commands, findOp}
 use Rattle.syntax.specs.Words.{decodeAs, decode}
 
 -- z where the byte is none of these
@@ -30,7 +30,8 @@ decodeOr z byte x a b c d e =
     (cond (eqb byte 0x3F) (c-assoc a b)
     (cond (eqb byte 0x40) (c-access a b c d)
     (cond (eqb byte 0x41) (c-divide a b)
-    z))))))))))))))))
+    (cond (eqb byte 0x42) (c-spawn a)
+    z)))))))))))))))))
 
 unfoldable pub decodeBy : ℕ → ℕ → ℕ → ℕ → ℕ → ℕ → ℕ → Cmd ℕ
 decodeBy byte x a b c d e = decodeOr (c-num x) byte x a b c d e
@@ -94,10 +95,10 @@ module _ (P : Cmd ℕ → Type 0) (op x a b c d e : ℕ) where
       (op ≡ 0x35 → P (c-fn (x % 256) b a)) → (op ≡ 0x36 → P (c-app a b)) → (op ≡ 0x37 → P (c-new b a)) → (op ≡ 0x38 → P (c-asg a b)) →
       (op ≡ 0x39 → P (c-read a)) → (op ≡ 0x3A → P (c-sum (eqb x 0) a b)) → (op ≡ 0x3B → P (c-test a b c d)) →
       (op ≡ 0x3C → P (c-lim (take x (a ∷ b ∷ c ∷ d ∷ [])) e)) → (op ≡ 0x3D → P (c-grant a b)) →
-      (op ≡ 0x3E → P (c-newkey (x % 256) (x / 256 % 256) a b c)) → (op ≡ 0x3F → P (c-assoc a b)) → (op ≡ 0x40 → P (c-access a b c d)) → (op ≡ 0x41 → P (c-divide a b)) →
+      (op ≡ 0x3E → P (c-newkey (x % 256) (x / 256 % 256) a b c)) → (op ≡ 0x3F → P (c-assoc a b)) → (op ≡ 0x40 → P (c-access a b c d)) → (op ≡ 0x41 → P (c-divide a b)) → (op ≡ 0x42 → P (c-spawn a)) →
       P (c-num x) → P (decode op x a b c d e)
   unfolding decodeBy
-  decode-cases f1 f2 f3 f4 f5 f6 f7 f8 f9 fa fb fc fd fe ff f40 f41 g =
+  decode-cases f1 f2 f3 f4 f5 f6 f7 f8 f9 fa fb fc fd fe ff f40 f41 f42 g =
       subst⁻¹ P (decode-is op x a b c d e)
       (by P (eqb op 0x31) _ _ (λ h. f1 (eqb-true op 0x31 h))
       (by P (eqb op 0x32) _ _ (λ h. f2 (eqb-true op 0x32 h))
@@ -115,4 +116,5 @@ module _ (P : Cmd ℕ → Type 0) (op x a b c d e : ℕ) where
       (by P (eqb op 0x3E) _ _ (λ h. fe (eqb-true op 0x3E h))
       (by P (eqb op 0x3F) _ _ (λ h. ff (eqb-true op 0x3F h))
       (by P (eqb op 0x40) _ _ (λ h. f40 (eqb-true op 0x40 h))
-      (by P (eqb op 0x41) _ _ (λ h. f41 (eqb-true op 0x41 h)) g)))))))))))))))))
+      (by P (eqb op 0x41) _ _ (λ h. f41 (eqb-true op 0x41 h))
+      (by P (eqb op 0x42) _ _ (λ h. f42 (eqb-true op 0x42 h)) g))))))))))))))))))

@@ -15,7 +15,7 @@ use Rattle.order.specs.OrderLaws.{getElem?-lt, getElem?-snoc, length-snoc}
 use Rattle.order.specs.Effects.{Effect}
 use Rattle.syntax.specs.Types.{TypeEntry}
 use Rattle.syntax.specs.Commands.{Cmd, Op, form, allowed, o-host, o-local, o-number, o-pair, o-cell, o-function, o-limit, o-grant, o-value, o-rights, o-end, opOf, operands, width, sectionOf, fields}
-use Rattle.syntax.specs.Commands.{x-number, x-top, x-variable, x-pair, x-part, x-function, x-apply, x-cell, x-assign, x-read, x-sum, x-test, x-limit, x-grant, x-newkey, x-associate, x-access, x-divide}
+use Rattle.syntax.specs.Commands.{x-number, x-top, x-variable, x-pair, x-part, x-function, x-apply, x-cell, x-assign, x-read, x-sum, x-test, x-limit, x-grant, x-newkey, x-associate, x-access, x-divide, x-spawn}
 use Rattle.syntax.specs.Job.{Name, HostValue, Job}
 use Rattle.syntax.specs.Reading.{Refusal, State, most-names, most-types, most-variables, most-expressions, nameOk, typeOk, hostValueOk, rightsOk, cmdOk}
 use Rattle.syntax.specs.Reading.{Written, w-name, w-type, w-value, w-rights, w-cmd, w-end, unwritten, means, written, given, enter, misplaced, full}
@@ -168,6 +168,7 @@ wrote-means x-newkey o = wrote-cmd _
 wrote-means x-associate o = wrote-cmd _
 wrote-means x-access o = wrote-cmd _
 wrote-means x-divide o = wrote-cmd _
+wrote-means x-spawn o = wrote-cmd _
 wrote-means o-end o = wrote-end
 
 pub wrote : (op : Op) (o : List ℕ) → Wrote (sectionOf op) (written op o)

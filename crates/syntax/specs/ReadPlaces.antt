@@ -11,7 +11,7 @@ use lib.Dec.{eqb, ltb}
 use borrow.Author.Tests.{ltb-false, le-ltb, eqb-true}
 use Rattle.order.specs.OrderLaws.{length-snoc}
 use Rattle.syntax.specs.Commands.{Op, form, o-host, o-local, o-number, o-pair, o-cell, o-function, o-limit, o-grant, o-value, o-rights, o-end, commands, findOp, opOf, operands, total, width, sectionOf, fields}
-use Rattle.syntax.specs.Commands.{x-number, x-top, x-variable, x-pair, x-part, x-function, x-apply, x-cell, x-assign, x-read, x-sum, x-test, x-limit, x-grant, x-newkey, x-associate, x-access, x-divide, little}
+use Rattle.syntax.specs.Commands.{x-number, x-top, x-variable, x-pair, x-part, x-function, x-apply, x-cell, x-assign, x-read, x-sum, x-test, x-limit, x-grant, x-newkey, x-associate, x-access, x-divide, x-spawn, little}
 use Rattle.syntax.specs.Job.{Job}
 use Rattle.syntax.specs.Reading.{Refusal, State, nameOk, typeOk, hostValueOk, rightsOk, cmdOk, Written, written, given, enter, misplaced, full}
 use Rattle.syntax.specs.Reading.{Step, refuse, proceed, finish, settle, command, Read, refused, read, refusedAt, ended, onward, onOp, readFrom, noJob, reading}
@@ -71,6 +71,7 @@ in-bounds x-newkey = record { narrow = omega arith; low = omega arith; found = r
 in-bounds x-associate = record { narrow = omega arith; low = omega arith; found = refl }
 in-bounds x-access = record { narrow = omega arith; low = omega arith; found = refl }
 in-bounds x-divide = record { narrow = omega arith; low = omega arith; found = refl }
+in-bounds x-spawn = record { narrow = omega arith; low = omega arith; found = refl }
 in-bounds o-end = record { narrow = omega arith; low = omega arith; found = refl }
 
 pub width-most : (op : Op) → width op ≤ widest (sectionOf op)

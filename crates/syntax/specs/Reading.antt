@@ -9,9 +9,9 @@ use Rattle.order.specs.Bools.{_and_, _or_}
 use Rattle.order.specs.Sets.{all-of}
 use Rattle.order.specs.Effects.{Effect, ofWord, pure, names, reduced}
 use Rattle.syntax.specs.Types.{Ty, onNum, onCell, onLim, onGrant, TypeEntry, e-num, e-pair, e-cell, e-fn, e-lim, e-grant, tree, depth}
-use Rattle.syntax.specs.Commands.{Cmd, c-num, c-top, c-var, c-pair, c-part, c-fn, c-app, c-new, c-asg, c-read, c-sum, c-test, c-lim, c-grant, c-newkey, c-assoc, c-access, c-divide}
+use Rattle.syntax.specs.Commands.{Cmd, c-num, c-top, c-var, c-pair, c-part, c-fn, c-app, c-new, c-asg, c-read, c-sum, c-test, c-lim, c-grant, c-newkey, c-assoc, c-access, c-divide, c-spawn}
 use Rattle.syntax.specs.Commands.{Op, o-host, o-local, o-number, o-pair, o-cell, o-function, o-limit, o-grant, o-value, o-rights, o-end, form, allowed, opOf, operands, width, sectionOf, fields}
-use Rattle.syntax.specs.Commands.{x-number, x-top, x-variable, x-pair, x-part, x-function, x-apply, x-cell, x-assign, x-read, x-sum, x-test, x-limit, x-grant, x-newkey, x-associate, x-access, x-divide}
+use Rattle.syntax.specs.Commands.{x-number, x-top, x-variable, x-pair, x-part, x-function, x-apply, x-cell, x-assign, x-read, x-sum, x-test, x-limit, x-grant, x-newkey, x-associate, x-access, x-divide, x-spawn}
 use Rattle.syntax.specs.Operands.{children, typesOf, usesVar, bindsVar, bindsName}
 use Rattle.syntax.specs.Job.{Name, HostValue, Job, uppers}
 
@@ -150,6 +150,7 @@ means x-newkey o = w-cmd (c-newkey (getD o 0 0) (getD o 1 0) (getD o 2 0) (getD 
 means x-associate o = w-cmd (c-assoc (getD o 0 0) (getD o 1 0))
 means x-access o = w-cmd (c-access (getD o 0 0) (getD o 1 0) (getD o 2 0) (getD o 3 0))
 means x-divide o = w-cmd (c-divide (getD o 0 0) (getD o 1 0))
+means x-spawn o = w-cmd (c-spawn (getD o 0 0))
 means o-end o = w-end
 
 -- what they write: nothing where one of them is not allowed

@@ -10,7 +10,7 @@ use lib.Dec.{eqb}
 use borrow.Author.Tests.{eqb-true}
 use Rattle.order.specs.Bools.{_and_, and-l, and-r}
 use Rattle.syntax.specs.Types.{Ty}
-use Rattle.syntax.specs.Commands.{Cmd, c-num, c-top, c-var, c-pair, c-part, c-fn, c-app, c-new, c-asg, c-read, c-sum, c-test, c-lim, c-grant, c-newkey, c-assoc, c-access, c-divide, mapCmd}
+use Rattle.syntax.specs.Commands.{Cmd, c-num, c-top, c-var, c-pair, c-part, c-fn, c-app, c-new, c-asg, c-read, c-sum, c-test, c-lim, c-grant, c-newkey, c-assoc, c-access, c-divide, c-spawn, mapCmd}
 use Rattle.syntax.specs.Commands.{Role, traits, r-parameter, r-keypair, form, Operand, numbers, type, Row, row-of, row}
 use Rattle.syntax.specs.Operands.{wanted, someWanted, having, types, ofRoles, plain, inner, children, typesOf, usesVar, bindsVar, bindsName}
 use Rattle.syntax.specs.Tree.{entriesOf, binds}
@@ -165,6 +165,7 @@ bound (c-newkey v r a b t) = bound-keys
 bound (c-assoc a b) = bound-none
 bound (c-access a b c t) = bound-none
 bound (c-divide a b) = bound-none
+bound (c-spawn b) = bound-none
 
 -- one name at most
 pub bound-few : {T : Type 0} {ps qs vs rs : List ℕ} {ts : List T} → Bound ps ts qs vs rs → length rs ≤ 1
@@ -199,6 +200,7 @@ module _ {T U : Type 0} (f : T → U) where
   row-map (c-assoc a b) = refl
   row-map (c-access a b c t) = refl
   row-map (c-divide a b) = refl
+  row-map (c-spawn b) = refl
 
   having-map : (ws rs : List Role) (os : List (Operand T)) → having ws rs (map mapOperand os) ≡ having ws rs os
   unfolding having mapOperand

@@ -14,7 +14,7 @@ use Rattle.order.specs.Effects.{ofWord}
 use Rattle.syntax.specs.Types.{TypeEntry, e-num, e-pair, e-cell, e-fn, e-lim, e-grant}
 use Rattle.syntax.specs.Commands.{c-num, c-var, c-part, c-fn, c-sum, c-lim, c-newkey}
 use Rattle.syntax.specs.Commands.{Op, o-host, o-local, o-number, o-pair, o-cell, o-function, o-limit, o-grant, o-value, o-rights, o-end, traits, form, opOf, operands, sectionOf}
-use Rattle.syntax.specs.Commands.{x-number, x-top, x-variable, x-pair, x-part, x-function, x-apply, x-cell, x-assign, x-read, x-sum, x-test, x-limit, x-grant, x-newkey, x-associate, x-access, x-divide}
+use Rattle.syntax.specs.Commands.{x-number, x-top, x-variable, x-pair, x-part, x-function, x-apply, x-cell, x-assign, x-read, x-sum, x-test, x-limit, x-grant, x-newkey, x-associate, x-access, x-divide, x-spawn}
 use Rattle.syntax.specs.Operands.{wanted, someWanted}
 use Rattle.syntax.specs.Job.{Job}
 use Rattle.syntax.specs.Reading.{w-name, w-type, w-value, w-rights, w-cmd, means, most-names, most-types, most-variables, most-expressions}
@@ -197,6 +197,7 @@ in-table x-newkey =
 in-table x-associate = plain-cmd x-associate (λ x a b c d e. refl) (λ x a b c d e. refl) (λ x a b c d e. refl)
 in-table x-access = plain-cmd x-access (λ x a b c d e. refl) (λ x a b c d e. refl) (λ x a b c d e. refl)
 in-table x-divide = plain-cmd x-divide (λ x a b c d e. refl) (λ x a b c d e. refl) (λ x a b c d e. refl)
+in-table x-spawn = plain-cmd x-spawn (λ x a b c d e. refl) (λ x a b c d e. refl) (λ x a b c d e. refl)
 in-table o-end = tt
 
 pub name-op : (op : Op) → sectionOf op ≡ 0 → NameOp op

@@ -18,9 +18,9 @@ use Rattle.order.specs.Effects.{Effect, ofWord, pure}
 use Rattle.order.specs.EffectLaws.{Within, within-names}
 use Rattle.order.specs.OrderLaws.{getElem?-lt, getElem?-snoc, length-snoc}
 use Rattle.syntax.specs.Types.{TypeEntry, e-num, e-pair, e-cell, e-fn, e-lim, e-grant}
-use Rattle.syntax.specs.Commands.{Cmd, c-num, c-top, c-var, c-pair, c-part, c-fn, c-app, c-new, c-asg, c-read, c-sum, c-test, c-lim, c-grant, c-newkey, c-assoc, c-access, c-divide}
+use Rattle.syntax.specs.Commands.{Cmd, c-num, c-top, c-var, c-pair, c-part, c-fn, c-app, c-new, c-asg, c-read, c-sum, c-test, c-lim, c-grant, c-newkey, c-assoc, c-access, c-divide, c-spawn}
 use Rattle.syntax.specs.Commands.{Op, o-host, o-local, o-number, o-pair, o-cell, o-function, o-limit, o-grant, o-value, o-rights, o-end, opOf, operands, width, sectionOf, little, fields}
-use Rattle.syntax.specs.Commands.{x-number, x-top, x-variable, x-pair, x-part, x-function, x-apply, x-cell, x-assign, x-read, x-sum, x-test, x-limit, x-grant, x-newkey, x-associate, x-access, x-divide}
+use Rattle.syntax.specs.Commands.{x-number, x-top, x-variable, x-pair, x-part, x-function, x-apply, x-cell, x-assign, x-read, x-sum, x-test, x-limit, x-grant, x-newkey, x-associate, x-access, x-divide, x-spawn}
 use Rattle.syntax.specs.Commands.{r-count, r-number, form, allowed, row}
 use Rattle.syntax.specs.Operands.{nth, wanted, ofRoles, plain, inner, children, typesOf, usesVar, bindsVar, bindsName}
 use Rattle.syntax.specs.RowLaws.{among, roles-among}
@@ -212,6 +212,7 @@ in-words (c-newkey v r a b t) f =
 in-words (c-assoc a b) f = record { back = head-parts 0x3F 0 a b 0 0 0 (omega arith) (omega arith); five = refl; writes = refl; wide = refl }
 in-words (c-access a b c t) f = record { back = head-parts 0x40 0 a b c t 0 (omega arith) (omega arith); five = refl; writes = refl; wide = refl }
 in-words (c-divide a b) f = record { back = head-parts 0x41 0 a b 0 0 0 (omega arith) (omega arith); five = refl; writes = refl; wide = refl }
+in-words (c-spawn b) f = record { back = head-parts 0x42 0 b 0 0 0 0 (omega arith) (omega arith); five = refl; writes = refl; wide = refl }
 
 -- the numbers of an expression's operands write it
 pub numbers-write : (k : Cmd ℕ) → CmdFits k → written (row k .op) (numbersOf k) ≡ w-cmd k
@@ -358,6 +359,7 @@ thin-means x-newkey s h = thin-plain _ refl
 thin-means x-associate s h = thin-plain _ refl
 thin-means x-access s h = thin-plain _ refl
 thin-means x-divide s h = thin-plain _ refl
+thin-means x-spawn s h = thin-plain _ refl
 thin-means o-end s h = thin-end
 
 thin-op : (op : Op) (s : List ℕ) → Bytes s → Thin (written op (fields (operands op) s))

@@ -12,7 +12,7 @@ use borrow.Author.Tests.{lt-ltb}
 use Rattle.order.specs.Bools.{and2}
 use Rattle.order.specs.OrderLaws.{getElem?-lt}
 use Rattle.syntax.specs.Types.{TypeEntry, e-num, e-pair, e-cell, e-fn, e-lim, e-grant}
-use Rattle.syntax.specs.Commands.{Cmd, c-num, c-top, c-var, c-pair, c-part, c-fn, c-app, c-new, c-asg, c-read, c-sum, c-test, c-lim, c-grant, c-newkey, c-assoc, c-access, c-divide}
+use Rattle.syntax.specs.Commands.{Cmd, c-num, c-top, c-var, c-pair, c-part, c-fn, c-app, c-new, c-asg, c-read, c-sum, c-test, c-lim, c-grant, c-newkey, c-assoc, c-access, c-divide, c-spawn}
 use Rattle.syntax.specs.Commands.{Op, o-host, o-local, o-value, o-rights, form, opOf, findOp, commands, operands, sectionOf, row}
 use Rattle.syntax.specs.Operands.{nth, ofRoles, plain, inner, children, typesOf, usesVar, bindsVar, bindsName}
 use Rattle.syntax.specs.Job.{Name, HostValue, Job}
@@ -219,6 +219,7 @@ cmd-stands (c-assoc a b) f = record { section = refl; numbers = refl; narrow = f
 cmd-stands (c-access a b c t) f =
     let k : Cmd ℕ = c-access a b c t in record { section = refl; numbers = refl; narrow = for-e k f a at0 (for-e k f b at1 (for-e k f c at2 (for-t k f t at0 narrow-none))) }
 cmd-stands (c-divide a b) f = record { section = refl; numbers = refl; narrow = for-e (c-divide a b) f a at0 (for-e (c-divide a b) f b at1 narrow-none) }
+cmd-stands (c-spawn b) f = record { section = refl; numbers = refl; narrow = for-e (c-spawn b) f b at0 narrow-none }
 
 cmd-item : (k : Cmd ℕ) → CmdFits k → (d : ℕ) (p : ℕ → ℕ) → d ≡ headWord k → ((i : ℕ) → i < 5 → p i ≡ getD (slots k) i 0)
     → exprFields d (p 0) (p 1) (p 2) (p 3) (p 4) ≡ item (row k .op, numbersOf k)

@@ -12,7 +12,7 @@ use borrow.Author.Tests.{eqb-true, eqb-false, le-leb, leb-true}
 use Rattle.order.specs.Bools.{_and_, and-l, and-r, and2}
 use Rattle.order.specs.Sets.{all-of}
 use Rattle.syntax.specs.Commands.{Cmd, c-part, c-sum, c-lim, Op, o-host, o-local, o-number, o-pair, o-cell, o-function, o-limit, o-grant, o-value, o-rights, o-end, operands, Operand, numbers, type, row}
-use Rattle.syntax.specs.Commands.{x-number, x-top, x-variable, x-pair, x-part, x-function, x-apply, x-cell, x-assign, x-read, x-sum, x-test, x-limit, x-grant, x-newkey, x-associate, x-access, x-divide}
+use Rattle.syntax.specs.Commands.{x-number, x-top, x-variable, x-pair, x-part, x-function, x-apply, x-cell, x-assign, x-read, x-sum, x-test, x-limit, x-grant, x-newkey, x-associate, x-access, x-divide, x-spawn}
 use Rattle.syntax.specs.Types.{TypeEntry, e-num, e-pair, e-cell, e-fn, e-lim, e-grant}
 use Rattle.syntax.specs.Reading.{Written, w-type, w-cmd, unwritten, written}
 use Rattle.syntax.specs.Words.{entryRow}
@@ -191,6 +191,7 @@ numbers-back x-newkey o k h e = raw o refl (firsts-are 5 o h) e
 numbers-back x-associate o k h e = raw o refl (firsts-are 2 o h) e
 numbers-back x-access o k h e = raw o refl (firsts-are 4 o h) e
 numbers-back x-divide o k h e = raw o refl (firsts-are 2 o h) e
+numbers-back x-spawn o k h e = raw o refl (firsts-are 1 o h) e
 numbers-back o-end o k h e = absurd (let z : _≡_ {A = ℕ} 0 1 = cc in omega arith)
 
 -- a type entry is written by its command and the numbers of its operands

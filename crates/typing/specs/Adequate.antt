@@ -10,16 +10,16 @@ use borrow.Author.Tests.{eqb-true}
 use Rattle.order.specs.Effects.{Effect, pure, touch, join, reduce}
 use Rattle.order.specs.EffectLaws.{below-reduce, effBelow→}
 use Rattle.syntax.specs.Types.{Ty, pair}
-use Rattle.syntax.specs.Commands.{Cmd, c-num, c-top, c-var, c-pair, c-part, c-fn, c-app, c-new, c-asg, c-read, c-sum, c-test, c-lim, c-grant, c-newkey, c-assoc, c-access, c-divide}
+use Rattle.syntax.specs.Commands.{Cmd, c-num, c-top, c-var, c-pair, c-part, c-fn, c-app, c-new, c-asg, c-read, c-sum, c-test, c-lim, c-grant, c-newkey, c-assoc, c-access, c-divide, c-spawn}
 use Rattle.syntax.specs.Operands.{nth, plain, inner, typesOf}
 use Rattle.syntax.specs.Job.{Src, upOf}
 use Rattle.syntax.specs.Formed.{Formed}
 use Rattle.syntax.specs.Tree.{Entry, binds}
 use Rattle.syntax.specs.WellScoped.{ScopedType}
-use Rattle.syntax.specs.ScopeLaws.{reduce-scoped}
+use Rattle.syntax.specs.ScopeLaws.{pure-scoped, reduce-scoped}
 use Rattle.syntax.specs.TreeFacts.{Ctx, x-plain, x-inner, TreeOk}
 use Rattle.syntax.specs.Context.{plain-lt, inner-lt, ctx-le, root-lt, ctx-uses}
-use Rattle.typing.specs.Rules.{Has, h-num, h-top, h-var, h-pair, h-part1, h-part2, h-fn, h-app, h-new, h-asg, h-read, h-sum, h-test, h-lim, h-grant, h-newkey, h-assoc, h-access, h-divide, h-sub, HasKeys, k-nil, k-cons}
+use Rattle.typing.specs.Rules.{Has, h-num, h-top, h-var, h-pair, h-part1, h-part2, h-fn, h-app, h-new, h-asg, h-read, h-sum, h-test, h-lim, h-grant, h-newkey, h-assoc, h-access, h-divide, h-spawn, h-sub, HasKeys, k-nil, k-cons}
 use Rattle.typing.specs.SubtypeLaws.{sub-refl, subTy→}
 use Rattle.typing.specs.Least.{Typed, typed, isUpper, varType, keysAt, typeAt, get, typesTo, typeOf}
 use Rattle.typing.specs.Scoped.{ctx-type, ctx-var}
@@ -114,6 +114,10 @@ module _ (S : Src) (ok : Formed S) (tree : TreeOk S) where
   at tab (c-divide a b) c p i o g d T s h =
       by-with (tab a) _ h (λ A t ha h. by-with (tab b) _ h (λ B u hb h. by-num A _ h (λ q hq h. by-num B _ h (λ r hr h.
       less g h (h-divide c (cast hq (p a (List·Memᴰ·head refl) A t ha)) (cast hr (p b (List·Memᴰ·tail (List·Memᴰ·head refl)) B u hb)))))))
+  at tab (c-spawn b) c p i o g d T s h =
+      by-with (tab b) _ h (λ U t hb h. by-require _ _ _ h (λ y h.
+      let x = p b (List·Memᴰ·head refl) U t hb in
+      same h (h-spawn c (h-sub x (sub-refl U) (rules-scoped S ok x g .ty) (effBelow→ (upOf S) t pure y) pure-scoped))))
 
   -- operands are earlier, so by the number of the expression
   upto : (f e : ℕ) {Γ : List Entry} → e < f → e < length (S .cmds) → Ctx S e Γ → (T : Ty) (s : Effect) → typeOf S e ≡ typed T s → Has S Γ e T s

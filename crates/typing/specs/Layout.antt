@@ -1,5 +1,6 @@
 -- The type table of an accepted job: "the declared types, then for each 3E in order its limit key, grant key and pair, then for each expression in order one
 -- entry where it makes a type (30, 31, 33, 35, 37, 3A, 3F). The rest point at an entry already there." Of 0x41: it "makes a type entry for the number, then one for the pair".
+-- Of 0x42: "the unkeyed number 0, with one type entry".
 use Prim.Native.Nat.{ℕ, suc, _+_}
 use mathlib.Core.Bool.{true, false, cond}
 use mathlib.Core.List.{List, [], _∷_, _++_, map, flatMap, zipWith}
@@ -8,7 +9,7 @@ use lib.ListN.{length, getD, getElem?}
 use lib.Dec.{eqb}
 use Rattle.order.specs.Effects.{Effect}
 use Rattle.syntax.specs.Types.{TypeEntry, e-num, e-pair, e-cell, e-fn, e-lim, e-grant, byEntry}
-use Rattle.syntax.specs.Commands.{Cmd, c-num, c-top, c-var, c-pair, c-part, c-fn, c-app, c-new, c-asg, c-read, c-sum, c-test, c-lim, c-grant, c-newkey, c-assoc, c-access, c-divide, r-parameter, r-keypair}
+use Rattle.syntax.specs.Commands.{Cmd, c-num, c-top, c-var, c-pair, c-part, c-fn, c-app, c-new, c-asg, c-read, c-sum, c-test, c-lim, c-grant, c-newkey, c-assoc, c-access, c-divide, c-spawn, r-parameter, r-keypair}
 use Rattle.syntax.specs.Operands.{ofRoles, typesOf, bindsName}
 use Rattle.syntax.specs.Job.{HostValue, Job}
 
@@ -99,6 +100,7 @@ pointsTo var eff T of (c-newkey v r a b t) = old t
 pointsTo var eff T of (c-assoc a b) = new [] (rekeyed (firstPart (getElem? T (of b))) (getElem? T (of a)))
 pointsTo var eff T of (c-access a b c t) = old t
 pointsTo var eff T of (c-divide a b) = new (e-num 0 ∷ []) (e-pair 0 (length T) (length T))
+pointsTo var eff T of (c-spawn b) = new [] (e-num 0)
 
 -- the entries, and the entry of each expression
 pub record Layout : Type 0 where

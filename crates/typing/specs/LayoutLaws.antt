@@ -13,7 +13,7 @@ use Rattle.order.specs.OrderLaws.{getElem?-append, length-snoc}
 use Rattle.order.specs.Sets.{some-of}
 use Rattle.order.specs.Effects.{Effect, pure}
 use Rattle.syntax.specs.Types.{TypeEntry, e-num, e-pair}
-use Rattle.syntax.specs.Commands.{Cmd, c-num, c-top, c-var, c-pair, c-part, c-fn, c-app, c-new, c-asg, c-read, c-sum, c-test, c-lim, c-grant, c-newkey, c-assoc, c-access, c-divide, form, row, total}
+use Rattle.syntax.specs.Commands.{Cmd, c-num, c-top, c-var, c-pair, c-part, c-fn, c-app, c-new, c-asg, c-read, c-sum, c-test, c-lim, c-grant, c-newkey, c-assoc, c-access, c-divide, c-spawn, form, row, total}
 use Rattle.syntax.specs.Operands.{bindsName}
 use Rattle.syntax.specs.RowLaws.{bound-few, bound}
 use Rattle.syntax.specs.Job.{Job}
@@ -57,10 +57,11 @@ points-few var eff T of (c-newkey v r a b t) = few-of (c-newkey v r a b t) 0 (om
 points-few var eff T of (c-assoc a b) = few-of (c-assoc a b) 1 (omega arith)
 points-few var eff T of (c-access a b c t) = few-of (c-access a b c t) 0 (omega arith)
 points-few var eff T of (c-divide a b) = omega arith
+points-few var eff T of (c-spawn b) = few-of (c-spawn b) 1 (omega arith)
 
--- by its byte: "one entry where it makes a type (30, 31, 33, 35, 37, 3A, 3F)"; 41 "makes a type entry for the number, then one for the pair"
+-- by its byte: "one entry where it makes a type (30, 31, 33, 35, 37, 3A, 3F)"; 41 "makes a type entry for the number, then one for the pair"; 42 is a number "with one type entry"
 unfoldable pub entriesOf : ℕ → ℕ
-entriesOf b = cond (some-of (λ c. eqb b c) (0x30 ∷ 0x31 ∷ 0x33 ∷ 0x35 ∷ 0x37 ∷ 0x3A ∷ 0x3F ∷ [])) 1 (cond (eqb b 0x41) 2 0)
+entriesOf b = cond (some-of (λ c. eqb b c) (0x30 ∷ 0x31 ∷ 0x33 ∷ 0x35 ∷ 0x37 ∷ 0x3A ∷ 0x3F ∷ 0x42 ∷ [])) 1 (cond (eqb b 0x41) 2 0)
 
 unfoldable pub makesOf : Cmd ℕ → ℕ
 makesOf k = entriesOf (form (row k .op) .byte)
@@ -86,6 +87,7 @@ made-exactly var eff T of (c-newkey v r a b t) = refl
 made-exactly var eff T of (c-assoc a b) = refl
 made-exactly var eff T of (c-access a b c t) = refl
 made-exactly var eff T of (c-divide a b) = refl
+made-exactly var eff T of (c-spawn b) = refl
 
 each-few : (k : Cmd ℕ) → makesOf k + 3 * length (bindsName k) ≤ most-each
 each-few k = omega (arith, made-exactly (λ v. 0) (λ e. pure) [] (λ e. 0) k, points-few (λ v. 0) (λ e. pure) [] (λ e. 0) k)

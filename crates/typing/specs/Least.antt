@@ -1,4 +1,4 @@
--- The least type and effect of each expression: what the checker computes, and refusals 11, 12 and 13.
+-- The least type and effect of each expression: what the checker computes, and refusals 11, 12, 13 and 16.
 use Prim.Native.Nat.{ℕ, zero, suc}
 use mathlib.Core.Bool.{Bool, false, cond}
 use mathlib.Core.List.{List, [], _∷_, _++_}
@@ -7,7 +7,7 @@ use lib.ListN.{length, getD, getElem?}
 use lib.Dec.{eqb}
 use Rattle.order.specs.Effects.{Effect, pure, ofNames, touch, join, drop, raise, reduce, effBelow}
 use Rattle.syntax.specs.Types.{Ty, num, pair, cell, fn, lim, onNum, onPair, onCell, onFn, onLim, onGrant, keyOf, rekey}
-use Rattle.syntax.specs.Commands.{Cmd, c-num, c-top, c-var, c-pair, c-part, c-fn, c-app, c-new, c-asg, c-read, c-sum, c-test, c-lim, c-grant, c-newkey, c-assoc, c-access, c-divide}
+use Rattle.syntax.specs.Commands.{Cmd, c-num, c-top, c-var, c-pair, c-part, c-fn, c-app, c-new, c-asg, c-read, c-sum, c-test, c-lim, c-grant, c-newkey, c-assoc, c-access, c-divide, c-spawn}
 use Rattle.syntax.specs.Operands.{nth}
 use Rattle.syntax.specs.Job.{Src, upOf}
 use Rattle.syntax.specs.Reading.{Refusal}
@@ -101,6 +101,7 @@ typeAt S tab (c-access a b c T) =
     wantLim A (λ q r. require 12 (subTy (upOf S) B T) (require 12 (subTy (upOf S) C T) (typed T (reduce (upOf S) (touch q (join s (join (drop (upOf S) r t) u))))))))))
 typeAt S tab (c-divide a b) =
     with (tab a) (λ A s. with (tab b) (λ B t. wantNum A (λ p. wantNum B (λ q. typed (pair 0 (num 0) (num 0)) (reduce (upOf S) (touch p (touch q (join s t))))))))
+typeAt S tab (c-spawn b) = with (tab b) (λ T t. require 16 (effBelow (upOf S) t pure) (typed (num 0) pure))
 
 -- what is written in a list of results; past its end there is none, and 0 is no refusal's number
 unfoldable pub get : List Typed → ℕ → Typed

@@ -12,7 +12,7 @@ use Rattle.order.specs.Order.{Below, here}
 use Rattle.order.specs.Effects.{Effect, pure, touch, ofNames, join, drop, raise, reduce, EffBelow}
 use Rattle.order.specs.EffectLaws.{eff-refl, eff-trans, eff-join-mono, eff-touch-mono, reduce-below, drop-mono, raise-mono, →effBelow}
 use Rattle.syntax.specs.Types.{Ty, num, pair, cell, fn, lim, grant, byType, onNum, onPair, onCell, onFn, onLim, onGrant, keyOf, rekey}
-use Rattle.syntax.specs.Commands.{Cmd, c-num, c-top, c-var, c-pair, c-part, c-fn, c-app, c-new, c-asg, c-read, c-sum, c-test, c-lim, c-grant, c-newkey, c-assoc, c-access, c-divide}
+use Rattle.syntax.specs.Commands.{Cmd, c-num, c-top, c-var, c-pair, c-part, c-fn, c-app, c-new, c-asg, c-read, c-sum, c-test, c-lim, c-grant, c-newkey, c-assoc, c-access, c-divide, c-spawn}
 use Rattle.syntax.specs.Operands.{nth, plain, inner, typesOf}
 use Rattle.syntax.specs.Job.{Src, upOf}
 use Rattle.syntax.specs.Formed.{ReducedTy, r-cell, r-fn, Formed}
@@ -20,7 +20,7 @@ use Rattle.syntax.specs.Tree.{Entry, binds}
 use Rattle.syntax.specs.TreeFacts.{Ctx, x-plain, x-inner, TreeOk}
 use Rattle.syntax.specs.Context.{plain-lt, inner-lt, ctx-le, root-lt}
 use Rattle.typing.specs.Subtype.{Sub, s-num, s-pair, s-cell, s-fn, s-lim, s-grant}
-use Rattle.typing.specs.Rules.{Has, h-num, h-top, h-var, h-pair, h-part1, h-part2, h-fn, h-app, h-new, h-asg, h-read, h-sum, h-test, h-lim, h-grant, h-newkey, h-assoc, h-access, h-divide, h-sub, HasKeys, k-nil, k-cons}
+use Rattle.typing.specs.Rules.{Has, h-num, h-top, h-var, h-pair, h-part1, h-part2, h-fn, h-app, h-new, h-asg, h-read, h-sum, h-test, h-lim, h-grant, h-newkey, h-assoc, h-access, h-divide, h-spawn, h-sub, HasKeys, k-nil, k-cons}
 use Rattle.typing.specs.SubtypeLaws.{sub-refl, sub-trans, sub-key, sub-rekey, →subTy}
 use Rattle.typing.specs.Least.{Typed, typed, with, wantNum, wantPair, wantCell, wantFn, wantLim, wantGrant, require, isUpper, varType, ofVar, keysAt, typeAt, get, typesTo, typeOf}
 use Rattle.typing.specs.Scoped.{ctx-type}
@@ -191,6 +191,10 @@ module _ (S : Src) (ok : Formed S) (tree : TreeOk S) where
     unfolding typeAt with wantNum onNum byType
     divide-least c (known h (s-num x) u ra) (known k (s-num y) z rb) = record { ty = _; eff = _; got = rw (c, h, k) at fix; sub = sr _; under = red (tch x (tch y (jn u z))) }
 
+    spawn-least : {b : ℕ} {T : Ty} → nth (S .cmds) e ≡ c-spawn b → Known e b T pure → Least S e (num 0) pure
+    unfolding typeAt with require
+    spawn-least c (known h x u ra) = record { ty = num 0; eff = pure; got = rw (c, h, →effBelow (ok .proper) u) at fix; sub = sr (num 0); under = eff-refl }
+
   -- what is known of the expressions before e
   abbrev IH : ℕ → Type 0
   IH e = (a : ℕ) → a < e → (Γ : List Entry) (T : Ty) (t : Effect) → Has S Γ a T t → Ctx S a Γ → Least S a T t
@@ -234,6 +238,7 @@ module _ (S : Src) (ok : Formed S) (tree : TreeOk S) where
     at (h-assoc c x y) = assoc-least l c (of-plain c hd x) (as-lim (of-plain c (List·Memᴰ·tail hd) y))
     at (h-access c o x y z s s′) = access-least l c (as-lim (of-plain c hd x)) (of-plain c (List·Memᴰ·tail hd) y) (of-plain c (List·Memᴰ·tail (List·Memᴰ·tail hd)) z) s s′
     at (h-divide c x y) = divide-least l c (of-plain c hd x) (of-plain c (List·Memᴰ·tail hd) y)
+    at (h-spawn c x) = spawn-least l c (of-plain c hd x)
     at (h-sub {A = A} d s o u v) = let z = at d in record { ty = z .ty; eff = z .eff; got = z .got; sub = sub-trans A (z .sub) s; under = tr (z .under) u }
 
   -- operands are earlier, so by the number of the expression

@@ -8,7 +8,7 @@ use lib.ListN.{length, getD, getElem?}
 use Rattle.order.specs.Order.{below}
 use Rattle.order.specs.Effects.{Effect, pure, touch, join, drop, raise, reduce, effBelow}
 use Rattle.syntax.specs.Types.{TypeEntry, e-num, e-pair, e-cell, e-fn, e-lim, byEntry}
-use Rattle.syntax.specs.Commands.{Cmd, c-num, c-top, c-var, c-pair, c-part, c-fn, c-app, c-new, c-asg, c-read, c-sum, c-test, c-lim, c-grant, c-newkey, c-assoc, c-access, c-divide}
+use Rattle.syntax.specs.Commands.{Cmd, c-num, c-top, c-var, c-pair, c-part, c-fn, c-app, c-new, c-asg, c-read, c-sum, c-test, c-lim, c-grant, c-newkey, c-assoc, c-access, c-divide, c-spawn}
 use Rattle.syntax.specs.Job.{Job}
 use Rattle.syntax.specs.Reading.{Refusal, most-depth}
 use Rattle.typing.specs.Least.{isUpper}
@@ -118,6 +118,7 @@ module _ (O : Ops) (var : ℕ → ℕ) (at : ℕ → Option TypeEntry) (of : ℕ
       needLim (at (of a)) (λ q r. need 12 (fits (of b) t) (need 12 (fits (of c) t) (points t (O .reduce (O .touch q (join (eff a) (join (O .drop r (eff b)) (eff c))))))))
   resultAt n (c-divide a b) =
       needNum (at (of a)) (λ p. needNum (at (of b)) (λ q. makes (e-num 0 ∷ []) (e-pair 0 n n) (O .reduce (O .touch p (O .touch q (join (eff a) (eff b)))))))
+  resultAt n (c-spawn b) = need 16 (O .effBelow (eff b) pure) (makes [] (e-num 0) pure)
 
 -- the entries so far, and the entry and the effect of each expression so far
 pub record Sofar : Type 0 where

@@ -16,7 +16,7 @@ use Rattle.order.specs.Effects.{Effect, pure, touch, join, effBelow}
 use Rattle.order.specs.EffectLaws.{Within, within-wider}
 use Rattle.syntax.specs.Types.{Ty, depth, TypeEntry, e-num, e-pair, e-cell, e-fn, e-lim, e-grant, tree}
 use Rattle.syntax.specs.TypeLaws.{tree-kept, tree-new}
-use Rattle.syntax.specs.Commands.{Cmd, c-num, c-top, c-var, c-pair, c-part, c-fn, c-app, c-new, c-asg, c-read, c-sum, c-test, c-lim, c-grant, c-newkey, c-assoc, c-access, c-divide, mapCmd}
+use Rattle.syntax.specs.Commands.{Cmd, c-num, c-top, c-var, c-pair, c-part, c-fn, c-app, c-new, c-asg, c-read, c-sum, c-test, c-lim, c-grant, c-newkey, c-assoc, c-access, c-divide, c-spawn, mapCmd}
 use Rattle.syntax.specs.Operands.{nth, plain, inner, children, usesVar, bindsName}
 use Rattle.syntax.specs.Job.{Name, Job, uppers, upOf, sourceOf}
 use Rattle.syntax.specs.Reading.{Refusal, most-names, most-types, most-depth}
@@ -142,6 +142,7 @@ module _ (O : Ops) (var : ℕ → ℕ) (E : List TypeEntry) (of : ℕ → ℕ) (
   layout-at fin (c-assoc a b) h = layout-lim (getElem? E (of b)) _ (λ o. new [] (rekeyed (firstPart o) (getElem? E (of a)))) (λ q r. l-new)
   layout-at fin (c-access a b c t) h = layout-lim (getElem? E (of a)) _ (λ o. old t) (λ q r. layout-need 12 _ (layout-need 12 _ l-old))
   layout-at fin (c-divide a b) h = layout-num (getElem? E (of a)) _ (λ p. layout-num (getElem? E (of b)) _ (λ q. l-new))
+  layout-at fin (c-spawn b) h = layout-need _ _ l-new
 
 -- How many entries there are
 

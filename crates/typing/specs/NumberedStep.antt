@@ -11,7 +11,7 @@ use Rattle.order.specs.Effects.{Effect, pure, touch, ofNames, join, drop as dro
 use Rattle.order.specs.EffectLaws.{Within, within-pure, reduce-within, drop-within, join-within, touch-within, join-pure, pure-join, join-swap, touch-join, join-touch, raise-within}
 use Rattle.syntax.specs.Types.{Ty, num, pair, cell, fn, keyOf, rekey, TypeEntry, e-num, e-pair, e-cell, e-fn, e-lim, e-grant, entryTree, tree, byType, onCell, onFn, onGrant, onLim, onNum, onPair}
 use Rattle.syntax.specs.TypeLaws.{tree-entry, tree-new}
-use Rattle.syntax.specs.Commands.{Cmd, c-num, c-top, c-var, c-pair, c-part, c-fn, c-app, c-new, c-asg, c-read, c-sum, c-test, c-lim, c-grant, c-newkey, c-assoc, c-access, c-divide, mapCmd}
+use Rattle.syntax.specs.Commands.{Cmd, c-num, c-top, c-var, c-pair, c-part, c-fn, c-app, c-new, c-asg, c-read, c-sum, c-test, c-lim, c-grant, c-newkey, c-assoc, c-access, c-divide, c-spawn, mapCmd}
 use Rattle.syntax.specs.Operands.{plain, inner, children, typesOf, usesVar, bindsName}
 use Rattle.syntax.specs.Job.{Src, upOf}
 use Rattle.typing.specs.Subtype.{subTy}
@@ -362,3 +362,6 @@ module _ (S : Src) {O : Ops} (ag : Agree (upOf S) O) (ts : List TypeEntry) {E : 
       let q = h .operand b (List·Memᴰ·tail (List·Memᴰ·head refl)) in
       by-operand p _ (by-operand q _ (by-num (p .low) _ _ (λ k hk. by-num (q .low) _ _ (λ l hl.
       m-two (same-reduce ag (same-touch ag hk (same-touch ag hl (same-join (eff-of p) (eff-of q)))))))))
+  matches (c-spawn b) h =
+      let p = h .operand b (List·Memᴰ·head refl) in
+      by-operand p _ (by-need _ _ _ (ag .effBelow (eff b) pure (p .small) pure-low) (m-new (ok-num zero-low) refl (same-self pure-low)))

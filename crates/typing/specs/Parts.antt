@@ -14,7 +14,7 @@ use Rattle.syntax.specs.WellScoped.{ScopedType}
 use Rattle.syntax.specs.TreeFacts.{Ctx, x-root, x-plain, x-inner, UsesOf}
 use Rattle.syntax.specs.Scope.{varin-mem}
 use Rattle.typing.specs.Scoped.{lookup-var}
-use Rattle.typing.specs.Rules.{Has, h-num, h-top, h-var, h-pair, h-part1, h-part2, h-fn, h-app, h-new, h-asg, h-read, h-sum, h-test, h-lim, h-grant, h-newkey, h-assoc, h-access, h-divide, h-sub, HasKeys, k-nil, k-cons}
+use Rattle.typing.specs.Rules.{Has, h-num, h-top, h-var, h-pair, h-part1, h-part2, h-fn, h-app, h-new, h-asg, h-read, h-sum, h-test, h-lim, h-grant, h-newkey, h-assoc, h-access, h-divide, h-spawn, h-sub, HasKeys, k-nil, k-cons}
 
 -- the rules give the expression some type and effect
 pub record Given (S : Src) (Γ : List Entry) (e : ℕ) : Type 0 where
@@ -78,6 +78,7 @@ module _ {S : Src} {Γ : List Entry} where
   plain-part (h-assoc q x y) m = two (given x) (given y) (of-plain q m)
   plain-part (h-access q o x y z s t) m = three (given x) (given y) (given z) (of-plain q m)
   plain-part (h-divide q x y) m = two (given x) (given y) (of-plain q m)
+  plain-part (h-spawn q x) m = one (given x) (of-plain q m)
   plain-part (h-sub d s o u v) m = plain-part d m
 
 -- the body of a binder
@@ -102,6 +103,7 @@ inner-part {S} {Γ} {c = c} (h-newkey q o x u v f y s) m = subst⁻¹ (λ (k : C
 inner-part (h-assoc q x y) m = last (of-inner q m)
 inner-part (h-access q o x y z s t) m = last (of-inner q m)
 inner-part (h-divide q x y) m = last (of-inner q m)
+inner-part (h-spawn q x) m = last (of-inner q m)
 inner-part (h-sub d s o u v) m = inner-part d m
 
 -- every expression, by the way down from the last
@@ -142,6 +144,7 @@ module _ {S : Src} {Γ : List Entry} where
   var-used (h-assoc q x y) m = no-var q refl m
   var-used (h-access q o x y z s t) m = no-var q refl m
   var-used (h-divide q x y) m = no-var q refl m
+  var-used (h-spawn q x) m = no-var q refl m
   var-used (h-sub d s o u v) m = var-used d m
 
   type-used : {e : ℕ} {T U : Ty} {s : Effect} → Has S Γ e T s → List·Memᴰ U (typesOf (nth (S .cmds) e)) → ScopedType Γ U
@@ -165,6 +168,7 @@ module _ {S : Src} {Γ : List Entry} where
   type-used (h-assoc q x y) m = no-type q refl m
   type-used (h-access q o x y z s t) m = one-type q refl o m
   type-used (h-divide q x y) m = no-type q refl m
+  type-used (h-spawn q x) m = no-type q refl m
   type-used (h-sub d s o u v) m = type-used d m
 
   pub uses-of : {e : ℕ} {T : Ty} {s : Effect} → Has S Γ e T s → UsesOf S e Γ

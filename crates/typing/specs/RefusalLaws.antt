@@ -1,15 +1,15 @@
--- Every refusal by its number and place: 2 to 7 at a place in the input or right after it, 8 to 14 at one of the job's expressions. No other number is given.
-use mathlib.Core.Path.{_≡_, refl, sym, ap, _∙_}
+-- Every refusal by its number and place: 2 to 7 at a place in the input or right after it, 8 to 14 and 16 at one of the job's expressions. No other number is given; 15 is the writer's alone.
+use mathlib.Core.Path.{_≡_, refl, sym, ap, _∙_, subst}
 use Prim.Native.Nat.{ℕ, zero, suc, _+_, _≤_, _<_}
 use native.Mathlib.Omega.{arith}
 use mathlib.Core.Bool.{Bool, true, false, cond}
 use mathlib.Core.List.{List, [], _∷_}
 use mathlib.Core.Option.{Option, none, some}
-use mathlib.Core.Logic.{_↔_}
+use mathlib.Core.Logic.{_↔_, _⊎_, inl, inr}
 use lib.ListN.{length, getD, getElem?, length-map}
 use Rattle.order.specs.Effects.{Effect, pure}
 use Rattle.syntax.specs.Types.{Ty, tree, TypeEntry, e-num, e-pair, e-cell, e-fn, e-lim, e-grant}
-use Rattle.syntax.specs.Commands.{Cmd, c-num, c-top, c-var, c-pair, c-part, c-fn, c-app, c-new, c-asg, c-read, c-sum, c-test, c-lim, c-grant, c-newkey, c-assoc, c-access, c-divide, mapCmd}
+use Rattle.syntax.specs.Commands.{Cmd, c-num, c-top, c-var, c-pair, c-part, c-fn, c-app, c-new, c-asg, c-read, c-sum, c-test, c-lim, c-grant, c-newkey, c-assoc, c-access, c-divide, c-spawn, mapCmd}
 use Rattle.syntax.specs.Job.{Job, sourceOf}
 use Rattle.syntax.specs.Reading.{Refusal, Read, refused, read, reading}
 use Rattle.syntax.specs.ReadLaws.{JobOk, read-ok}
@@ -23,29 +23,29 @@ use Rattle.typing.specs.Numbered.{Ops, Result, makes, points, wrong, nee
 use Rattle.typing.specs.Layout.{varEntry}
 use Rattle.typing.specs.NumberedVerdict.{lastOf, lastEntry, lastEffect, reported, judgeBy, judgeReadBy, verdictBy, orderOps, verdict-by-order}
 
--- One expression: 11, 12 or 13
+-- One expression: 11, 12, 13 or 16
 
 data Fine : Result → Type 0 where
   f-makes : (l : List TypeEntry) (x : TypeEntry) (s : Effect) → Fine (makes l x s)
   f-points : (i : ℕ) (s : Effect) → Fine (points i s)
-  f-wrong : (n : ℕ) → 11 ≤ n → n ≤ 13 → Fine (wrong n)
+  f-wrong : (n : ℕ) → 11 ≤ n → (n ≤ 13) ⊎ (n ≡ 16) → Fine (wrong n)
 
 wrong-11 : Fine (wrong 11)
-wrong-11 = f-wrong 11 (omega arith) (omega arith)
+wrong-11 = f-wrong 11 (omega arith) (inl (omega arith))
 
-need-fine : (n : ℕ) → 11 ≤ n → n ≤ 13 → (b : Bool) {r : Result} → Fine r → Fine (need n b r)
+need-fine : (n : ℕ) → 11 ≤ n → (n ≤ 13) ⊎ (n ≡ 16) → (b : Bool) {r : Result} → Fine r → Fine (need n b r)
 unfolding need
 need-fine n l h true f = f
 need-fine n l h false f = f-wrong n l h
 
 need-11 : (b : Bool) {r : Result} → Fine r → Fine (need 11 b r)
-need-11 b f = need-fine 11 (omega arith) (omega arith) b f
+need-11 b f = need-fine 11 (omega arith) (inl (omega arith)) b f
 
 need-12 : (b : Bool) {r : Result} → Fine r → Fine (need 12 b r)
-need-12 b f = need-fine 12 (omega arith) (omega arith) b f
+need-12 b f = need-fine 12 (omega arith) (inl (omega arith)) b f
 
 need-13 : (b : Bool) {r : Result} → Fine r → Fine (need 13 b r)
-need-13 b f = need-fine 13 (omega arith) (omega arith) b f
+need-13 b f = need-fine 13 (omega arith) (inl (omega arith)) b f
 
 num-fine : (x : Option TypeEntry) {f : ℕ → Result} → ((q : ℕ) → Fine (f q)) → Fine (needNum x f)
 unfolding needNum
@@ -133,12 +133,13 @@ module _ (O : Ops) (var : ℕ → ℕ) (at : ℕ → Option TypeEntry) (of : ℕ
   result-fine n (c-assoc a b) = lim-fine (at (of b)) (λ q r. f-makes _ _ _)
   result-fine n (c-access a b c t) = lim-fine (at (of a)) (λ q r. need-12 _ (need-12 _ (f-points _ _)))
   result-fine n (c-divide a b) = num-fine (at (of a)) (λ p. num-fine (at (of b)) (λ q. f-makes _ _ _))
+  result-fine n (c-spawn b) = need-fine _ (omega arith) (inr refl) _ (f-makes _ _ _)
 
 -- All expressions of a job, of which there are k
 
 data Halts (k : ℕ) : Whole → Type 0 where
   h-whole : (σ : Sofar) → Halts k (whole σ)
-  h-halted : (q : Refusal) → 11 ≤ q .number → q .number ≤ 13 → q .place < k → Halts k (halted q)
+  h-halted : (q : Refusal) → 11 ≤ q .number → (q .number ≤ 13) ⊎ (q .number ≡ 16) → q .place < k → Halts k (halted q)
 
 halts : (O : Ops) (var : ℕ → ℕ) (e : ℕ) (l : List (Cmd ℕ)) (σ : Sofar) (k : ℕ) → e + length l ≤ k → Halts k (numberAll O var e l σ)
 unfolding numberAll numberAt settle onto
@@ -179,14 +180,18 @@ tree-among J =
 
 -- The verdict
 
+-- a check's numbers go up to 14, but for 16
+abbrev pub CheckNumber : ℕ → Type 0
+CheckNumber n = (n ≤ 14) ⊎ (n ≡ 16)
+
 -- the number and the place of a refusal of the bytes s
 pub data Stands (s : List ℕ) : Refusal → Type 0 where
   by-reading : (q : Refusal) → 2 ≤ q .number → q .number ≤ 7 → q .place ≤ length s → Stands s q
-  by-expression : (q : Refusal) (J : Job) → reading s ≡ read J → 8 ≤ q .number → q .number ≤ 14 → q .place < length (J .cmds) → Stands s q
+  by-expression : (q : Refusal) (J : Job) → reading s ≡ read J → 8 ≤ q .number → CheckNumber (q .number) → q .place < length (J .cmds) → Stands s q
 
 data Ends (a k : ℕ) : Verdict → Type 0 where
   e-accept : (T : Ty) (e : Effect) → Ends a k (accept T e)
-  e-refuse : (q : Refusal) → a ≤ q .number → q .number ≤ 14 → q .place < k → Ends a k (refuse q)
+  e-refuse : (q : Refusal) → a ≤ q .number → CheckNumber (q .number) → q .place < k → Ends a k (refuse q)
 
 last-lt : (n : ℕ) → 0 < n → predecessor n < n
 unfolding predecessor
@@ -195,12 +200,13 @@ last-lt (suc n) h = omega arith
 
 reported-ends : (O : Ops) (J : Job) → 0 < length (J .cmds) → {w : Whole} → Halts (length (J .cmds)) w → Ends 11 (length (J .cmds)) (reported O J w)
 unfolding reported within lastOf
-reported-ends O J h (h-halted q a b c) = e-refuse q (omega arith) (omega arith) c
+reported-ends O J h (h-halted q a (inl b) c) = e-refuse q a (inl (omega arith)) c
+reported-ends O J h (h-halted q a (inr b) c) = e-refuse q a (inr b) c
 reported-ends O J h (h-whole σ) = at (O .effBelow (lastEffect J σ) (J .rights))
   where
     at : (b : Bool) → Ends 11 (length (J .cmds)) (within b (predecessor (length (J .cmds))) (tree (σ .entries) (lastEntry J σ)) (lastEffect J σ))
     at true = e-accept _ _
-    at false = e-refuse (record { number = 14; place = predecessor (length (J .cmds)) }) (omega arith) (omega arith) (last-lt (length (J .cmds)) h)
+    at false = e-refuse (record { number = 14; place = predecessor (length (J .cmds)) }) (omega arith) (inl (omega arith)) (last-lt (length (J .cmds)) h)
 
 lower : {k : ℕ} {v : Verdict} → Ends 11 k v → Ends 8 k v
 lower (e-accept T e) = e-accept T e
@@ -209,15 +215,15 @@ lower (e-refuse q a b c) = e-refuse q (omega arith) b c
 unless-ends : {k : ℕ} {o : Option Refusal} {v : Verdict} → Among 8 10 k o → Ends 11 k v → Ends 8 k (unless o v)
 unfolding unless
 unless-ends no-refusal w = lower w
-unless-ends (among q a b h) w = e-refuse q a (omega arith) h
+unless-ends (among q a b h) w = e-refuse q a (inl (omega arith)) h
 
-ends : {a k : ℕ} {v : Verdict} {q : Refusal} → Ends a k v → v ≡ refuse q → (a ≤ q .number) × (q .number ≤ 14) × (q .place < k)
+ends : {a k : ℕ} {v : Verdict} {q : Refusal} → Ends a k v → v ≡ refuse q → (a ≤ q .number) × CheckNumber (q .number) × (q .place < k)
 ends (e-accept T e) f = absurd (let z : _≡_ {A = ℕ} 0 1 = cc in omega arith)
 ends {q = q} (e-refuse p a b c) f =
     let z : p ≡ q = cc in
     let n : p .number ≡ q .number = ap (λ (x : Refusal). x .number) z in
     let o : p .place ≡ q .place = ap (λ (x : Refusal). x .place) z in
-    (omega arith, omega arith, omega arith)
+    (omega arith, subst CheckNumber n b, omega arith)
 
 typing-ends : (J : Job) → JobOk J → Ends 11 (length (J .cmds)) (reported (orderOps J) J (numbering (orderOps J) J))
 unfolding numbering
@@ -289,15 +295,15 @@ verdict-load s q e = at (reading s) e
     at (refused r) g = let z : r ≡ q = cc in ap refuse z
     at (read K) g = tree K (treeRefusal (sourceOf K)) _ g
 
--- with lent tables, 1 besides: so 0 is no refusal's number
-pub refusal-number : (w : Tables) (s : List ℕ) (q : Refusal) → verdictWith w s ≡ refuse q → (1 ≤ q .number) × (q .number ≤ 14)
+-- with lent tables, 1 besides: so neither 0 nor 15 is the number of a check's refusal
+pub refusal-number : (w : Tables) (s : List ℕ) (q : Refusal) → verdictWith w s ≡ refuse q → (1 ≤ q .number) × CheckNumber (q .number)
 unfolding verdictWith
 refusal-number w s q e = at (short w) e
   where
-    of : Stands s q → (1 ≤ q .number) × (q .number ≤ 14)
-    of (by-reading p a b c) = (omega arith, omega arith)
-    of (by-expression p J f a b c) = (omega arith, omega arith)
+    of : Stands s q → (1 ≤ q .number) × CheckNumber (q .number)
+    of (by-reading p a b c) = (omega arith, inl (omega arith))
+    of (by-expression p J f a b c) = (omega arith, b)
 
-    at : (b : Bool) → cond b (refuse (record { number = 1; place = 0 })) (verdictOf s) ≡ refuse q → (1 ≤ q .number) × (q .number ≤ 14)
-    at true g = let z : record { number = 1; place = 0 } ≡ q = cc in let n : 1 ≡ q .number = ap (λ (x : Refusal). x .number) z in (omega arith, omega arith)
+    at : (b : Bool) → cond b (refuse (record { number = 1; place = 0 })) (verdictOf s) ≡ refuse q → (1 ≤ q .number) × CheckNumber (q .number)
+    at true g = let z : record { number = 1; place = 0 } ≡ q = cc in let n : 1 ≡ q .number = ap (λ (x : Refusal). x .number) z in (omega arith, inl (omega arith))
     at false g = of (refusal-stands s q g)

@@ -10,7 +10,7 @@ use mathlib.Core.Logic.{_≢_}
 use lib.ListN.{getElem?}
 use Rattle.order.specs.Effects.{Effect, pure, ofNames, touch, join, drop, raise, EffBelow}
 use Rattle.syntax.specs.Types.{Ty, num, pair, cell, fn, lim, grant, keyOf, rekey}
-use Rattle.syntax.specs.Commands.{Cmd, c-num, c-top, c-var, c-pair, c-part, c-fn, c-app, c-new, c-asg, c-read, c-sum, c-test, c-lim, c-grant, c-newkey, c-assoc, c-access, c-divide}
+use Rattle.syntax.specs.Commands.{Cmd, c-num, c-top, c-var, c-pair, c-part, c-fn, c-app, c-new, c-asg, c-read, c-sum, c-test, c-lim, c-grant, c-newkey, c-assoc, c-access, c-divide, c-spawn}
 use Rattle.syntax.specs.Operands.{nth}
 use Rattle.syntax.specs.Job.{Src, upOf}
 use Rattle.syntax.specs.Tree.{Entry, e-var, e-name, keyPair}
@@ -96,6 +96,8 @@ mutual
     -- 0x41: both numbers are touched; "gives an unkeyed pair of unkeyed numbers"
     h-divide : {Γ : List Entry} {e a b p q : ℕ} {s t : Effect} → codeOf S e ≡ c-divide a b
         → Has S Γ a (num p) s → Has S Γ b (num q) t → Has S Γ e (pair 0 (num 0) (num 0)) (touch p (touch q (join s t)))
+    -- 0x42: "The body's effect must be empty, and the expression is the unkeyed number 0"; the body's value may be of any type
+    h-spawn : {Γ : List Entry} {e b : ℕ} {T : Ty} → codeOf S e ≡ c-spawn b → Has S Γ b T pure → Has S Γ e (num 0) pure
     -- subsumption
     h-sub : {Γ : List Entry} {e : ℕ} {A B : Ty} {s t : Effect} → Has S Γ e A s → Sub (upOf S) A B → ScopedType Γ B → EffBelow (upOf S) s t → ScopedEffect Γ t → Has S Γ e B t
 

@@ -12,7 +12,7 @@ use Rattle.syntax.specs.Formed.{Formed}
 use Rattle.syntax.specs.Tree.{Entry, e-var, e-name, keyPair, namesOf}
 use Rattle.syntax.specs.WellScoped.{ScopedName, n-bound, ScopedType, w-num, w-pair, w-cell, w-fn, w-lim, w-grant, ScopedEffect}
 use Rattle.syntax.specs.ScopeLaws.{zero-scoped, one-scoped, wider-type, wider-effect, key-scoped, rekey-scoped, pure-scoped, join-scoped, touch-scoped, drop-scoped, raise-scoped}
-use Rattle.typing.specs.Rules.{Lookup, l-here, l-var, l-name, Has, h-num, h-top, h-var, h-pair, h-part1, h-part2, h-fn, h-app, h-new, h-asg, h-read, h-sum, h-test, h-lim, h-grant, h-newkey, h-assoc, h-access, h-divide, h-sub, HasKeys, k-nil, k-cons}
+use Rattle.typing.specs.Rules.{Lookup, l-here, l-var, l-name, Has, h-num, h-top, h-var, h-pair, h-part1, h-part2, h-fn, h-app, h-new, h-asg, h-read, h-sum, h-test, h-lim, h-grant, h-newkey, h-assoc, h-access, h-divide, h-spawn, h-sub, HasKeys, k-nil, k-cons}
 
 -- the types of a context's variables are in scope there
 pub record ScopedContext (Γ : List Entry) : Type 0 where
@@ -125,6 +125,7 @@ module _ (S : Src) (ok : Formed S) where
   at ih (h-divide c x y) g =
       let z = ih _ (lt _ c hd) _ _ _ x g in let w = ih _ (lt _ c (List·Memᴰ·tail hd)) _ _ _ y g in
       record { ty = w-pair zero-scoped (w-num zero-scoped) (w-num zero-scoped); eff = touch-scoped (key-scoped (z .ty)) (touch-scoped (key-scoped (w .ty)) (join-scoped (z .eff) (w .eff))) }
+  at ih (h-spawn c x) g = record { ty = w-num zero-scoped; eff = pure-scoped }
   at ih (h-sub d s o u v) g = record { ty = o; eff = v }
 
   upto : (f e : ℕ) → e < f → (Γ : List Entry) (T : Ty) (t : Effect) → Has S Γ e T t → ScopedContext Γ → ScopedResult Γ T t

@@ -11,7 +11,7 @@ use Rattle.order.specs.OrderLaws.{getElem?-mem}
 use Rattle.order.specs.Effects.{Effect, pure, touch, join, reduced, reduce}
 use Rattle.order.specs.EffectLaws.{pure-reduced, reduce-reduced}
 use Rattle.syntax.specs.Types.{Ty, pair, cell, fn, rekey}
-use Rattle.syntax.specs.Commands.{Cmd, c-num, c-top, c-var, c-pair, c-part, c-fn, c-app, c-new, c-asg, c-read, c-sum, c-test, c-lim, c-grant, c-newkey, c-assoc, c-access, c-divide}
+use Rattle.syntax.specs.Commands.{Cmd, c-num, c-top, c-var, c-pair, c-part, c-fn, c-app, c-new, c-asg, c-read, c-sum, c-test, c-lim, c-grant, c-newkey, c-assoc, c-access, c-divide, c-spawn}
 use Rattle.syntax.specs.Operands.{nth, plain, inner, typesOf}
 use Rattle.syntax.specs.Job.{Src, upOf}
 use Rattle.syntax.specs.Reading.{hostName}
@@ -184,6 +184,7 @@ module _ (S : Src) (ok : Formed S) (tree : TreeOk S) where
       by-lim A _ h (λ q r hl h. by-require 12 _ _ h (λ w h. by-require 12 _ _ h (λ w′ h. same h (worked _ (o U hd))))))))
   at tab (c-divide a b) c p i o d T s h =
       by-with (tab a) _ h (λ A t ha h. by-with (tab b) _ h (λ B u hb h. by-num A _ h (λ q hq h. by-num B _ h (λ r hr h. same h (worked _ (r-pair r-num r-num))))))
+  at tab (c-spawn b) c p i o d T s h = by-with (tab b) _ h (λ U t hb h. by-require _ _ _ h (λ w h. same h (no-effect r-num)))
 
   -- operands are earlier, so by the number of the expression
   upto : (f e : ℕ) {Γ : List Entry} → e < f → e < length (S .cmds) → Ctx S e Γ → (T : Ty) (s : Effect) → typeOf S e ≡ typed T s → Worked up T s
