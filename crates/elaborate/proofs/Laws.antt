@@ -36,7 +36,7 @@ pub no-binder : (byte x a b c d e : ℕ) → (byte ≡ 0x35 → ⊥) → (byte �
 unfolding binderOf
 no-binder byte x a b c d e h g = decode-cases (λ k. Nothing ≡ binderOf k) byte x a b c d e
     (λ z. refl) (λ z. refl) (λ z. refl) (λ z. refl) (λ z. absurd (h z)) (λ z. refl) (λ z. refl) (λ z. refl) (λ z. refl) (λ z. refl)
-    (λ z. refl) (λ z. refl) (λ z. refl) (λ z. absurd (g z)) (λ z. refl) (λ z. refl) (λ z. refl) refl
+    (λ z. refl) (λ z. refl) (λ z. refl) (λ z. absurd (g z)) (λ z. refl) (λ z. refl) (λ z. refl) (λ z. refl) refl
 
 pub no-set : (e : Entry) → OneOf (0 ∷ 1 ∷ 2 ∷ 4 ∷ 5 ∷ 6 ∷ []) (tagOf the-type e) → 0 ≡ setWord (made (entryOf e))
 unfolding setWord made entryOf

@@ -9,7 +9,7 @@ use lib.Dec.{eqb, ltb, leb}
 use borrow.Author.Tests.{lt-ltb, le-ltb, leb-true, leb-false, eq-eqb, ne-eqb, eqb-true}
 use Rattle.order.specs.Bools.{_and_}
 use Rattle.syntax.specs.Commands.{Op, o-host, o-local, o-number, o-pair, o-cell, o-function, o-limit, o-grant, o-value, o-rights, o-end, form, opOf, operands, width, sectionOf}
-use Rattle.syntax.specs.Commands.{x-number, x-top, x-variable, x-pair, x-part, x-function, x-apply, x-cell, x-assign, x-read, x-sum, x-test, x-limit, x-grant, x-newkey, x-associate, x-access, x-divide}
+use Rattle.syntax.specs.Commands.{x-number, x-top, x-variable, x-pair, x-part, x-function, x-apply, x-cell, x-assign, x-read, x-sum, x-test, x-limit, x-grant, x-newkey, x-associate, x-access, x-divide, x-spawn}
 use Rattle.syntax.specs.JobBytes.{bytesOf, operandBytes, commandBytes}
 use Rattle.syntax.specs.Writing.{item, fault, fits, itemOf, typeNumbers, fieldsOf}
 use Rattle.entry.specs.Bytes.{widthByte, sectionByte}
@@ -168,6 +168,7 @@ name-operands x-newkey h = absurd (omega (arith, h))
 name-operands x-associate h = absurd (omega (arith, h))
 name-operands x-access h = absurd (omega (arith, h))
 name-operands x-divide h = absurd (omega (arith, h))
+name-operands x-spawn h = absurd (omega (arith, h))
 name-operands o-end h = absurd (omega (arith, h))
 
 pub name-fits : (op : Op) → sectionOf op ≡ 0 → (d : ℕ) → fits (operands op) (d % 256 ∷ []) ≡ true
@@ -207,6 +208,7 @@ value-operands x-newkey h = absurd (omega (arith, h))
 value-operands x-associate h = absurd (omega (arith, h))
 value-operands x-access h = absurd (omega (arith, h))
 value-operands x-divide h = absurd (omega (arith, h))
+value-operands x-spawn h = absurd (omega (arith, h))
 value-operands o-end h = absurd (omega (arith, h))
 
 pub value-fits : (op : Op) → sectionOf op ≡ 2 → (d : ℕ) → fits (operands op) (d / 256 % 65536 ∷ d / 16777216 ∷ []) ≡ ltb (d / 16777216) 4294967296
@@ -250,6 +252,7 @@ type-fits x-newkey h d s k = absurd (omega (arith, h))
 type-fits x-associate h d s k = absurd (omega (arith, h))
 type-fits x-access h d s k = absurd (omega (arith, h))
 type-fits x-divide h d s k = absurd (omega (arith, h))
+type-fits x-spawn h d s k = absurd (omega (arith, h))
 type-fits o-end h d s k = absurd (omega (arith, h))
 
 -- the name of a limit or grant key
@@ -286,6 +289,7 @@ type-tail x-newkey h d s = absurd (omega (arith, h))
 type-tail x-associate h d s = absurd (omega (arith, h))
 type-tail x-access h d s = absurd (omega (arith, h))
 type-tail x-divide h d s = absurd (omega (arith, h))
+type-tail x-spawn h d s = absurd (omega (arith, h))
 type-tail o-end h d s = absurd (omega (arith, h))
 
 -- Expressions
@@ -328,6 +332,7 @@ expr-fits x-newkey h x a b c d e p = fits-more 1 (x % 256) _ _ (byte-fits x) (fi
 expr-fits x-associate h x a b c d e p = (fits-more 2 a _ _ (p .first) (fits-more 2 b _ _ (p .second) fits-none))
 expr-fits x-access h x a b c d e p = (fits-more 2 a _ _ (p .first) (fits-more 2 b _ _ (p .second) (fits-more 2 c _ _ (p .third) (fits-more 2 d _ _ (p .fourth) fits-none))))
 expr-fits x-divide h x a b c d e p = (fits-more 2 a _ _ (p .first) (fits-more 2 b _ _ (p .second) fits-none))
+expr-fits x-spawn h x a b c d e p = (fits-more 2 a _ _ (p .first) fits-none)
 expr-fits o-end h x a b c d e p = absurd (omega (arith, h))
 
 low-byte : (x : ℕ) → x % 256 ≡ x % 256 % 256
@@ -374,4 +379,5 @@ expr-tail x-newkey h x a b c d e = ap₂ (λ (m n : ℕ). m ∷ n ∷ (bytesOf 2
 expr-tail x-associate h x a b c d e = refl
 expr-tail x-access h x a b c d e = refl
 expr-tail x-divide h x a b c d e = refl
+expr-tail x-spawn h x a b c d e = refl
 expr-tail o-end h x a b c d e = absurd (omega (arith, h))

@@ -74,4 +74,5 @@ exprTail op x a b c d e =
     (cond (eqb op 0x3C) (bytesOf 1 (x % 256) ++ ((two a b ++ two c d) ++ bytesOf 2 e))
     (cond (eqb op 0x3E) (bytesOf 2 (x % 65536) ++ (two a b ++ bytesOf 2 c))
     (cond (eqb op 0x40) (two a b ++ two c d)
-    (two a b))))))))))))
+    (cond (eqb op 0x42) (bytesOf 2 a)
+    (two a b)))))))))))))

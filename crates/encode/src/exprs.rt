@@ -77,6 +77,7 @@ fn expr_operands(
             push16(out, q, c)
         }
         0x40 => four(out, at, a, b, c, d),
+        0x42 => push16(out, at, a),
         _ => two(out, at, a, b),
     }
 }

@@ -13,7 +13,7 @@ use Rattle.order.specs.OrderLaws.{Proper}
 use Rattle.order.specs.Effects.{Effect, ofWord}
 use Rattle.syntax.specs.Types.{TypeEntry, tree, depth}
 use Rattle.syntax.specs.Commands.{Cmd, c-lim, Op, form, allowed, o-host, o-local, o-number, o-pair, o-cell, o-function, o-limit, o-grant, o-value, o-rights, o-end, opOf, operands, width, sectionOf, fields}
-use Rattle.syntax.specs.Commands.{x-number, x-top, x-variable, x-pair, x-part, x-function, x-apply, x-cell, x-assign, x-read, x-sum, x-test, x-limit, x-grant, x-newkey, x-associate, x-access, x-divide}
+use Rattle.syntax.specs.Commands.{x-number, x-top, x-variable, x-pair, x-part, x-function, x-apply, x-cell, x-assign, x-read, x-sum, x-test, x-limit, x-grant, x-newkey, x-associate, x-access, x-divide, x-spawn}
 use Rattle.syntax.specs.Job.{Name, HostValue, Job, uppers}
 use Rattle.syntax.specs.Words.{nameWord, typeWord, filled, slots}
 use Rattle.syntax.specs.Reading.{State, declared, hostName, nameOk, typeOk, hostValueOk, setOk, rightsOk, cmdOk, Written, w-name, w-type, w-value, w-rights, w-cmd, w-end, unwritten, means, written, given, enter, misplaced, full}
@@ -108,6 +108,7 @@ module _ (J : Job) (names types depths : List ℕ) (k : Kept J names types depth
   entry-law x-associate = ap (λ (l : List Name). formEntry 0x3F s l (shapeOf J)) (k .back) ∙ exprs.law-x-associate s J
   entry-law x-access = ap (λ (l : List Name). formEntry 0x40 s l (shapeOf J)) (k .back) ∙ exprs.law-x-access s J
   entry-law x-divide = ap (λ (l : List Name). formEntry 0x41 s l (shapeOf J)) (k .back) ∙ exprs.law-x-divide s J
+  entry-law x-spawn = ap (λ (l : List Name). formEntry 0x42 s l (shapeOf J)) (k .back) ∙ exprs.law-x-spawn s J
   entry-law o-end = refl
 
 -- What is written has five places
@@ -157,6 +158,7 @@ five-means x-newkey l = refl
 five-means x-associate l = refl
 five-means x-access l = refl
 five-means x-divide l = refl
+five-means x-spawn l = refl
 five-means o-end l = refl
 
 pub five-places : (o : Op) (l : List ℕ) → places (written o l) ≡ 5

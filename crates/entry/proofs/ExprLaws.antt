@@ -11,7 +11,7 @@ use Rattle.order.specs.Bools.{_and_}
 use Rattle.order.specs.Sets.{all-of}
 use Rattle.syntax.specs.Commands.{Cmd, c-part, c-sum, c-lim}
 use Rattle.syntax.specs.Commands.{operands}
-use Rattle.syntax.specs.Commands.{x-number, x-top, x-variable, x-pair, x-part, x-function, x-apply, x-cell, x-assign, x-read, x-sum, x-test, x-limit, x-grant, x-newkey, x-associate, x-access, x-divide}
+use Rattle.syntax.specs.Commands.{x-number, x-top, x-variable, x-pair, x-part, x-function, x-apply, x-cell, x-assign, x-read, x-sum, x-test, x-limit, x-grant, x-newkey, x-associate, x-access, x-divide, x-spawn}
 use Rattle.syntax.specs.Operands.{plain, inner, children, typesOf, usesVar, bindsVar, bindsName}
 use Rattle.syntax.specs.Job.{Job}
 use Rattle.syntax.specs.Words.{headWord, slots, filled}
@@ -189,6 +189,10 @@ module _ (s : List ℕ) (J : Job) where
   pub law-x-read : formEntry (byteOf x-read) s (J .names) (shapeOf J) ≡ judgedW (written x-read (fieldsFrom (operands x-read) s 1)) J
   unfolding digitOf offsetsOf kindsOf formEntry placesOk slotsOk slotOk formOf slotIn leadOf leadOk byteOf written operands fieldsFrom judgedW okW entryW cmdOk children plain inner typesOf usesVar bindsVar bindsName all-of wordsOf headWord slots filled shapeOf
   law-x-read = one-child (ltb (fieldAt 2 s 1) (length (J .cmds))) _ _
+
+  pub law-x-spawn : formEntry (byteOf x-spawn) s (J .names) (shapeOf J) ≡ judgedW (written x-spawn (fieldsFrom (operands x-spawn) s 1)) J
+  unfolding digitOf offsetsOf kindsOf formEntry placesOk slotsOk slotOk formOf slotIn leadOf leadOk byteOf written operands fieldsFrom judgedW okW entryW cmdOk children plain inner typesOf usesVar bindsVar bindsName all-of wordsOf headWord slots filled shapeOf
+  law-x-spawn = one-child (ltb (fieldAt 2 s 1) (length (J .cmds))) _ _
 
   pub law-x-function : formEntry (byteOf x-function) s (J .names) (shapeOf J) ≡ judgedW (written x-function (fieldsFrom (operands x-function) s 1)) J
   unfolding digitOf offsetsOf kindsOf formEntry placesOk slotsOk slotOk formOf slotIn leadOf leadOk byteOf written operands fieldsFrom judgedW okW entryW cmdOk children plain inner typesOf usesVar bindsVar bindsName all-of wordsOf headWord slots filled shapeOf bindsOk

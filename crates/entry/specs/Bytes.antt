@@ -55,7 +55,8 @@ offsetsOf op =
     (cond (eqb op 0x3F) 0x00031
     (cond (eqb op 0x40) 0x07531
     (cond (eqb op 0x41) 0x00031
-    0))))))))))))))
+    (cond (eqb op 0x42) 0x00001
+    0)))))))))))))))
 
 -- what stands there: 1 an expression, 2 a type, 0 nothing
 unfoldable pub kindsOf : ℕ → ℕ
@@ -75,7 +76,8 @@ kindsOf op =
     (cond (eqb op 0x3F) 0x00011
     (cond (eqb op 0x40) 0x02111
     (cond (eqb op 0x41) 0x00011
-    0))))))))))))))
+    (cond (eqb op 0x42) 0x00001
+    0)))))))))))))))
 
 -- digit i of a word, from the right
 unfoldable pub digitOf : ℕ → ℕ → ℕ

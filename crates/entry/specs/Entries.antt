@@ -76,7 +76,7 @@ valueEntry s ds types t =
 unfoldable pub rightsEntry : List ℕ → List ℕ → List Name → Entry
 rightsEntry s anc ds = cond (rightsOkBy anc ds (fieldAt 8 s 1)) (Rights (fieldAt 8 s 1)) (Refuse 6)
 
--- 0x30 to 0x41: variables, binders, parts, after v host values
+-- 0x30 to 0x42: variables, binders, parts, after v host values
 unfoldable pub bindsOk : ℕ → ℕ → Bool
 bindsOk v x = cond (leb v x) (ltb x most-variables) false
 

@@ -4,7 +4,7 @@ use Prim.Native.Nat.{ℕ, _<_}
 use native.Mathlib.Omega.{arith}
 use mathlib.Core.Option.{none, some}
 use Rattle.syntax.specs.Commands.{Op, o-host, o-local, o-number, o-pair, o-cell, o-function, o-limit, o-grant, o-value, o-rights, o-end, form, opOf, width, sectionOf}
-use Rattle.syntax.specs.Commands.{x-number, x-top, x-variable, x-pair, x-part, x-function, x-apply, x-cell, x-assign, x-read, x-sum, x-test, x-limit, x-grant, x-newkey, x-associate, x-access, x-divide}
+use Rattle.syntax.specs.Commands.{x-number, x-top, x-variable, x-pair, x-part, x-function, x-apply, x-cell, x-assign, x-read, x-sum, x-test, x-limit, x-grant, x-newkey, x-associate, x-access, x-divide, x-spawn}
 use Rattle.syntax.specs.ReadPlaces as places
 use Rattle.syntax.specs.ReadPlaces.{width-most, widest-few}
 use Rattle.entry.specs.Bytes.{widthOn, widthByte, sectionByte}
@@ -49,6 +49,7 @@ sections x-newkey = (refl, omega arith)
 sections x-associate = (refl, omega arith)
 sections x-access = (refl, omega arith)
 sections x-divide = (refl, omega arith)
+sections x-spawn = (refl, omega arith)
 sections o-end = (refl, omega arith)
 
 pub section-is : (o : Op) → sectionByte (byteOf o) ≡ sectionOf o

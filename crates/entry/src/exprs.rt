@@ -37,6 +37,7 @@ fn offsets(op: u8) -> u32
         0x3F => 0x00031,
         0x40 => 0x07531,
         0x41 => 0x00031,
+        0x42 => 0x00001,
         _ => 0,
     }
 }
@@ -61,6 +62,7 @@ fn kinds(op: u8) -> u32
         0x3F => 0x00011,
         0x40 => 0x02111,
         0x41 => 0x00011,
+        0x42 => 0x00001,
         _ => 0,
     }
 }
@@ -244,7 +246,7 @@ fn places_ok(op: u8, c: u8, f: Form, n: usize, t: usize) -> bool
     slots_ok(op, f, n, t)
 }
 
-// 0x30 to 0x41.
+// 0x30 to 0x42.
 pub fn form_entry<'a>(op: u8, job: &'a [u8], names: &'a [u16], h: Shape) -> Entry
     ensures { λ r. ⌜ r ≡ formEntry op (now (job .entry)) (namesIn (now (names .entry)) (h .names)) h ⌝ }
 {

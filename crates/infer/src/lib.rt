@@ -16,6 +16,7 @@ use rules::operand_at;
 use rules::pair;
 use rules::part;
 use rules::read;
+use rules::spawn;
 use rules::sum;
 use rules::test;
 use rules::top;
@@ -139,6 +140,10 @@ pub fn result<'a>(
             return read(anc, types, sets, x);
         }
         0x3C => return limit(anc, types, sets, slots, entries, effects, at, lead(w)),
+        0x42 => {
+            let x = operand_at(slots, entries, effects, at);
+            return spawn(anc, x);
+        }
         _ => return two(
             w,
             at,

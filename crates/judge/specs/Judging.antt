@@ -148,7 +148,7 @@ module _ {bytes : List ℕ} {J : Job} {g : Shape} {w : Tables} (given : Given by
           place passed.Whole = 0
           place (passed.Halted k l) = l
 
-      -- 11 to 13
+      -- 11 to 13, 16
       pub typed-halted : {n e : ℕ} → a ≡ passed.Halted n e → Judged bytes J (Refused n e) left
       typed-halted {n} {e} q =
           judged.refused-by n e left (verdict-halted (jobOps (length (w .job .names))) (λ K k. agree (length (w .job .names)) k) bytes J (is-read) _ scoped (halted-is reached after q))

@@ -1,4 +1,4 @@
-// Judging a job that is loaded: its expressions are typed (11 to 13), and its effect is held against its rights (14).
+// Judging a job that is loaded: its expressions are typed (11 to 13, 16), and its effect is held against its rights (14).
 use elaborate::Passed;
 use job::Shape;
 use table::at16;

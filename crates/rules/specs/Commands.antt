@@ -119,6 +119,9 @@ divideBy anc types sets x y n =
     needNum (entryIn types sets (x .ty))
     (λ p. needNum (entryIn types sets (y .ty)) (λ q. makes (e-num 0 ∷ []) (e-pair 0 n n) (ofWord (reduceBy anc (touchBy p (touchBy q (joinBy (x .effect) (y .effect))))))))
 
+abbrev pub spawnBy : List ℕ → Operand → Result
+spawnBy anc x = need 16 (effBelowBy anc (x .effect) 0) numberBy
+
 -- the commands with two operands or more, by a head and the five places from `at` on; any other stands for a number
 abbrev pub twoOf : ℕ → ℕ → ℕ → ℕ → ℕ → ℕ → Cmd ℕ
 twoOf byte x a b c d =

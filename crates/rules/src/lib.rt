@@ -462,3 +462,13 @@ pub fn divide<'a>(
     let s = touch(q, join(x.effect, y.effect));
     Typing::Shares(next, touched(anc, p, s))
 }
+
+// 0x42: a number, where the body's effect is empty, whatever its type.
+pub fn spawn(anc: &[u64; MOST_NAMES], x: Operand) -> Typing
+    ensures { λ r. ⌜ resultIn r ≡ by.spawnBy (now (anc .entry)) x ⌝ }
+{
+    if eff_below(anc, x.effect, 0) {
+        return number();
+    }
+    Typing::Wrong(16)
+}

@@ -32,7 +32,8 @@ arity-few b =
     (few (eqb b 0x3E) (omega arith)
     (few (eqb b 0x3F) (omega arith)
     (few (eqb b 0x40) (omega arith)
-    (few (eqb b 0x41) (omega arith) (omega arith))))))))))))))
+    (few (eqb b 0x41) (omega arith)
+    (few (eqb b 0x42) (omega arith) (omega arith)))))))))))))))
 
 first-few : (w : ℕ) → firstOperands w ≤ 4
 unfolding firstOperands

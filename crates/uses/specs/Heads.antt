@@ -10,7 +10,7 @@ use lib.Dec.{eqb, ltb}
 use borrow.Author.Tests.{le-ltb, ltb-true, ltb-false, ne-eqb, eqb-true}
 use Rattle.order.specs.Sets.{bit}
 use Rattle.order.specs.SetLaws.{bit-pow, bit-zero, lt-bit, lt-pow}
-use Rattle.syntax.specs.Commands.{Cmd, c-num, c-top, c-var, c-pair, c-part, c-fn, c-app, c-new, c-asg, c-read, c-sum, c-test, c-lim, c-grant, c-newkey, c-assoc, c-access, c-divide, mapCmd, form, row}
+use Rattle.syntax.specs.Commands.{Cmd, c-num, c-top, c-var, c-pair, c-part, c-fn, c-app, c-new, c-asg, c-read, c-sum, c-test, c-lim, c-grant, c-newkey, c-assoc, c-access, c-divide, c-spawn, mapCmd, form, row}
 use Rattle.syntax.specs.Operands.{ofRoles, plain, inner, children, typesOf, usesVar}
 use Rattle.syntax.specs.Words.{packed, headRoles, headWord, slots, filled}
 use Rattle.syntax.specs.ReadPlaces.{byte-low}
@@ -109,6 +109,7 @@ children-count (c-newkey v r a b t) h c = omega arith
 children-count (c-assoc a b) h c = omega arith
 children-count (c-access x y z t) h c = omega arith
 children-count (c-divide a b) h c = omega arith
+children-count (c-spawn b) h c = omega arith
 
 -- What else the passes ask of a command: the variable that it uses, what it binds and its body, and its type operand
 
@@ -159,3 +160,4 @@ asked (c-newkey v r a b t) = record { sort = is-key v r a b t; type-at = t-one t
 asked (c-assoc a b) = plainly (record { uses-none = refl; binds-none = λ f. refl; no-body = λ f. refl; no-variable = refl; no-function = refl; no-key = refl }) (t-none refl refl)
 asked (c-access a b c t) = plainly (record { uses-none = refl; binds-none = λ f. refl; no-body = λ f. refl; no-variable = refl; no-function = refl; no-key = refl }) (t-one t refl (omega arith) refl)
 asked (c-divide a b) = plainly (record { uses-none = refl; binds-none = λ f. refl; no-body = λ f. refl; no-variable = refl; no-function = refl; no-key = refl }) (t-none refl refl)
+asked (c-spawn b) = plainly (record { uses-none = refl; binds-none = λ f. refl; no-body = λ f. refl; no-variable = refl; no-function = refl; no-key = refl }) (t-none refl refl)

@@ -26,7 +26,8 @@ arityOf b =
     (cond (eqb b 0x3F) 2
     (cond (eqb b 0x40) 3
     (cond (eqb b 0x41) 2
-    0)))))))))))))
+    (cond (eqb b 0x42) 1
+    0))))))))))))))
 
 -- place i of the command with this head is an expression; of 0x3C the keys that are used, and the body
 unfoldable pub isOperand : ℕ → ℕ → Bool

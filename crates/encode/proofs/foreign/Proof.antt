@@ -8,25 +8,20 @@ use Rattle.encode.proofs.foreign.Lts as lts
 use Rattle.entry.proofs.section.Reads as section-reads
 use Rattle.entry.proofs.width.Reads as width-reads
 
--- src/lib.rt:47:8
 width-requires : tie.Need-width-requires
 width-requires c κs = search needs
 
--- src/lib.rt:48:9
 returns : tie.Need-returns
 unfolding foreignBy
 returns c = simp (eq-eqb _ _ (c .if1 .taken), ← c .before .width .ensures)
 
--- src/lib.rt:50:8
 section-requires : tie.Need-section-requires
 section-requires c κs = search needs
 
--- src/lib.rt:51:9
 returns-2 : tie.Need-returns-2
 unfolding foreignBy
 returns-2 c = simp (eq-eqb _ _ (c .if2 .taken), ne-eqb _ _ (c .before .before .if1 .left), ← c .before .section .ensures, ← c .before .before .before .width .ensures)
 
--- src/lib.rt:44:1
 returns-3 : tie.Need-returns-3
 unfolding foreignBy
 returns-3 c = simp (ne-eqb _ _ (c .if2 .left), ne-eqb _ _ (c .before .before .if1 .left), ← c .before .section .ensures, ← c .before .before .before .width .ensures)

@@ -5,22 +5,18 @@ use Rattle.encode.proofs.limit.Tie as tie
 use Rattle.encode.proofs.limit.Reads as reads
 use Rattle.encode.proofs.limit.Lts as lts
 
--- src/lib.rt:57:1
 returns : tie.Need-returns
 unfolding limitOf
 returns c = simp (c .match .keys1)
 
--- src/lib.rt:57:1
 returns-2 : tie.Need-returns-2
 unfolding limitOf
 returns-2 c = simp (c .match .keys2)
 
--- src/lib.rt:57:1
 returns-3 : tie.Need-returns-3
 unfolding limitOf
 returns-3 c = simp (c .match .keys3)
 
--- src/lib.rt:57:1
 returns-4 : tie.Need-returns-4
 unfolding limitOf
 returns-4 c = simp (ne-eqb _ _ (c .match .rest .1), ne-eqb _ _ (c .match .rest .0 .1), ne-eqb _ _ (c .match .rest .0 .0 .1))

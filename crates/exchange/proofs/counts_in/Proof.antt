@@ -6,27 +6,21 @@ use Rattle.exchange.proofs.counts_in.Reads as reads
 use Rattle.exchange.proofs.counts_in.Lts as lts
 use Rattle.table.proofs.at64.Reads as at64-reads
 
--- src/lib.rt:40:16
 at64-requires : tie.Need-at64-requires
 at64-requires c κs = search needs
 
--- src/lib.rt:41:16
 at64-requires-2 : tie.Need-at64-requires-2
 at64-requires-2 c κs = search needs
 
--- src/lib.rt:42:17
 at64-requires-3 : tie.Need-at64-requires-3
 at64-requires-3 c κs = search needs
 
--- src/lib.rt:43:15
 at64-requires-4 : tie.Need-at64-requires-4
 at64-requires-4 c κs = search needs
 
--- src/lib.rt:44:17
 at64-requires-5 : tie.Need-at64-requires-5
 at64-requires-5 c κs = search needs
 
--- src/lib.rt:36:1
 returns : tie.Need-returns
 unfolding shapeIn
 returns c = simp (← c .at645 .ensures, ← c .before .at644 .ensures, ← c .before .before .at643 .ensures, ← c .before .before .before .at642 .ensures, ← c .before .before .before .before .at64 .ensures)

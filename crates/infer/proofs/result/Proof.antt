@@ -114,15 +114,25 @@ returns-8 c = (simp (← (c .before .before .before .at64 .ensures), (c .before 
 operand-at-requires-5 : tie.Need-operand-at-requires-5
 operand-at-requires-5 c κs = search needs
 
+spawn-requires : tie.Need-spawn-requires
+spawn-requires c κs = search needs
+
+returns-9 : tie.Need-returns-9
+unfolding resultAt codeIn decode fits
+returns-9 c = (simp (← (c .before .before .before .at64 .ensures), (c .before .before .match .keys9), (c .spawn .ensures), (c .before .operand-at5 .ensures)), c .before .before .before .before .before .before .before .before .before .before .before .before .before .pre)
+
+operand-at-requires-6 : tie.Need-operand-at-requires-6
+operand-at-requires-6 c κs = search needs
+
 two-requires : tie.Need-two-requires
 two-requires c κs = search needs
 
 same-length-2 : tie.Need-same-length-2
 same-length-2 c = search needs
 
-returns-9 : tie.Need-returns-9
+returns-10 : tie.Need-returns-10
 unfolding resultAt codeIn decodeBy
-returns-9 c = (simp (decode-is, ← (c .before .before .before .before .before .before .at64 .ensures), ne-eqb _ _ (c .before .before .before .before .before .match .rest .1), ne-eqb _ _ (c .before .before .before .before .before .match .rest .0 .1), ne-eqb _ _ (c .before .before .before .before .before .match .rest .0 .0 .1), ne-eqb _ _ (c .before .before .before .before .before .match .rest .0 .0 .0 .1), ne-eqb _ _ (c .before .before .before .before .before .match .rest .0 .0 .0 .0 .1), ne-eqb _ _ (c .before .before .before .before .before .match .rest .0 .0 .0 .0 .0 .1), ne-eqb _ _ (c .before .before .before .before .before .match .rest .0 .0 .0 .0 .0 .0 .1)) ((c .before .before .two .ensures .0) (λ v. getD ((c .before .before .before .before .before .before .before .before .before .before .before .before .before .before .before .before .args .vars) .now) v 0)), c .before .before .two .ensures .1)
+returns-10 c = (simp (decode-is, ← (c .before .before .before .before .before .before .at64 .ensures), ne-eqb _ _ (c .before .before .before .before .before .match .rest .1), ne-eqb _ _ (c .before .before .before .before .before .match .rest .0 .1), ne-eqb _ _ (c .before .before .before .before .before .match .rest .0 .0 .1), ne-eqb _ _ (c .before .before .before .before .before .match .rest .0 .0 .0 .1), ne-eqb _ _ (c .before .before .before .before .before .match .rest .0 .0 .0 .0 .1), ne-eqb _ _ (c .before .before .before .before .before .match .rest .0 .0 .0 .0 .0 .1), ne-eqb _ _ (c .before .before .before .before .before .match .rest .0 .0 .0 .0 .0 .0 .1), ne-eqb _ _ (c .before .before .before .before .before .match .rest .0 .0 .0 .0 .0 .0 .0 .1)) ((c .before .before .two .ensures .0) (λ v. getD ((c .before .before .before .before .before .before .before .before .before .before .before .before .before .before .before .before .args .vars) .now) v 0)), c .before .before .two .ensures .1)
 
 pub result-spec : {M : Type 1} → statement M
 result-spec =
@@ -160,6 +170,9 @@ result-spec =
     limit-requires
     returns-8
     operand-at-requires-5
+    spawn-requires
+    returns-9
+    operand-at-requires-6
     two-requires
     same-length-2
-    returns-9)
+    returns-10)

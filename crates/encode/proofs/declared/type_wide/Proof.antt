@@ -7,35 +7,28 @@ use Rattle.encode.proofs.declared.type_wide.Reads as reads
 use Rattle.encode.proofs.declared.type_wide.Lts as lts
 use Rattle.table.proofs.first_of.Reads as first-of-reads
 
--- src/declared.rt:43:24
 first-of-requires : tie.Need-first-of-requires
 first-of-requires c κs = search needs
 
--- src/declared.rt:44:24
 first-of-requires-2 : tie.Need-first-of-requires-2
 first-of-requires-2 c κs = search needs
 
--- src/declared.rt:37:1
 returns : tie.Need-returns
 unfolding typeWide
 returns c = simp (c .match .keys1)
 
--- src/declared.rt:37:1
 returns-2 : tie.Need-returns-2
 unfolding typeWide
 returns-2 c = simp (c .match .keys2)
 
--- src/declared.rt:37:1
 returns-3 : tie.Need-returns-3
 unfolding typeWide
 returns-3 c = simp (c .before .match .keys3, ← c .first-of .ensures)
 
--- src/declared.rt:37:1
 returns-4 : tie.Need-returns-4
 unfolding typeWide
 returns-4 c = simp (c .before .match .keys4, ← c .first-of2 .ensures)
 
--- src/declared.rt:37:1
 returns-5 : tie.Need-returns-5
 unfolding typeWide
 returns-5 c = simp (ne-eqb _ _ (c .match .rest .1), ne-eqb _ _ (c .match .rest .0 .1), ne-eqb _ _ (c .match .rest .0 .0 .1), ne-eqb _ _ (c .match .rest .0 .0 .0 .1))

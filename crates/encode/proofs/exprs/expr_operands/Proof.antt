@@ -89,6 +89,9 @@ push16-requires-5 c κs = room-after 4 2 (two-length _ _) (c .before .two4 .ensu
 four-requires-3 : tie.Need-four-requires-3
 four-requires-3 c κs = search needs
 
+push16-requires-6 : tie.Need-push16-requires-6
+push16-requires-6 c κs = search needs
+
 two-requires-5 : tie.Need-two-requires-5
 two-requires-5 c κs = search needs
 
@@ -142,7 +145,11 @@ returns-12 c = pushed-as (simp (c .before .before .match .keys12)) (c .four3 .en
 
 returns-13 : tie.Need-returns-13
 unfolding exprTail
-returns-13 c = pushed-as (simp (ne-eqb _ _ (c .before .before .match .rest .1), ne-eqb _ _ (c .before .before .match .rest .0 .1), ne-eqb _ _ (c .before .before .match .rest .0 .0 .1), ne-eqb _ _ (c .before .before .match .rest .0 .0 .0 .1), ne-eqb _ _ (c .before .before .match .rest .0 .0 .0 .0 .1), ne-eqb _ _ (c .before .before .match .rest .0 .0 .0 .0 .0 .1), ne-eqb _ _ (c .before .before .match .rest .0 .0 .0 .0 .0 .0 .1), ne-eqb _ _ (c .before .before .match .rest .0 .0 .0 .0 .0 .0 .0 .1), ne-eqb _ _ (c .before .before .match .rest .0 .0 .0 .0 .0 .0 .0 .0 .1), ne-eqb _ _ (c .before .before .match .rest .0 .0 .0 .0 .0 .0 .0 .0 .0 .1), ne-eqb _ _ (c .before .before .match .rest .0 .0 .0 .0 .0 .0 .0 .0 .0 .0 .1), ne-eqb _ _ (c .before .before .match .rest .0 .0 .0 .0 .0 .0 .0 .0 .0 .0 .0 .1))) (c .two5 .ensures)
+returns-13 c = pushed-as (simp (c .before .before .match .keys13)) (c .push166 .ensures)
+
+returns-14 : tie.Need-returns-14
+unfolding exprTail
+returns-14 c = pushed-as (simp (ne-eqb _ _ (c .before .before .match .rest .1), ne-eqb _ _ (c .before .before .match .rest .0 .1), ne-eqb _ _ (c .before .before .match .rest .0 .0 .1), ne-eqb _ _ (c .before .before .match .rest .0 .0 .0 .1), ne-eqb _ _ (c .before .before .match .rest .0 .0 .0 .0 .1), ne-eqb _ _ (c .before .before .match .rest .0 .0 .0 .0 .0 .1), ne-eqb _ _ (c .before .before .match .rest .0 .0 .0 .0 .0 .0 .1), ne-eqb _ _ (c .before .before .match .rest .0 .0 .0 .0 .0 .0 .0 .1), ne-eqb _ _ (c .before .before .match .rest .0 .0 .0 .0 .0 .0 .0 .0 .1), ne-eqb _ _ (c .before .before .match .rest .0 .0 .0 .0 .0 .0 .0 .0 .0 .1), ne-eqb _ _ (c .before .before .match .rest .0 .0 .0 .0 .0 .0 .0 .0 .0 .0 .1), ne-eqb _ _ (c .before .before .match .rest .0 .0 .0 .0 .0 .0 .0 .0 .0 .0 .0 .1), ne-eqb _ _ (c .before .before .match .rest .0 .0 .0 .0 .0 .0 .0 .0 .0 .0 .0 .0 .1))) (c .two5 .ensures)
 
 pub expr-operands-spec : {M : Type 1} → statement M
 expr-operands-spec =
@@ -173,6 +180,7 @@ expr-operands-spec =
     two-requires-4
     push16-requires-5
     four-requires-3
+    push16-requires-6
     two-requires-5
     returns
     returns-2
@@ -186,4 +194,5 @@ expr-operands-spec =
     returns-10
     returns-11
     returns-12
-    returns-13)
+    returns-13
+    returns-14)

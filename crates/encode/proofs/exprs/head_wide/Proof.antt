@@ -5,42 +5,34 @@ use Rattle.encode.proofs.exprs.head_wide.Tie as tie
 use Rattle.encode.proofs.exprs.head_wide.Reads as reads
 use Rattle.encode.proofs.exprs.head_wide.Lts as lts
 
--- src/exprs.rt:19:1
 returns : tie.Need-returns
 unfolding headWide
 returns c = simp (c .match .keys1)
 
--- src/exprs.rt:19:1
 returns-2 : tie.Need-returns-2
 unfolding headWide
 returns-2 c = simp (c .match .keys2)
 
--- src/exprs.rt:19:1
 returns-3 : tie.Need-returns-3
 unfolding headWide
 returns-3 c = simp (c .match .keys3)
 
--- src/exprs.rt:19:1
 returns-4 : tie.Need-returns-4
 unfolding headWide
 returns-4 c = simp (c .match .keys4)
 
--- src/exprs.rt:19:1
 returns-5 : tie.Need-returns-5
 unfolding headWide
 returns-5 c = simp (c .match .keys5)
 
--- src/exprs.rt:19:1
 returns-6 : tie.Need-returns-6
 unfolding headWide
 returns-6 c = simp (c .match .keys6)
 
--- src/exprs.rt:19:1
 returns-7 : tie.Need-returns-7
 unfolding headWide
 returns-7 c = simp (c .match .keys7)
 
--- src/exprs.rt:19:1
 returns-8 : tie.Need-returns-8
 unfolding headWide
 returns-8 c = simp (ne-eqb _ _ (c .match .rest .1), ne-eqb _ _ (c .match .rest .0 .1), ne-eqb _ _ (c .match .rest .0 .0 .1), ne-eqb _ _ (c .match .rest .0 .0 .0 .1), ne-eqb _ _ (c .match .rest .0 .0 .0 .0 .1), ne-eqb _ _ (c .match .rest .0 .0 .0 .0 .0 .1), ne-eqb _ _ (c .match .rest .0 .0 .0 .0 .0 .0 .1))
