@@ -90,11 +90,17 @@ module _ (back : State) (w : Tables) where
       settle (actPair x y (view back w)) ≡ give (unkeyed (k-pair (back .pairs))) (view (morePairs back) (putPairs w q))
   unfolding view actPair settle touchAll touch room
   pair-made x y q h p =
-      simp (list-length pairIn, lt-ltb _ _ h, cap-more (back .pairs) 512 h, list-extended pairIn (w .pairs) q (back .pairs) _ (p .wrote h))
+      rw (
+        cap-below (back .pairs) 512 h,
+        list-length pairIn (w .pairs) (back .pairs),
+        lt-ltb (back .pairs) 512 h,
+        cap-more (back .pairs) 512 h,
+        list-extended pairIn (w .pairs) q (back .pairs) _ (p .wrote h),
+      )
 
   pub pair-full : (x y : SValue) → 512 ≤ back .pairs → settle (actPair x y (view back w)) ≡ o-room
   unfolding view actPair settle touchAll touch room
-  pair-full x y h = simp (cap-above (back .pairs) 512 h, list-length pairIn)
+  pair-full x y h = rw (cap-above (back .pairs) 512 h, list-length pairIn (w .pairs) 512)
 
   module _ (x : SValue) {j : ℕ} {o : Bool} (hk : x .kind ≡ k-pair j) (ho : o ≡ On back w (x .key)) where
     pub part-denied : (i : Bool) {n : ℕ} → o ≡ false → n ≡ capped (back .pairs) 512 → j < n → settle (actPart i x (view back w)) ≡ o-denied
@@ -103,11 +109,11 @@ module _ (back : State) (w : Tables) where
 
     pub part-one : {i : Bool} {n : ℕ} {t : STwo} → i ≡ true → o ≡ true → n ≡ capped (back .pairs) 512 → j < n → t ≡ pairIn (w .pairs) j → settle (actPart i x (view back w)) ≡ give (t .one) (view back w)
     unfolding view actPart asPair partOf found settle touchAll touch room
-    part-one {i} {n} hi h hn l ht = simp (hk, ← ho, h, ← hn, list-get pairIn (w .pairs) n j l, hi, ← ht)
+    part-one {i} {n} hi h hn l ht = rw (hk, ← hn, list-get pairIn (w .pairs) n j l, ← ho, h, hi, ← ht)
 
     pub part-two : {i : Bool} {n : ℕ} {t : STwo} → i ≡ false → o ≡ true → n ≡ capped (back .pairs) 512 → j < n → t ≡ pairIn (w .pairs) j → settle (actPart i x (view back w)) ≡ give (t .two) (view back w)
     unfolding view actPart asPair partOf found settle touchAll touch room
-    part-two {i} {n} hi h hn l ht = simp (hk, ← ho, h, ← hn, list-get pairIn (w .pairs) n j l, hi, ← ht)
+    part-two {i} {n} hi h hn l ht = rw (hk, ← hn, list-get pairIn (w .pairs) n j l, ← ho, h, hi, ← ht)
 
   module _ (x y : SValue) {j : ℕ} {o : Bool} (hk : x .kind ≡ k-fn j) (ho : o ≡ On back w (x .key)) where
     pub app-denied : {n : ℕ} → o ≡ false → n ≡ capped (back .functions) 512 → j < n → settle (actApp x y (view back w)) ≡ o-denied
@@ -143,11 +149,17 @@ module _ (back : State) (w : Tables) where
       settle (actNew x (view back w)) ≡ give (unkeyed (k-cell (back .cells))) (view (moreCells back) (putCells w q))
   unfolding view actNew settle touchAll touch room
   cell-made x q h p =
-      simp (list-length cellIn, lt-ltb _ _ h, cap-more (back .cells) 256 h, list-extended cellIn (w .cells) q (back .cells) _ (p .wrote h))
+      rw (
+        cap-below (back .cells) 256 h,
+        list-length cellIn (w .cells) (back .cells),
+        lt-ltb (back .cells) 256 h,
+        cap-more (back .cells) 256 h,
+        list-extended cellIn (w .cells) q (back .cells) _ (p .wrote h),
+      )
 
   pub cell-full : (x : SValue) → 256 ≤ back .cells → settle (actNew x (view back w)) ≡ o-room
   unfolding view actNew settle touchAll touch room
-  cell-full x h = simp (cap-above (back .cells) 256 h, list-length cellIn)
+  cell-full x h = rw (cap-above (back .cells) 256 h, list-length cellIn (w .cells) 256)
 
   pub part-lost : (x : SValue) (i : Bool) {j n : ℕ} → x .kind ≡ k-pair j → n ≡ capped (back .pairs) 512 → n ≤ j → settle (actPart i x (view back w)) ≡ o-stuck
   unfolding view actPart asPair found settle touchAll touch room
@@ -183,22 +195,31 @@ module _ (back : State) (w : Tables) where
 
     pub was-read : {n : ℕ} {v : SValue} → o ≡ true → n ≡ capped (back .cells) 256 → j < n → v ≡ cellIn (w .cells) j → settle (actRead x (view back w)) ≡ give v (view back w)
     unfolding view actRead asCell found settle touchAll touch room
-    was-read {n} h hn l hv = simp (hk, ← ho, h, ← hn, list-get cellIn (w .cells) n j l, ← hv)
+    was-read {n} h hn l hv = rw (hk, ← hn, list-get cellIn (w .cells) n j l, ← ho, h, ← hv)
 
   module _ (x r b : ℕ) (j : ℕ) where
     pub no-keys : 128 ≤ back .keys → settle (makeKey [] x r b j (view back w)) ≡ o-room
     unfolding view makeKey _and_ settle touchAll touch room
-    no-keys h = simp (cap-above (back .keys) 128 h, list-length upIn)
+    no-keys h = rw (cap-above (back .keys) 128 h, list-length upIn (w .keys) 128)
 
     pub no-pairs : 512 ≤ back .pairs → back .keys < 128 → settle (makeKey [] x r b j (view back w)) ≡ o-room
     unfolding view makeKey _and_ settle touchAll touch room
-    no-pairs h k = simp (list-length upIn, lt-ltb _ _ k, cap-above (back .pairs) 512 h, list-length pairIn)
+    no-pairs h k = rw (cap-below (back .keys) 128 k, list-length upIn (w .keys) (back .keys), lt-ltb (back .keys) 128 k, cap-above (back .pairs) 512 h, list-length pairIn (w .pairs) 512)
 
     pub no-bindings : 1023 ≤ back .bindings → back .keys < 128 → back .pairs < 512 → settle (makeKey [] x r b j (view back w)) ≡ o-room
     unfolding view makeKey _and_ settle touchAll touch room
     no-bindings h k p =
         let q : 1024 ≤ suc (capped (back .bindings) 1024) = few h in
-        simp (list-length upIn, lt-ltb _ _ k, list-length pairIn, lt-ltb _ _ p, list-length linkIn, le-ltb _ _ q)
+        rw (
+          cap-below (back .keys) 128 k,
+          list-length upIn (w .keys) (back .keys),
+          lt-ltb (back .keys) 128 k,
+          cap-below (back .pairs) 512 p,
+          list-length pairIn (w .pairs) (back .pairs),
+          lt-ltb (back .pairs) 512 p,
+          list-length linkIn (w .bindings) (capped (back .bindings) 1024),
+          le-ltb _ _ q,
+        )
       where
         few : 1023 ≤ back .bindings → 1024 ≤ suc (capped (back .bindings) 1024)
         few h = at (ltb (back .bindings) 1024)
@@ -224,14 +245,16 @@ module _ (back : State) (w : Tables) where
         list-more linkIn bs cs (suc (back .bindings)) _ pv
         ∙ ap (λ (l : List Link). l ++ (record { bind = b-var x (unkeyed (k-pair (back .pairs))); next = suc (back .bindings) } ∷ [])) (list-more linkIn (w .bindings) bs (back .bindings) _ (pb .wrote lb))
         ∙ append-two (listOf linkIn (w .bindings) (back .bindings)) (record { bind = b-name r (back .keys); next = back .now .env }) (record { bind = b-var x (unkeyed (k-pair (back .pairs))); next = suc (back .bindings) }) in
-        simp (
-          list-length upIn,
-          lt-ltb _ _ hk,
-          list-length pairIn,
-          lt-ltb _ _ hp,
+        rw (
+          cap-below (back .keys) 128 hk,
+          list-length upIn (w .keys) (back .keys),
+          lt-ltb (back .keys) 128 hk,
+          cap-below (back .pairs) 512 hp,
+          list-length pairIn (w .pairs) (back .pairs),
+          lt-ltb (back .pairs) 512 hp,
           cap-below (back .bindings) 1024 lb,
-          list-length linkIn,
-          lt-ltb _ _ lc,
+          list-length linkIn (w .bindings) (back .bindings),
+          lt-ltb (suc (back .bindings)) 1024 lc,
           et,
           es,
           cap-more (back .keys) 128 hk,

@@ -30,15 +30,15 @@ enter-push e k a l m h = rw h
 
 -- no operand is evaluated, and the byte is none of those that have an arm of their own
 pub enter-number :
-    (op x a b c d e : ℕ) → Works op x 0 → (op ≡ 0x31 → ⊥) → (op ≡ 0x32 → ⊥) → (op ≡ 0x35 → ⊥) → (op ≡ 0x3C → ⊥) → decode op x a b c d e ≡ c-num x
+    (op x a b c d e : ℕ) → Works op x 0 → (op ≡ 0x31 → ⊥) → (op ≡ 0x32 → ⊥) → (op ≡ 0x35 → ⊥) → (op ≡ 0x3C → ⊥) → (op ≡ 0x42 → ⊥) → decode op x a b c d e ≡ c-num x
 unfolding evaluated
-enter-number op x a b c d e w h1 h2 h5 hc = at (w .all a b c d e)
+enter-number op x a b c d e w h1 h2 h5 hc h42 = at (w .all a b c d e)
   where
     at : evaluated (decode op x a b c d e) ≡ take 0 (a ∷ b ∷ c ∷ d ∷ []) → decode op x a b c d e ≡ c-num x
     at = decode-cases (λ k. evaluated k ≡ [] → k ≡ c-num x) op x a b c d e
         (λ h. absurd (h1 h)) (λ h. absurd (h2 h)) (λ h p. absurd (cons-nil p)) (λ h p. absurd (cons-nil p)) (λ h. absurd (h5 h)) (λ h p. absurd (cons-nil p)) (λ h p. absurd (cons-nil p))
         (λ h p. absurd (cons-nil p)) (λ h p. absurd (cons-nil p)) (λ h p. absurd (cons-nil p)) (λ h p. absurd (cons-nil p)) (λ h. absurd (hc h)) (λ h p. absurd (cons-nil p)) (λ h p. absurd (cons-nil p))
-        (λ h p. absurd (cons-nil p)) (λ h p. absurd (cons-nil p)) (λ h p. absurd (cons-nil p)) (λ p. refl)
+        (λ h p. absurd (cons-nil p)) (λ h p. absurd (cons-nil p)) (λ h p. absurd (cons-nil p)) (λ h. absurd (h42 h)) (λ p. refl)
 
 -- the arms of an act on one value, and on two
 pub one-stuck :
@@ -47,7 +47,7 @@ pub one-stuck :
 unfolding act bare two
 one-stuck op x a b c d e v m h4 h7 h9 hb hc hd he h40 = decode-cases (λ k. act k (v ∷ []) m ≡ p-wrong) op x a b c d e
     (λ h. refl) (λ h. refl) (λ h. refl) (λ h. absurd (h4 h)) (λ h. refl) (λ h. refl) (λ h. absurd (h7 h)) (λ h. refl) (λ h. absurd (h9 h)) (λ h. refl)
-    (λ h. absurd (hb h)) (λ h. absurd (hc h)) (λ h. absurd (hd h)) (λ h. absurd (he h)) (λ h. refl) (λ h. absurd (h40 h)) (λ h. refl) refl
+    (λ h. absurd (hb h)) (λ h. absurd (hc h)) (λ h. absurd (hd h)) (λ h. absurd (he h)) (λ h. refl) (λ h. absurd (h40 h)) (λ h. refl) (λ h. refl) refl
 
 pub two-stuck :
     (op x a b c d e : ℕ) (u v : Value) (m : Machine) → (op ≡ 0x33 → ⊥) → (op ≡ 0x36 → ⊥) → (op ≡ 0x38 → ⊥) → (op ≡ 0x3A → ⊥) → (op ≡ 0x3C → ⊥) → (op ≡ 0x3F → ⊥) → (op ≡ 0x41 → ⊥) →
@@ -55,14 +55,14 @@ pub two-stuck :
 unfolding act bare one
 two-stuck op x a b c d e u v m h3 h6 h8 ha hc hf h41 = decode-cases (λ k. act k (u ∷ v ∷ []) m ≡ p-wrong) op x a b c d e
     (λ h. refl) (λ h. refl) (λ h. absurd (h3 h)) (λ h. refl) (λ h. refl) (λ h. absurd (h6 h)) (λ h. refl) (λ h. absurd (h8 h)) (λ h. refl) (λ h. absurd (ha h))
-    (λ h. refl) (λ h. absurd (hc h)) (λ h. refl) (λ h. refl) (λ h. absurd (hf h)) (λ h. refl) (λ h. absurd (h41 h)) refl
+    (λ h. refl) (λ h. absurd (hc h)) (λ h. refl) (λ h. refl) (λ h. absurd (hf h)) (λ h. refl) (λ h. absurd (h41 h)) (λ h. refl) refl
 
 -- no command but a limit acts on three values or more
 pub more-stuck : (op x a b c d e : ℕ) (u v w : Value) (l : List Value) (m : Machine) → (op ≡ 0x3C → ⊥) → act (decode op x a b c d e) (u ∷ v ∷ w ∷ l) m ≡ p-wrong
 unfolding act bare one two
 more-stuck op x a b c d e u v w l m hc = decode-cases (λ k. act k (u ∷ v ∷ w ∷ l) m ≡ p-wrong) op x a b c d e
     (λ h. refl) (λ h. refl) (λ h. refl) (λ h. refl) (λ h. refl) (λ h. refl) (λ h. refl) (λ h. refl) (λ h. refl) (λ h. refl)
-    (λ h. refl) (λ h. absurd (hc h)) (λ h. refl) (λ h. refl) (λ h. refl) (λ h. refl) (λ h. refl) refl
+    (λ h. refl) (λ h. absurd (hc h)) (λ h. refl) (λ h. refl) (λ h. refl) (λ h. refl) (λ h. refl) (λ h. refl) refl
 
 -- the bytes of no command that works out an operand
 pub works-none :
@@ -73,7 +73,7 @@ works-none op x h3 h4 h6 h7 h8 h9 ha hb hc hd he hf h40 h41 =
     record {
       all = λ a b c d e. decode-cases (λ k. evaluated k ≡ []) op x a b c d e
           (λ h. refl) (λ h. refl) (λ h. absurd (h3 h)) (λ h. absurd (h4 h)) (λ h. refl) (λ h. absurd (h6 h)) (λ h. absurd (h7 h)) (λ h. absurd (h8 h)) (λ h. absurd (h9 h)) (λ h. absurd (ha h))
-          (λ h. absurd (hb h)) (λ h. absurd (hc h)) (λ h. absurd (hd h)) (λ h. absurd (he h)) (λ h. absurd (hf h)) (λ h. absurd (h40 h)) (λ h. absurd (h41 h)) refl;
+          (λ h. absurd (hb h)) (λ h. absurd (hc h)) (λ h. absurd (hd h)) (λ h. absurd (he h)) (λ h. absurd (hf h)) (λ h. absurd (h40 h)) (λ h. absurd (h41 h)) (λ h. refl) refl;
       few = omega arith;
     }
 
@@ -190,7 +190,7 @@ module _ (heads slots : List ℕ) (i head : ℕ) (e : head ≡ getD heads i 0) w
       simp (← e, h, t, ← hb, narrow-none (m .store .keys) (m .thread .on))
 
   pub code-number : (need : ℕ) → Works (head % 256) (head / 256 % 4294967296) need → need ≤ 0 → (head % 256 ≡ 0x31 → ⊥) → (head % 256 ≡ 0x32 → ⊥) → (head % 256 ≡ 0x35 → ⊥) →
-      (head % 256 ≡ 0x3C → ⊥) → codeIn heads slots i ≡ c-num (head / 256 % 4294967296)
+      (head % 256 ≡ 0x3C → ⊥) → (head % 256 ≡ 0x42 → ⊥) → codeIn heads slots i ≡ c-num (head / 256 % 4294967296)
   unfolding codeIn
-  code-number (suc need) w l h1 h2 h5 hc = absurd (omega arith)
-  code-number zero w l h1 h2 h5 hc = simp (← e) (enter-number (head % 256) (head / 256 % 4294967296) _ _ _ _ _ w h1 h2 h5 hc)
+  code-number (suc need) w l h1 h2 h5 hc h42 = absurd (omega arith)
+  code-number zero w l h1 h2 h5 hc h42 = simp (← e) (enter-number (head % 256) (head / 256 % 4294967296) _ _ _ _ _ w h1 h2 h5 hc h42)

@@ -3,7 +3,6 @@ use mathlib.Core.Path.{_≡_}
 use mathlib.Core.Bool.{Bool, cond}
 use Rattle.semantics.specs.Machine.{k-num, Value as SValue, unkeyed, Machine as Clean}
 use Rattle.semantics.specs.Step.{Out, o-step, o-done, o-room, o-stuck, o-denied, handing, entering, Plan, p-wrong, settle, actSum, actDivide}
-use Rattle.semantics.specs.Calls.{Answer as SAnswer, taken, finished, noroom, stuck, denied}
 use Rattle.table.specs.declared.Expr.{Expr}
 use Rattle.store.specs.declared.Keys.{Keys}
 use Rattle.store.specs.declared.Kind.{Kind}
@@ -17,7 +16,7 @@ use Rattle.acts.specs.declared.Limits.the-variants.{All, Other}
 use Rattle.acts.specs.declared.Now.{Now}
 use Rattle.acts.specs.declared.State.{State}
 use Rattle.acts.specs.declared.Acted.{Acted}
-use Rattle.acts.specs.Meaning.{answerIn}
+use Rattle.acts.specs.Meaning.{StepAnswer, s-taken, s-finished, s-noroom, s-stuck, s-denied, answerIn}
 use Rattle.acts.specs.View.{Tables, view}
 use Prim.Native.Nat.{ℕ, _≤_}
 use mathlib.Core.List.{List, [], _∷_}
@@ -28,15 +27,15 @@ use Rattle.syntax.specs.Words.{decode}
 -- a machine, and the answer of the step that led to it
 pub record Stepped : Type 0 where
   pub machine : Clean
-  pub answer : SAnswer
+  pub answer : StepAnswer
 
 -- a step that is not taken leaves the machine as it was
 abbrev pub settled : Clean → Out → Stepped
-settled m (o-step n) = record { machine = n; answer = taken }
-settled m o-done = record { machine = m; answer = finished }
-settled m o-room = record { machine = m; answer = noroom }
-settled m o-stuck = record { machine = m; answer = stuck }
-settled m o-denied = record { machine = m; answer = denied }
+settled m (o-step n) = record { machine = n; answer = s-taken }
+settled m o-done = record { machine = m; answer = s-finished }
+settled m o-room = record { machine = m; answer = s-noroom }
+settled m o-stuck = record { machine = m; answer = s-stuck }
+settled m o-denied = record { machine = m; answer = s-denied }
 
 abbrev pub acted : Acted → Tables → Stepped
 acted r w = record { machine = view (r .state) w; answer = answerIn (r .answer) }
@@ -53,22 +52,22 @@ abbrev pub go : ℕ → ℕ → ℕ → Clean → Out
 go e env on m = o-step (entering e env on m)
 
 abbrev pub putFrames : Tables → List ℕ → Tables
-putFrames w x = record { frames = x; cells = w .cells; keys = w .keys; pairs = w .pairs; functions = w .functions; bindings = w .bindings }
+putFrames w x = record { threads = w .threads; frames = x; cells = w .cells; keys = w .keys; pairs = w .pairs; functions = w .functions; bindings = w .bindings }
 
 abbrev pub putCells : Tables → List ℕ → Tables
-putCells w x = record { frames = w .frames; cells = x; keys = w .keys; pairs = w .pairs; functions = w .functions; bindings = w .bindings }
+putCells w x = record { threads = w .threads; frames = w .frames; cells = x; keys = w .keys; pairs = w .pairs; functions = w .functions; bindings = w .bindings }
 
 abbrev pub putKeys : Tables → List ℕ → Tables
-putKeys w x = record { frames = w .frames; cells = w .cells; keys = x; pairs = w .pairs; functions = w .functions; bindings = w .bindings }
+putKeys w x = record { threads = w .threads; frames = w .frames; cells = w .cells; keys = x; pairs = w .pairs; functions = w .functions; bindings = w .bindings }
 
 abbrev pub putPairs : Tables → List ℕ → Tables
-putPairs w x = record { frames = w .frames; cells = w .cells; keys = w .keys; pairs = x; functions = w .functions; bindings = w .bindings }
+putPairs w x = record { threads = w .threads; frames = w .frames; cells = w .cells; keys = w .keys; pairs = x; functions = w .functions; bindings = w .bindings }
 
 abbrev pub putFunctions : Tables → List ℕ → Tables
-putFunctions w x = record { frames = w .frames; cells = w .cells; keys = w .keys; pairs = w .pairs; functions = x; bindings = w .bindings }
+putFunctions w x = record { threads = w .threads; frames = w .frames; cells = w .cells; keys = w .keys; pairs = w .pairs; functions = x; bindings = w .bindings }
 
 abbrev pub putBindings : Tables → List ℕ → Tables
-putBindings w x = record { frames = w .frames; cells = w .cells; keys = w .keys; pairs = w .pairs; functions = w .functions; bindings = x }
+putBindings w x = record { threads = w .threads; frames = w .frames; cells = w .cells; keys = w .keys; pairs = w .pairs; functions = w .functions; bindings = x }
 
 abbrev pub stopOf : State → Answer → Acted
 stopOf t a = record { state = t; answer = a }

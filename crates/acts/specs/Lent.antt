@@ -1,8 +1,10 @@
 -- The lent tables of a contract, before and after a call.
 use Prim.Native.Nat.{ℕ}
+use mathlib.Core.List.{List}
 use denote.Ref.{now}
 use Rattle.syntax.specs.Commands.{Cmd}
 use Rattle.syntax.specs.Words.{codeIn}
+use Rattle.semantics.specs.Machine.{Thread as SThread}
 use Rattle.table.specs.Lent.{Table}
 use Rattle.acts.specs.View.{Tables, tables}
 use Rattle.acts.specs.Inner.{putCells, putKeys, putPairs, putFunctions, putBindings}
@@ -11,17 +13,17 @@ use Rattle.acts.specs.Inner.{putCells, putKeys, putPairs, putFunctions, 
 abbrev pub lentCode : Table → Table → ℕ → Cmd ℕ
 lentCode heads slots = codeIn (now (heads .entry)) (now (slots .entry))
 
--- the machine's six tables
-abbrev pub before : Table → Table → Table → Table → Table → Table → Tables
-before frames cells keys pairs functions bindings =
-    tables (now (frames .entry)) (now (cells .entry)) (now (keys .entry)) (now (pairs .entry)) (now (functions .entry)) (now (bindings .entry))
+-- the machine's six tables, with the threads that there are
+abbrev pub before : List SThread → Table → Table → Table → Table → Table → Table → Tables
+before ts frames cells keys pairs functions bindings =
+    tables ts (now (frames .entry)) (now (cells .entry)) (now (keys .entry)) (now (pairs .entry)) (now (functions .entry)) (now (bindings .entry))
 
 -- after an act, which reads frames and functions and writes the others
-abbrev pub afterAct : Table → Table → Table → Table → Table → Table → Tables
-afterAct frames cells keys pairs functions bindings =
-    tables (now (frames .entry)) (now (cells .exit)) (now (keys .exit)) (now (pairs .exit)) (now (functions .entry)) (now (bindings .exit))
+abbrev pub afterAct : List SThread → Table → Table → Table → Table → Table → Table → Tables
+afterAct ts frames cells keys pairs functions bindings =
+    tables ts (now (frames .entry)) (now (cells .exit)) (now (keys .exit)) (now (pairs .exit)) (now (functions .entry)) (now (bindings .exit))
 
--- the tables that a function is lent, in place of those of w: an act on one value; an act on two, which reads keys and functions; entering, which reads bindings; a new key
+-- the tables that a function is lent, in place of those of w: an act on one value; an act on two, which reads keys and functions; a new key
 abbrev pub beforeOne : Tables → Table → Table → Table → Table → Tables
 beforeOne w cells keys pairs bindings = putBindings (putPairs (putKeys (putCells w (now (cells .entry))) (now (keys .entry))) (now (pairs .entry))) (now (bindings .entry))
 

@@ -1,7 +1,7 @@
 -- A state and its tables in words, seen as the machine of the semantics.
 use Prim.Native.Nat.{ℕ}
 use mathlib.Core.List.{List}
-use Rattle.semantics.specs.Machine.{Machine as Clean, most-frames, most-cells, most-keys, most-pairs, most-functions, most-bindings}
+use Rattle.semantics.specs.Machine.{Thread as SThread, Machine as Clean, most-frames, most-cells, most-keys, most-pairs, most-functions, most-bindings}
 use Rattle.store.specs.Meaning.{keysIn}
 use Rattle.store.specs.Words.{cellIn, pairIn, functionIn, linkIn, upIn}
 use Rattle.store.specs.Frames.{frameIn}
@@ -9,8 +9,9 @@ use Rattle.store.specs.Tables.{capped, listOf, stackOf}
 use Rattle.acts.specs.declared.State.{State}
 use Rattle.acts.specs.Meaning.{controlIn}
 
--- the tables' words
+-- the tables' words, and the threads that there are, which no table holds
 pub record Tables : Type 0 where
+  pub threads : List SThread
   pub frames : List ℕ
   pub cells : List ℕ
   pub keys : List ℕ
@@ -18,8 +19,8 @@ pub record Tables : Type 0 where
   pub functions : List ℕ
   pub bindings : List ℕ
 
-abbrev pub tables : List ℕ → List ℕ → List ℕ → List ℕ → List ℕ → List ℕ → Tables
-tables f c k p g b = record { frames = f; cells = c; keys = k; pairs = p; functions = g; bindings = b }
+abbrev pub tables : List SThread → List ℕ → List ℕ → List ℕ → List ℕ → List ℕ → List ℕ → Tables
+tables ts f c k p g b = record { threads = ts; frames = f; cells = c; keys = k; pairs = p; functions = g; bindings = b }
 
 -- of each table the entries that are used, never more than it has places
 unfoldable pub view : State → Tables → Clean
@@ -40,4 +41,5 @@ view s w =
             functions = listOf functionIn (w .functions) (capped (s .functions) most-functions);
             bindings = listOf linkIn (w .bindings) (capped (s .bindings) most-bindings);
           };
+      threads = w .threads;
     }

@@ -4,7 +4,6 @@ use crate::Answer;
 use crate::State;
 use store::BINDING_WORDS;
 use store::CELL_WORDS;
-use store::FRAME_WORDS;
 use store::FUNCTION_WORDS;
 use store::KEY_BYTES;
 use store::PAIR_WORDS;
@@ -12,10 +11,11 @@ use store::Value;
 use table::Expr;
 ghost use mathlib.Core.Path.{_≡_};
 ghost use mathlib.Core.Bool.{cond};
-ghost use mathlib.Core.List.{[], _∷_, _++_};
+ghost use mathlib.Core.List.{List, [], _∷_, _++_};
 ghost use lib.ListN.{getD};
 ghost use lib.Dec.{ltb};
 ghost use Prim.Native.Nat.{_%_};
+ghost use Rattle.semantics.specs.Machine.{Thread as SThread};
 ghost use Rattle.semantics.specs.Step.{act};
 ghost use Rattle.store.specs.Meaning.{valueIn};
 ghost use Rattle.store.specs.Frames.{heldIn, handOf};
@@ -24,7 +24,7 @@ ghost use Rattle.acts.specs.Inner.{acted, tried};
 ghost use Rattle.acts.specs.Lent.{lentCode, before, afterAct, beforeOne, afterOne, beforeTwo, afterTwo};
 
 // The value in hand at place j of a frame that holds so many; past them v.
-fn in_hand(frames: &[u64; FRAME_WORDS], top: u16, held: u8, j: u8, v: Value) -> Value
+fn in_hand(frames: &[u64], top: u16, held: u8, j: u8, v: Value) -> Value
     ensures { λ r. ⌜ valueIn r ≡ cond (ltb j held) (heldIn (now (frames .entry)) top j) (valueIn v) ⌝ }
 {
     if j < held {
@@ -81,11 +81,12 @@ impl State {
         }
     }
 
-    // The acts on two values.
+    // The acts on two values, by the head of the expression, which the caller has read: `at`, `heads` and `slots` are what the contract is said of.
     fn act_two(
         self,
         back: State,
         at: Expr,
+        head: u64,
         u: Value,
         v: Value,
         heads: &[u64],
@@ -96,15 +97,13 @@ impl State {
         functions: &[u64; FUNCTION_WORDS],
         bindings: &mut [u64; BINDING_WORDS],
     ) -> Acted
-        requires { ⌜ (getD (now heads) (at .0) 0 % 256 ≡ 60 → ⊥) ⌝ }
+        requires { ⌜ (head ≡ getD (now heads) (at .0) 0) × (getD (now heads) (at .0) 0 % 256 ≡ 60 → ⊥) ⌝ }
         ensures { λ r. ⌜
             ((w : Tables) →
             acted r (afterTwo w cells keys pairs functions bindings) ≡
             tried self back (beforeTwo w cells keys pairs functions bindings) (act (lentCode heads slots (at .0)) (valueIn u ∷ valueIn v ∷ [])))
             ⌝ }
     {
-        let i = at.0 as usize;
-        let head = table::at64(heads, i);
         let op = head % 256;
         let x = head / 256 % 4294967296;
         match op {
@@ -127,7 +126,7 @@ impl State {
         v: Value,
         heads: &[u64],
         slots: &[u16],
-        frames: &[u64; FRAME_WORDS],
+        frames: &[u64],
         cells: &mut [u64; CELL_WORDS],
         keys: &mut [u8; KEY_BYTES],
         pairs: &mut [u64; PAIR_WORDS],
@@ -135,9 +134,10 @@ impl State {
         bindings: &mut [u64; BINDING_WORDS],
     ) -> Acted
         ensures { λ r. ⌜
-            acted r (afterAct frames cells keys pairs functions bindings) ≡
-            tried self back (before frames cells keys pairs functions bindings)
-            (act (lentCode heads slots (at .0)) (handOf held (heldIn (now (frames .entry)) top 0) (heldIn (now (frames .entry)) top 1) (heldIn (now (frames .entry)) top 2) ++ (valueIn v ∷ [])))
+            ((ts : List SThread) →
+            acted r (afterAct ts frames cells keys pairs functions bindings) ≡
+            tried self back (before ts frames cells keys pairs functions bindings)
+            (act (lentCode heads slots (at .0)) (handOf held (heldIn (now (frames .entry)) top 0) (heldIn (now (frames .entry)) top 1) (heldIn (now (frames .entry)) top 2) ++ (valueIn v ∷ []))))
             ⌝ }
     {
         let i = at.0 as usize;
@@ -157,6 +157,7 @@ impl State {
             return self.act_two(
                 back,
                 at,
+                head,
                 u,
                 v,
                 heads,

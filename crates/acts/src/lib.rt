@@ -23,14 +23,14 @@ pub enum Control {
     Hand(Value),
 }
 
-// The answers of steps and runs.
+// The answers of a thread's step. `Starts`: the expression to enter is a 0x42. To start a thread is for who holds all threads, and the step changes nothing.
 pub enum Answer {
     Taken,
     Finished,
-    Spent,
     NoRoom,
     Stuck,
     Denied,
+    Starts,
 }
 
 // The keys of a limit, or a value that is no limit key.

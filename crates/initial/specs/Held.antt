@@ -21,8 +21,8 @@ use Rattle.syntax.specs.Reading.{declared, partsOk, typeOk, unkeyedNumber, host
 use Rattle.syntax.specs.ReadLaws.{JobOk, built-at}
 use Rattle.syntax.specs.ReadFormed.{upper-ok, entry-parts}
 use Rattle.syntax.specs.WordLaws.{JobFits, value-back, filled-at, map-at, word-at}
-use Rattle.semantics.specs.Machine.{enter, Machine}
-use Rattle.semantics.specs.Start.{startOf, named, keyNamed, valued, addNames, addValues}
+use Rattle.semantics.specs.Machine.{enter, System}
+use Rattle.semantics.specs.Start.{firstThread, firstStore, startOf, named, keyNamed, valued, addNames, addValues}
 use Rattle.names.specs.Ancestors.{namesIn}
 use Rattle.names.specs.Tables.{names-held}
 use Rattle.initial.specs.Entries.{headOf, hostOf, valuesFrom}
@@ -133,16 +133,18 @@ module _ {J : Job} (j : JobOk J) {names : List ℕ} {nnames : ℕ} {types values
 
 -- the start looks at the names, the host values, the rights and how many expressions there are
 same-start : (S R : Src) → S .names ≡ R .names → S .values ≡ R .values → S .rights ≡ R .rights → length (S .cmds) ≡ length (R .cmds) → startOf S ≡ startOf R
-unfolding startOf named keyNamed valued root
+unfolding startOf firstThread firstStore named keyNamed valued root
 same-start S R a b c d = λ i. starts (a i) (b i) (c i) (d i)
   where
-    starts : List Name → List (HostValue Ty) → effects.Effect → ℕ → Machine
+    starts : List Name → List (HostValue Ty) → effects.Effect → ℕ → System
     starts ns vs rs k =
         let N = addNames ns (record { keys = 0 ∷ 1 ∷ []; of = 0 ∷ 1 ∷ []; bindings = [] }) in
         let W = addValues (λ n. getD (N .of) n 0) 0 vs (record { cells = []; bindings = N .bindings }) in
         record {
-          thread = record { control = enter (predecessor k); env = length (W .bindings); on = setOf (map (λ n. getD (N .of) n 0) (effects.names rs)); frames = [] };
+          threads = record { control = enter (predecessor k); env = length (W .bindings); on = setOf (map (λ n. getD (N .of) n 0) (effects.names rs)); frames = [] } ∷ [];
           store = record { cells = W .cells; keys = N .keys; pairs = []; functions = []; bindings = W .bindings };
+          round = 0;
+          from = 0;
         }
 
 -- of words that hold a job the start is the job's

@@ -1,5 +1,6 @@
-pub mod Sorts
-pub mod Enters
-pub mod Seeks
-pub mod Hands
-pub mod Runs
+pub mod Parts
+pub mod Marks
+pub mod Tells
+pub mod Picked
+pub mod Moves
+pub mod Going

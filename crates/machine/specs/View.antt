@@ -1,22 +1,31 @@
--- The whole machine in words, seen as the machine of the semantics, and what a call gave.
-use Rattle.semantics.specs.Machine.{Machine as Clean}
-use Rattle.semantics.specs.Calls.{Ran, ran}
-use Rattle.store.specs.declared.Used.{Used}
-use Rattle.machine.specs.declared.Thread.{Thread}
-use Rattle.acts.specs.declared.State.{State}
+-- The whole machine in words, seen as the machine of the semantics, and what a call gave. The frames of all threads are lent to it.
+use Prim.Native.Nat.{ℕ}
+use mathlib.Core.List.{List, []}
+use Rattle.semantics.specs.Machine.{System, most-threads}
+use Rattle.semantics.specs.Calls.{Answer as SAnswer, taken, finished, spent, noroom, stuck, denied, Ran, ran}
+use Rattle.store.specs.Tables.{capped}
+use Rattle.acts.specs.View.{Tables, tables}
+use Rattle.machine.specs.declared.Answer.{Answer}
+use Rattle.machine.specs.declared.Answer.the-variants.{Taken, Finished, Spent, NoRoom, Stuck, Denied}
 use Rattle.machine.specs.declared.Machine.{Machine}
 use Rattle.machine.specs.declared.Outcome.{Outcome}
-use Rattle.acts.specs.Meaning.{answerIn}
-use Rattle.acts.specs.View.{tables, view}
+use Rattle.machine.specs.Scheduled.{systemOf}
 
--- a thread over a store
-abbrev pub stateOf : Thread → Used → State
-stateOf t u = record { now = t .now; frames = t .frames; cells = u .cells; keys = u .keys; pairs = u .pairs; functions = u .functions; bindings = u .bindings }
+abbrev pub wordsOf : Machine → List ℕ → Tables
+wordsOf m fs = tables [] fs (m .cells) (m .keys) (m .pairs) (m .functions) (m .bindings)
 
--- the whole machine
-abbrev pub seen : Machine → Clean
-seen m = view (stateOf (m .thread) (m .used)) (tables (m .frames) (m .cells) (m .keys) (m .pairs) (m .functions) (m .bindings))
+-- never more threads than there are places
+abbrev pub seen : Machine → List ℕ → System
+seen m fs = systemOf (m .threads) (capped (m .count) most-threads) (capped (m .round) most-threads) (m .from) (m .used) (wordsOf m fs)
+
+abbrev pub answerIn : Answer → SAnswer
+answerIn Taken = taken
+answerIn Finished = finished
+answerIn Spent = spent
+answerIn NoRoom = noroom
+answerIn Stuck = stuck
+answerIn Denied = denied
 
 -- what a call gave
-abbrev pub ranIn : Outcome → Ran
-ranIn o = ran (answerIn (o .answer)) (o .taken) (seen (o .machine))
+abbrev pub ranIn : Outcome → List ℕ → Ran
+ranIn o fs = ran (answerIn (o .answer)) (o .counts) (o .thread) (seen (o .machine) fs)

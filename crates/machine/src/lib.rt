@@ -1,43 +1,61 @@
-// The machine: a struct by value, with its step and its run. Its tables are lent to the steps.
-mod enter;
+// The machine: a struct by value, with its step and its run. Its tables are lent to the steps of its threads; the frames of all threads are lent to it.
 mod run;
-mod step;
+mod turns;
 
-pub use acts::Answer;
-pub use acts::Control;
-pub use acts::Now;
-use acts::State;
+pub use run::all_finished;
+pub use run::within;
 use store::BINDING_WORDS;
 use store::CELL_WORDS;
-use store::FRAME_WORDS;
 use store::FUNCTION_WORDS;
 use store::KEY_BYTES;
+use store::MOST_THREADS;
 use store::PAIR_WORDS;
 use store::Used;
-use store::Value;
+pub use thread::Control;
+pub use thread::Now;
+pub use thread::Thread;
 
-pub enum Found {
-    At(Value),
-    Nothing,
+// The answers of steps and runs.
+pub enum Answer {
+    Taken,
+    Finished,
+    Spent,
+    NoRoom,
+    Stuck,
+    Denied,
 }
 
-// A thread: where it stands, and how many of its frames are used.
-pub struct Thread {
-    pub now: Now,
-    pub frames: u64,
-}
-
-// Steps one after another: where they led, how many were taken, and why they ended.
-pub struct Ended {
-    pub state: State,
-    pub taken: u64,
-    pub answer: Answer,
-}
-
-pub struct Machine {
-    pub thread: Thread,
+// Where turns stand: the threads, 1 for each that is live, the steps that each took, how many threads there are, the round and who stepped last, and what the store uses.
+pub struct Scheduler {
+    pub threads: [Thread; MOST_THREADS],
+    pub live: [u8; MOST_THREADS],
+    pub counts: [u64; MOST_THREADS],
+    pub count: usize,
+    pub round: usize,
+    pub from: usize,
     pub used: Used,
-    pub frames: [u64; FRAME_WORDS],
+}
+
+// Turns that ended: where they led, who failed (0 where none did), and why they ended.
+pub struct Turned {
+    pub scheduler: Scheduler,
+    pub thread: usize,
+    pub answer: acts::Answer,
+}
+
+// Whose turn it is, and how many threads are in the round in which it steps.
+pub enum Whose {
+    Thread(usize, usize),
+    Nobody,
+}
+
+// So many threads by number, the round and who stepped last, and what the store uses.
+pub struct Machine {
+    pub threads: [Thread; MOST_THREADS],
+    pub count: u8,
+    pub round: u8,
+    pub from: u8,
+    pub used: Used,
     pub cells: [u64; CELL_WORDS],
     pub keys: [u8; KEY_BYTES],
     pub pairs: [u64; PAIR_WORDS],
@@ -45,8 +63,10 @@ pub struct Machine {
     pub bindings: [u64; BINDING_WORDS],
 }
 
+// What a call gives: the machine after it, the steps that each thread took in it, the thread that took its step or failed (0 where none did), and the answer.
 pub struct Outcome {
     pub machine: Machine,
-    pub taken: u64,
+    pub counts: [u64; MOST_THREADS],
+    pub thread: u8,
     pub answer: Answer,
 }

@@ -1,239 +1,162 @@
-// Runs: steps one after another, counted; the machine's own step and run.
-use crate::Ended;
+// The machine's own step and run: turns one after another, and what is said of them.
+use crate::Answer;
 use crate::Machine;
 use crate::Outcome;
-use crate::Thread;
-use crate::step::step;
-use acts::Answer;
-use acts::Control;
-use acts::State;
-use store::BINDING_WORDS;
-use store::CELL_WORDS;
-use store::FRAME_WORDS;
-use store::FUNCTION_WORDS;
-use store::KEY_BYTES;
-use store::PAIR_WORDS;
-use store::Used;
+use crate::Scheduler;
+use crate::turns::first;
+use crate::turns::mark;
+use crate::turns::turns;
+use store::FRAMES_WORDS;
+use store::MOST_THREADS;
+use thread::Thread;
 ghost use mathlib.Core.Path.{_≡_};
-ghost use Rattle.syntax.specs.Words.{codeIn};
-ghost use Rattle.semantics.specs.Room.{isDone};
-ghost use Rattle.semantics.specs.Calls.{stepsOf, one-step, call, run};
-ghost use Rattle.acts.specs.Meaning.{answerIn};
-ghost use Rattle.acts.specs.View.{Tables, view};
-ghost use Rattle.machine.specs.View.{stateOf, seen, ranIn};
-ghost use Rattle.machine.specs.Inner.{isTaken, threadOf, usedOf, loopOf, ended, closing};
-ghost use Rattle.acts.specs.Lent.{lentCode, before};
-ghost use Rattle.machine.specs.Lent.{after};
+ghost use mathlib.Core.Bool.{cond};
+ghost use mathlib.Core.List.{List};
+ghost use Prim.Native.Nat.{ℕ, _-_, _≤_};
+ghost use lib.ListN.{getElem?};
+ghost use Rattle.semantics.specs.Machine.{most-threads};
+ghost use Rattle.semantics.specs.Threads.{stepsOf, liveThread, allDone};
+ghost use Rattle.semantics.specs.Calls.{finished, spent, no-steps, one-step, run-of, call};
+ghost use Rattle.store.specs.Tables.{capped};
+ghost use Rattle.acts.specs.Meaning as meaning;
+ghost use Rattle.acts.specs.Lent.{lentCode};
+ghost use Rattle.machine.specs.Turns.{turnsOf, saidBy, threadBy, says};
+ghost use Rattle.machine.specs.Scheduled.{threadAt, listed, marked};
+ghost use Rattle.machine.specs.View.{seen, answerIn, ranIn};
 
-fn is_taken(a: Answer) -> bool
-    ensures { λ r. ⌜ r ≡ isTaken a ⌝ }
+// The marks of so many threads, 0 where there is none.
+fn marks(threads: [Thread; MOST_THREADS], count: usize) -> [u8; MOST_THREADS]
+    requires { ⌜ count ≤ most-threads ⌝ }
+    ensures { λ r. ⌜ ((fs : List ℕ) (j : ℕ) → marked r j ≡ liveThread (getElem? (listed (threadAt threads fs) count) j)) ⌝ }
+{
+    let mut live = [0u8; MOST_THREADS];
+    let mut i: usize = 0;
+    while i < count {
+        let t = threads[i];
+        live[i] = mark(t);
+        i = i + 1;
+    }
+    live
+}
+
+fn closed(done: bool) -> Answer
+    ensures { λ r. ⌜ answerIn r ≡ cond done finished spent ⌝ }
+{
+    if done {
+        Answer::Finished
+    } else {
+        Answer::Spent
+    }
+}
+
+// The answer of a run, or of a step, whose turns ended with a; whether all threads are finished then.
+fn told(run: bool, done: bool, a: acts::Answer) -> Answer
+    ensures { λ r. ⌜ answerIn r ≡ saidBy run done (meaning.answerIn a) ⌝ }
 {
     match a {
-        Answer::Taken => true,
-        Answer::Finished => false,
-        Answer::Spent => false,
-        Answer::NoRoom => false,
-        Answer::Stuck => false,
-        Answer::Denied => false,
+        acts::Answer::Taken => { if run { closed(done) } else { Answer::Taken } }
+        acts::Answer::Finished => closed(done),
+        acts::Answer::NoRoom => Answer::NoRoom,
+        acts::Answer::Stuck => Answer::Stuck,
+        acts::Answer::Denied => Answer::Denied,
+        acts::Answer::Starts => closed(done),
     }
 }
 
-// The answer of a run whose steps gave `a`.
-fn close(done: bool, a: Answer) -> Answer
-    ensures { λ r. ⌜ answerIn r ≡ closing done (answerIn a) ⌝ }
+// One less than n, of 0 too.
+fn one_less(n: usize) -> usize
+    ensures { λ r. ⌜ r ≡ n - 1 ⌝ }
+{
+    if n == 0 { 0 } else { n - 1 }
+}
+
+// The thread that is told with the answer: the one that failed; of a step that is taken, who stepped last; else 0.
+fn thread_told(run: bool, a: acts::Answer, i: usize, from: usize) -> usize
+    ensures { λ r. ⌜ r ≡ threadBy run (meaning.answerIn a) i from ⌝ }
 {
     match a {
-        Answer::Taken => {
-            if done {
-                Answer::Finished
-            } else {
-                Answer::Spent
-            }
-        }
-        Answer::Finished => Answer::Finished,
-        Answer::Spent => Answer::Spent,
-        Answer::NoRoom => Answer::NoRoom,
-        Answer::Stuck => Answer::Stuck,
-        Answer::Denied => Answer::Denied,
+        acts::Answer::Taken => { if run { 0 } else { one_less(from) } }
+        acts::Answer::Finished => 0,
+        acts::Answer::NoRoom => i,
+        acts::Answer::Stuck => i,
+        acts::Answer::Denied => i,
+        acts::Answer::Starts => 0,
     }
 }
 
-// Up to n steps, one after another.
-fn run(
-    state: State,
-    n: u64,
-    heads: &[u64],
-    slots: &[u16],
-    frames: &mut [u64; FRAME_WORDS],
-    cells: &mut [u64; CELL_WORDS],
-    keys: &mut [u8; KEY_BYTES],
-    pairs: &mut [u64; PAIR_WORDS],
-    functions: &mut [u64; FUNCTION_WORDS],
-    bindings: &mut [u64; BINDING_WORDS],
-) -> Ended
-    ensures { λ r. ⌜
-        ended r (after frames cells keys pairs functions bindings) ≡
-        loopOf (lentCode heads slots) n 0 (view state (before frames cells keys pairs functions bindings))
-        ⌝ }
+// So many, never more than there are places for threads.
+pub fn within(n: u8) -> usize
+    ensures { λ r. ⌜ r ≡ capped n most-threads ⌝ }
 {
-    let mut m = state;
-    let mut taken: u64 = 0;
-    while taken < n {
-        let s = step(
-            m,
-            heads,
-            slots,
-            frames,
-            cells,
-            keys,
-            pairs,
-            functions,
-            bindings,
-        );
-        let next = s.state;
-        let a = s.answer;
-        if is_taken(a) {
-            m = next;
-            taken = taken + 1;
-        } else {
-            return Ended {
-                state: next,
-                taken: taken,
-                answer: a,
-            };
-        }
-    }
-    Ended {
-        state: m,
-        taken: taken,
-        answer: Answer::Taken,
-    }
+    let m = n as usize;
+    if m < MOST_THREADS { m } else { MOST_THREADS }
 }
 
-// No frame left and a value.
-fn is_done(state: State) -> bool
-    ensures { λ r. ⌜ ((w : Tables) → r ≡ isDone (view state w)) ⌝ }
+// Whether all of so many threads are finished.
+pub fn all_finished(threads: [Thread; MOST_THREADS], count: u8) -> bool
+    ensures { λ r. ⌜ ((fs : List ℕ) → r ≡ allDone (listed (threadAt threads fs) (capped count most-threads))) ⌝ }
 {
-    let now = state.now;
-    let control = now.control;
-    match control {
-        Control::Enter(_) => false,
-        Control::Hand(_) => state.frames == 0,
-    }
-}
-
-// The state of a thread over a store that uses so much.
-fn joined(thread: Thread, used: Used) -> State
-    ensures { λ r. ⌜ r ≡ stateOf thread used ⌝ }
-{
-    let now = thread.now;
-    State {
-        now: now,
-        frames: thread.frames,
-        cells: used.cells,
-        keys: used.keys,
-        pairs: used.pairs,
-        functions: used.functions,
-        bindings: used.bindings,
-    }
-}
-
-// The thread of a state, and what its store uses.
-fn thread_of(s: State) -> Thread
-    ensures { λ r. ⌜ r ≡ threadOf s ⌝ }
-{
-    let now = s.now;
-    Thread {
-        now: now,
-        frames: s.frames,
-    }
-}
-
-fn used_of(s: State) -> Used
-    ensures { λ r. ⌜ r ≡ usedOf s ⌝ }
-{
-    Used {
-        cells: s.cells,
-        keys: s.keys,
-        pairs: s.pairs,
-        functions: s.functions,
-        bindings: s.bindings,
-    }
+    let n = within(count);
+    let live = marks(threads, n);
+    n <= first(&live, 0, n)
 }
 
 impl Machine {
-    // One step, by the loop of `run`: a second caller of the state's step would keep it from being inlined there.
-    pub fn step(self, heads: &[u64], slots: &[u16]) -> Outcome
-        ensures { λ r. ⌜ ranIn r ≡ call (stepsOf (codeIn (now (heads .entry)) (now (slots .entry)))) one-step (seen self) ⌝ }
+    // Up to n turns, as a run or as a step.
+    fn call(
+        self,
+        n: u64,
+        run: bool,
+        heads: &[u64],
+        slots: &[u16],
+        frames: &mut [u64; FRAMES_WORDS],
+    ) -> Outcome
+        ensures { λ r. ⌜
+            ranIn r (now (frames .exit)) ≡ says run (turnsOf (stepsOf (lentCode heads slots)) n no-steps (seen self (now (frames .entry))))
+            ⌝ }
     {
-        let start = joined(self.thread, self.used);
-        let mut frames = self.frames;
-        let mut cells = self.cells;
-        let mut keys = self.keys;
-        let mut pairs = self.pairs;
-        let mut functions = self.functions;
-        let mut bindings = self.bindings;
-        let s = run(
-            start,
-            1,
-            heads,
-            slots,
-            &mut frames,
-            &mut cells,
-            &mut keys,
-            &mut pairs,
-            &mut functions,
-            &mut bindings,
-        );
-        let next = s.state;
-        let answer = s.answer;
-        let m = Machine {
-            thread: thread_of(next),
-            used: used_of(next),
-            frames: frames,
-            cells: cells,
-            keys: keys,
-            pairs: pairs,
-            functions: functions,
-            bindings: bindings,
+        let threads = self.threads;
+        let used = self.used;
+        let count = within(self.count);
+        let scheduler = Scheduler {
+            threads: threads,
+            live: marks(threads, count),
+            counts: [0u64; MOST_THREADS],
+            count: count,
+            round: within(self.round),
+            from: self.from as usize,
+            used: used,
         };
-        Outcome {
-            machine: m,
-            taken: s.taken,
-            answer: answer,
-        }
-    }
-
-    // Up to n steps.
-    pub fn run(self, n: u64, heads: &[u64], slots: &[u16]) -> Outcome
-        ensures { λ r. ⌜ ranIn r ≡ run (stepsOf (codeIn (now (heads .entry)) (now (slots .entry)))) n 0 (seen self) ⌝ }
-    {
-        let start = joined(self.thread, self.used);
-        let mut frames = self.frames;
         let mut cells = self.cells;
         let mut keys = self.keys;
         let mut pairs = self.pairs;
         let mut functions = self.functions;
         let mut bindings = self.bindings;
-        let s = run(
-            start,
+        let s = turns(
+            scheduler,
             n,
             heads,
             slots,
-            &mut frames,
+            &mut frames[..],
             &mut cells,
             &mut keys,
             &mut pairs,
             &mut functions,
             &mut bindings,
         );
-        let next = s.state;
+        let c = s.scheduler;
         let a = s.answer;
-        let answer = close(is_done(next), a);
+        let live = c.live;
+        let done = c.count <= first(&live, 0, c.count);
+        let ts = c.threads;
+        let us = c.used;
+        let counts = c.counts;
         let m = Machine {
-            thread: thread_of(next),
-            used: used_of(next),
-            frames: frames,
+            threads: ts,
+            count: (c.count % 256) as u8,
+            round: (c.round % 256) as u8,
+            from: (c.from % 256) as u8,
+            used: us,
             cells: cells,
             keys: keys,
             pairs: pairs,
@@ -242,8 +165,29 @@ impl Machine {
         };
         Outcome {
             machine: m,
-            taken: s.taken,
-            answer: answer,
+            counts: counts,
+            thread: (thread_told(run, a, s.thread, c.from) % 256) as u8,
+            answer: told(run, done, a),
         }
+    }
+
+    // One turn: a step of the thread whose turn it is.
+    pub fn step(self, heads: &[u64], slots: &[u16], frames: &mut [u64; FRAMES_WORDS]) -> Outcome
+        ensures { λ r. ⌜ ranIn r (now (frames .exit)) ≡ call (stepsOf (lentCode heads slots)) one-step (seen self (now (frames .entry))) ⌝ }
+    {
+        self.call(1, false, heads, slots, frames)
+    }
+
+    // Up to n steps, of all threads.
+    pub fn run(
+        self,
+        n: u64,
+        heads: &[u64],
+        slots: &[u16],
+        frames: &mut [u64; FRAMES_WORDS],
+    ) -> Outcome
+        ensures { λ r. ⌜ ranIn r (now (frames .exit)) ≡ call (stepsOf (lentCode heads slots)) (run-of n) (seen self (now (frames .entry))) ⌝ }
+    {
+        self.call(n, true, heads, slots, frames)
     }
 }

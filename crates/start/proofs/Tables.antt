@@ -4,11 +4,12 @@ use Prim.Native.Nat.{ℕ}
 use mathlib.Core.List.{List}
 use lib.ListN.{length}
 use Rattle.order.specs.Bools.{_and_}
-use Rattle.syntax.specs.Job.{Job}
+use Rattle.syntax.specs.Job.{Job, sourceOf}
 use Rattle.syntax.specs.ReadLaws.{JobOk, read-ok}
 use Rattle.syntax.specs.WordLaws.{Bytes, JobFits, job-fits}
 use Rattle.syntax.specs.Loading.{JobTables, filledWith}
 use Rattle.syntax.specs.LoadLaws.{loaded, long-load}
+use Rattle.semantics.specs.Start.{startOf}
 use Rattle.semantics.specs.Starting.{started, startLoaded, startWith}
 use Rattle.machine.specs.declared.Machine.{Machine}
 use Rattle.machine.specs.View.{seen}
@@ -37,16 +38,16 @@ loaded-ready : {bytes : List ℕ} {g : Shape} {w x : JobTables} → Bytes bytes 
 loaded-ready {bytes} {w = w} by l = let r = loaded bytes (l .job) (l .is) .0 in ready-of w (read-ok bytes (l .job) r) (job-fits bytes (l .job) by r) (l .shape) (l .tables)
 
 pub starts : {bytes : List ℕ} {a : Answer} {w x : JobTables} {t : Told} {g : Shape} (m : Machine) → Bytes bytes → LoadTo bytes a w x → t ≡ toldOf a → g ≡ countsIn a
-    → seen m ≡ builtFrom g (x .names) (x .types) (x .values) → Starts bytes (record { told = t; machine = m }) w x
+    → ((fs : List ℕ) → seen m fs ≡ builtFrom g (x .names) (x .types) (x .values)) → Starts bytes (record { told = t; machine = m }) w x
 unfolding toldOf countsIn startWith startLoaded machineOf
-starts {bytes} {a} {w} {x} m by to e f b = rw e (at a to (b ∙ ap (λ (k : Shape). builtFrom k (x .names) (x .types) (x .values)) f))
+starts {bytes} {a} {w} {x} m by to e f b = rw e (at a to (λ fs. b fs ∙ ap (λ (k : Shape). builtFrom k (x .names) (x .types) (x .values)) f))
   where
-    at : (y : Answer) → LoadTo bytes y w x → seen m ≡ builtFrom (countsIn y) (x .names) (x .types) (x .values) → Starts bytes (record { told = toldOf y; machine = m }) w x
+    at : (y : Answer) → LoadTo bytes y w x → ((fs : List ℕ) → seen m fs ≡ builtFrom (countsIn y) (x .names) (x .types) (x .values)) → Starts bytes (record { told = toldOf y; machine = m }) w x
     at (answers.Refused k) l z =
         let i = refused-by l k refl in
-        record { answer = rw i; machine = rw i (z ∙ none-built (x .names) (x .types) (x .values)); tables = l .tables }
+        record { answer = λ fs. rw i; machine = λ fs. rw i (z fs ∙ none-built (x .names) (x .types) (x .values)); tables = l .tables }
     at (answers.Job g) l z =
         let j = job-loaded l refl in
         let i = long-load w bytes (j .long) ∙ j .is in
-        let y = z ∙ ready-built (loaded-ready by j) in
-        record { answer = rw i (ap started y); machine = rw i y; tables = l .tables }
+        let y : (fs : List ℕ) → seen m fs ≡ startOf (sourceOf (j .job)) = λ fs. z fs ∙ ready-built (loaded-ready by j) in
+        record { answer = λ fs. rw i (ap started (y fs)); machine = λ fs. rw i (y fs); tables = l .tables }

@@ -6,7 +6,7 @@ use mathlib.Core.List.{List}
 use Rattle.syntax.specs.Job.{Job, sourceOf}
 use Rattle.syntax.specs.ReadLaws.{JobOk}
 use Rattle.syntax.specs.Loading.{JobTables, tablesAfterLoad}
-use Rattle.semantics.specs.Machine.{Machine as Clean}
+use Rattle.semantics.specs.Machine.{System}
 use Rattle.semantics.specs.Start.{startOf}
 use Rattle.semantics.specs.Starting.{Started as Outcome, started, unstarted, startWith}
 use Rattle.machine.specs.View.{seen}
@@ -22,17 +22,18 @@ use Rattle.start.specs.declared.Told.the-variants as told
 use Rattle.start.specs.declared.Opened.{Opened}
 
 -- the machine that an answer stands for, or its refusal by number and place
-abbrev pub toldIn : Told → Clean → Outcome
+abbrev pub toldIn : Told → System → Outcome
 toldIn told.Started m = started m
 toldIn (told.Refused n p) m = unstarted (record { number = n; place = p })
 
-abbrev pub startedIn : Opened → Outcome
-startedIn r = toldIn (r .told) (seen (r .machine))
+-- with the frames that are lent to it
+abbrev pub startedIn : Opened → List ℕ → Outcome
+startedIn r fs = toldIn (r .told) (seen (r .machine) fs)
 
--- starting `bytes` with the lent tables w, which are x afterwards; the machine of a refused start is the empty one
+-- starting `bytes` with the lent tables w, which are x afterwards; the machine of a refused start is the empty one. No frame is used, so it does not matter what the frames hold
 pub record Starts (bytes : List ℕ) (r : Opened) (w x : JobTables) : Type 0 where
-  pub answer : startedIn r ≡ startWith w bytes
-  pub machine : seen (r .machine) ≡ machineOf (startWith w bytes)
+  pub answer : (fs : List ℕ) → startedIn r fs ≡ startWith w bytes
+  pub machine : (fs : List ℕ) → seen (r .machine) fs ≡ machineOf (startWith w bytes)
   pub tables : x ≡ tablesAfterLoad w bytes
 
 -- by the answer of the load: what is told, and the counts of which the machine is built
@@ -45,7 +46,7 @@ countsIn (answers.Job g) = g
 countsIn (answers.Refused k) = noShape
 
 -- the machine at the start of the job that words hold, with the counts and rights of g; the empty one where the counts are no job's
-unfoldable pub builtFrom : Shape → List ℕ → List ℕ → List ℕ → Clean
+unfoldable pub builtFrom : Shape → List ℕ → List ℕ → List ℕ → System
 builtFrom g n t v = startOf (sourceIn n (g .names) t v (g .values) (g .rights) (g .cmds))
 
 -- the tables of names, types and host values hold a job that has so many entries; what the table of types holds past its own does not matter

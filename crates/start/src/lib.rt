@@ -6,12 +6,14 @@ use machine::Control;
 use machine::Machine;
 use machine::Now;
 use machine::Thread;
-use store::FRAME_WORDS;
 use store::FUNCTION_WORDS;
+use store::MOST_THREADS;
 use store::PAIR_WORDS;
 use store::Used;
 use table::Expr;
 ghost use mathlib.Core.Path.{_≡_};
+ghost use mathlib.Core.List.{List};
+ghost use Prim.Native.Nat.{ℕ};
 ghost use Rattle.syntax.specs.Job.{Src};
 ghost use Rattle.table.specs.Lent.{jobBefore, jobAfter};
 ghost use Rattle.semantics.specs.Start.{startOf};
@@ -32,9 +34,10 @@ pub struct Opened {
     pub machine: Machine,
 }
 
-// The machine of the tables of a start: it enters the last expression.
+// The machine of the tables of a start: its one thread enters the last expression, and its first turn begins the first round. It uses none of the frames, whatever they hold.
+// The places of the threads that are to come hold the same thread; they are not looked at.
 fn machine_of(b: Initial) -> Machine
-    ensures { λ r. ⌜ ((S : Src) → Begun S b → seen r ≡ startOf S) ⌝ }
+    ensures { λ r. ⌜ ((S : Src) (fs : List ℕ) → Begun S b → seen r fs ≡ startOf S) ⌝ }
 {
     let on = b.on;
     let e = b.root;
@@ -58,9 +61,11 @@ fn machine_of(b: Initial) -> Machine
     let keys = b.keys;
     let bindings = b.bindings;
     Machine {
-        thread: t,
+        threads: [t; MOST_THREADS],
+        count: 1,
+        round: 0,
+        from: 0,
         used: used,
-        frames: [0u64; FRAME_WORDS],
         cells: cells,
         keys: keys,
         pairs: [0u64; PAIR_WORDS],
@@ -71,7 +76,7 @@ fn machine_of(b: Initial) -> Machine
 
 // The machine at the start of the job that the words hold; the empty one where the counts are no job's.
 pub fn built(g: Shape, names: &[u16], types: &[u64], values: &[u64]) -> Machine
-    ensures { λ r. ⌜ seen r ≡ builtFrom g (now (names .entry)) (now (types .entry)) (now (values .entry)) ⌝ }
+    ensures { λ r. ⌜ ((fs : List ℕ) → seen r fs ≡ builtFrom g (now (names .entry)) (now (types .entry)) (now (values .entry))) ⌝ }
 {
     let b = initial::tables(names, g.names, types, values, g.values, g.rights, g.cmds);
     machine_of(b)
@@ -79,7 +84,7 @@ pub fn built(g: Shape, names: &[u16], types: &[u64], values: &[u64]) -> Machine
 
 // The machine where no job is started: nothing is bound, nothing is enabled.
 pub fn empty() -> Machine
-    ensures { λ r. ⌜ seen r ≡ emptyMachine ⌝ }
+    ensures { λ r. ⌜ ((fs : List ℕ) → seen r fs ≡ emptyMachine) ⌝ }
 {
     let names = [0u16; 1];
     let words = [0u64; 1];

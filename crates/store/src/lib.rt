@@ -9,17 +9,20 @@ ghost use mathlib.Core.Path.{_≡_};
 ghost use mathlib.Core.Bool.{cond, true};
 ghost use Prim.Native.Nat.{ℕ, _<_, _≤_, _+_, _*_, _%_, _^_};
 ghost use lib.Dec.{eqb, ltb};
+ghost use lib.ListN.{length};
 ghost use lib.Bits.{bitOr};
 ghost use Rattle.order.specs.Sets.{bit, some-of};
 ghost use Rattle.semantics.specs.Machine.{most-frames, most-cells, most-keys, most-pairs, most-functions, most-bindings};
 ghost use Rattle.semantics.specs.Keys.{enabled, narrow};
 ghost use Rattle.store.specs.Meaning.{word-keys, keysIn, kindIn, valueIn, twoIn, closureIn, bindingIn, variableIn, nameIn, ownIn};
 ghost use Rattle.store.specs.Words.{kindAt, wordIn, cellIn, pairIn, functionIn, linkIn, upIn};
-ghost use Rattle.store.specs.Frames.{headAt, heldIn, freshOf, frameIn, Held};
+ghost use Rattle.store.specs.Frames.{frame-words, headAt, heldIn, freshOf, frameIn, Held};
 ghost use Rattle.store.specs.Tables.{Put, capped, listOf};
 ghost use Rattle.store.specs.Walk.{walk, bothOf, bitsOf, span};
 
-// Room (document 01): how many frames, cells, keys, pairs, functions and bindings there are at most.
+// Room (document 01): how many frames of a thread, cells, keys, pairs, functions and bindings there are at most; and how many threads (document 02, F-6).
+pub const MOST_THREADS: usize = 8;
+
 pub const MOST_FRAMES: u64 = 256;
 
 pub const MOST_CELLS: u64 = 256;
@@ -32,8 +35,10 @@ pub const MOST_FUNCTIONS: u64 = 512;
 
 pub const MOST_BINDINGS: u64 = 1024;
 
-// The lengths of their tables: six words a frame, two a pair and two a binding.
+// The lengths of their tables: six words a frame, two a pair and two a binding. A thread's frames are a part of the table of all threads' frames.
 pub const FRAME_WORDS: usize = MOST_FRAMES as usize * 6;
+
+pub const FRAMES_WORDS: usize = MOST_THREADS * FRAME_WORDS;
 
 pub const CELL_WORDS: usize = MOST_CELLS as usize;
 
@@ -304,7 +309,7 @@ pub fn put_name(t: &mut [u64; BINDING_WORDS], i: u16, x: u8, k: Key, next: u16)
     put64(&mut t[..], j * 2 + 1, k.0 as u64);
 }
 
-pub fn head_at(t: &[u64; FRAME_WORDS], i: u16) -> Head
+pub fn head_at(t: &[u64], i: u16) -> Head
     ensures { λ r. ⌜ r ≡ headAt (now (t .entry)) i ⌝ }
 {
     let j = i as usize;
@@ -319,25 +324,27 @@ pub fn head_at(t: &[u64; FRAME_WORDS], i: u16) -> Head
 }
 
 // The value in hand at place j of frame i.
-pub fn held_at(t: &[u64; FRAME_WORDS], i: u16, j: u8) -> Value
+pub fn held_at(t: &[u64], i: u16, j: u8) -> Value
     ensures { λ r. ⌜ valueIn r ≡ heldIn (now (t .entry)) i j ⌝ }
 {
     unpack(at64(t, (i as usize) * 6 + 3 + (j as usize)))
 }
 
 // A frame with nothing in hand.
-pub fn put_fresh(t: &mut [u64; FRAME_WORDS], i: u16, at: Expr, env: u16, on: Keys)
+pub fn put_fresh(t: &mut [u64], i: u16, at: Expr, env: u16, on: Keys)
+    requires { ⌜ length (now t) ≡ frame-words ⌝ }
     ensures { λ _. ⌜ Put frameIn most-frames (now (t .entry)) (now (t .exit)) i (freshOf at env on) ⌝ }
 {
     let w = triple(0, at.0, env);
     let j = i as usize;
-    put64(&mut t[..], j * 6, w);
-    put64(&mut t[..], j * 6 + 1, on.0);
-    put64(&mut t[..], j * 6 + 2, on.1);
+    put64(t, j * 6, w);
+    put64(t, j * 6 + 1, on.0);
+    put64(t, j * 6 + 2, on.1);
 }
 
 // Frame i with one value more in hand; a frame with three is left as it is.
-pub fn put_held(t: &mut [u64; FRAME_WORDS], i: u16, v: Value)
+pub fn put_held(t: &mut [u64], i: u16, v: Value)
+    requires { ⌜ length (now t) ≡ frame-words ⌝ }
     ensures { λ _. ⌜ Held (now (t .entry)) (now (t .exit)) i (valueIn v) ⌝ }
 {
     let j = i as usize;
@@ -345,8 +352,8 @@ pub fn put_held(t: &mut [u64; FRAME_WORDS], i: u16, v: Value)
     let n = w % 4;
     if n < 3 {
         let x = pack(v);
-        put64(&mut t[..], j * 6, w + 1);
-        put64(&mut t[..], j * 6 + 3 + (n as usize), x);
+        put64(t, j * 6, w + 1);
+        put64(t, j * 6 + 3 + (n as usize), x);
     }
 }
 

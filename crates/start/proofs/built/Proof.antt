@@ -11,7 +11,7 @@ machine-of-requires c κs = search needs
 
 returns : tie.Need-returns
 unfolding builtFrom
-returns c = c .machine-of .ensures _ (c .before .tables .ensures)
+returns c = λ fs. c .machine-of .ensures _ fs (c .before .tables .ensures)
 
 pub built-spec : {M : Type 1} → statement M
 built-spec = tie.close (tie.spec tables-requires machine-of-requires returns)

@@ -22,7 +22,7 @@ built-requires : tie.Need-built-requires
 built-requires c κs = search needs
 
 returns : tie.Need-returns
-returns c = c .built .ensures ∙ ap (λ (g : Shape). builtFrom g _ _ _) (c .before .before .before .before .no-shape .ensures) ∙ none-built _ _ _
+returns c = λ fs. c .built .ensures fs ∙ ap (λ (g : Shape). builtFrom g _ _ _) (c .before .before .before .before .no-shape .ensures) ∙ none-built _ _ _
 
 pub empty-spec : {M : Type 1} → statement M
 empty-spec =

@@ -13,7 +13,7 @@ cast-nbindings : tie.Need-cast-nbindings
 cast-nbindings c = search needs
 
 returns : tie.Need-returns
-returns c = λ S g. started S _ g _ _ _
+returns c = λ S fs g. started S _ g fs _ _
 
 pub machine-of-spec : {M : Type 1} → statement M
 machine-of-spec = tie.close (tie.spec cast-ncells cast-nkeys cast-nbindings returns)

@@ -30,8 +30,11 @@ add-put64-2 c = search needs
 put64-requires-3 : tie.Need-put64-requires-3
 put64-requires-3 c κs = search needs
 
+same-length : tie.Need-same-length
+same-length c = search needs
+
 returns : tie.Need-returns
-returns c = fresh-put _ _ _ _ _ _ 256 _ _ _ (search needs) (c .before .before .before .before .before .before .triple .ensures) (search needs) (search needs) (record { same = c .before .before .before .before .put64 .ensures }) (record { same = c .before .before .put642 .ensures }) (record { same = c .put643 .ensures })
+returns c = fresh-put _ _ _ _ _ _ 256 _ _ _ (search needs) (c .before .before .before .before .before .before .before .before .before .before .before .before .triple .ensures) (search needs) (search needs) (record { same = c .before .before .before .before .before .before .before .before .before .before .put64 .ensures }) (record { same = c .before .before .before .before .before .before .put642 .ensures }) (record { same = c .before .before .put643 .ensures })
 
 pub put-fresh-spec : {M : Type 1} → statement M
 put-fresh-spec =
@@ -46,4 +49,5 @@ put-fresh-spec =
     mul-put64-3
     add-put64-2
     put64-requires-3
+    same-length
     returns)

@@ -33,8 +33,14 @@ add-put64-3 c = search needs
 put64-requires-2 : tie.Need-put64-requires-2
 put64-requires-2 c κs = search needs
 
+same-length : tie.Need-same-length
+same-length c = search needs
+
 returns : tie.Need-returns
-returns c = hold _ _ _ _ (search needs) (c .before .before .before .before .before .before .at64 .ensures) _ _ _ (c .before .before .before .before .before .if1 .taken) (record { same = c .before .before .put64 .ensures }) (record { same = c .put642 .ensures }) (c .before .before .before .before .pack .ensures)
+returns c = hold _ _ _ _ (search needs) (c .before .before .before .before .before .before .before .before .before .before .at64 .ensures) _ _ _ (c .before .before .before .before .before .before .before .before .before .if1 .taken) (record { same = c .before .before .before .before .before .before .put64 .ensures }) (record { same = c .before .before .put642 .ensures }) (c .before .before .before .before .before .before .before .before .pack .ensures)
+
+same-length-2 : tie.Need-same-length-2
+same-length-2 c = search needs
 
 returns-2 : tie.Need-returns-2
 returns-2 c = hold-full _ _ _ _ (search needs) (c .before .at64 .ensures) (c .if1 .left)
@@ -53,5 +59,7 @@ put-held-spec =
     add-put64-2
     add-put64-3
     put64-requires-2
+    same-length
     returns
+    same-length-2
     returns-2)

@@ -38,13 +38,13 @@ act-limit-requires : tie.Need-act-limit-requires
 act-limit-requires c κs = search needs
 
 returns : tie.Need-returns
-returns c = c .act-limit .ensures (tables (now (c .before .before .before .before .before .before .before .before .before .before .before .args .frames)) (now (c .before .before .before .before .before .before .before .before .before .before .before .args .cells)) (now (c .before .before .before .before .before .before .before .before .before .before .before .args .keys)) (now (c .before .before .before .before .before .before .before .before .before .before .before .args .pairs)) (now (c .before .before .before .before .before .before .before .before .before .before .before .args .functions)) (now (c .before .before .before .before .before .before .before .before .before .before .before .args .bindings))) ∙ ap (settled (view (c .before .before .before .before .before .before .before .before .before .before .before .args .self) (tables (now (c .before .before .before .before .before .before .before .before .before .before .before .args .frames)) (now (c .before .before .before .before .before .before .before .before .before .before .before .args .cells)) (now (c .before .before .before .before .before .before .before .before .before .before .before .args .keys)) (now (c .before .before .before .before .before .before .before .before .before .before .before .args .pairs)) (now (c .before .before .before .before .before .before .before .before .before .before .before .args .functions)) (now (c .before .before .before .before .before .before .before .before .before .before .before .args .bindings))))) (sym (code-limit (now (c .before .before .before .before .before .before .before .before .before .before .before .args .heads)) (now (c .before .before .before .before .before .before .before .before .before .before .before .args .slots)) (c .before .before .before .before .before .before .before .before .before .before .before .args .at .0) _ (c .before .before .before .before .before .before .before .at64 .ensures) (c .before .before .before .before .before .before .before .before .before .before .before .args .held) (heldIn (now (c .before .before .before .before .before .before .before .before .before .before .before .args .frames)) (c .before .before .before .before .before .before .before .before .before .before .before .args .top) 0) (heldIn (now (c .before .before .before .before .before .before .before .before .before .before .before .args .frames)) (c .before .before .before .before .before .before .before .before .before .before .before .args .top) 1) (heldIn (now (c .before .before .before .before .before .before .before .before .before .before .before .args .frames)) (c .before .before .before .before .before .before .before .before .before .before .before .args .top) 2) (valueIn (c .before .before .before .before .before .before .before .before .before .before .before .args .v)) (view (c .before .before .before .before .before .before .before .before .before .before .before .args .back) (tables (now (c .before .before .before .before .before .before .before .before .before .before .before .args .frames)) (now (c .before .before .before .before .before .before .before .before .before .before .before .args .cells)) (now (c .before .before .before .before .before .before .before .before .before .before .before .args .keys)) (now (c .before .before .before .before .before .before .before .before .before .before .before .args .pairs)) (now (c .before .before .before .before .before .before .before .before .before .before .before .args .functions)) (now (c .before .before .before .before .before .before .before .before .before .before .before .args .bindings)))) (c .before .before .before .before .before .before .if1 .taken) (c .before .before .at16 .ensures) (c .before .before .before .before .before .in-hand .ensures) (c .before .before .before .before .in-hand2 .ensures) (c .before .before .before .in-hand3 .ensures)))
+returns c = λ ts. c .act-limit .ensures (tables ts (now (c .before .before .before .before .before .before .before .before .before .before .before .before .args .frames)) (now (c .before .before .before .before .before .before .before .before .before .before .before .before .args .cells)) (now (c .before .before .before .before .before .before .before .before .before .before .before .before .args .keys)) (now (c .before .before .before .before .before .before .before .before .before .before .before .before .args .pairs)) (now (c .before .before .before .before .before .before .before .before .before .before .before .before .args .functions)) (now (c .before .before .before .before .before .before .before .before .before .before .before .before .args .bindings))) ∙ ap (settled (view (c .before .before .before .before .before .before .before .before .before .before .before .before .args .self) (tables ts (now (c .before .before .before .before .before .before .before .before .before .before .before .before .args .frames)) (now (c .before .before .before .before .before .before .before .before .before .before .before .before .args .cells)) (now (c .before .before .before .before .before .before .before .before .before .before .before .before .args .keys)) (now (c .before .before .before .before .before .before .before .before .before .before .before .before .args .pairs)) (now (c .before .before .before .before .before .before .before .before .before .before .before .before .args .functions)) (now (c .before .before .before .before .before .before .before .before .before .before .before .before .args .bindings))))) (sym (code-limit (now (c .before .before .before .before .before .before .before .before .before .before .before .before .args .heads)) (now (c .before .before .before .before .before .before .before .before .before .before .before .before .args .slots)) (c .before .before .before .before .before .before .before .before .before .before .before .before .args .at .0) _ (c .before .before .before .before .before .before .before .at64 .ensures) (c .before .before .before .before .before .before .before .before .before .before .before .before .args .held) (heldIn (now (c .before .before .before .before .before .before .before .before .before .before .before .before .args .frames)) (c .before .before .before .before .before .before .before .before .before .before .before .before .args .top) 0) (heldIn (now (c .before .before .before .before .before .before .before .before .before .before .before .before .args .frames)) (c .before .before .before .before .before .before .before .before .before .before .before .before .args .top) 1) (heldIn (now (c .before .before .before .before .before .before .before .before .before .before .before .before .args .frames)) (c .before .before .before .before .before .before .before .before .before .before .before .before .args .top) 2) (valueIn (c .before .before .before .before .before .before .before .before .before .before .before .before .args .v)) (view (c .before .before .before .before .before .before .before .before .before .before .before .before .args .back) (tables ts (now (c .before .before .before .before .before .before .before .before .before .before .before .before .args .frames)) (now (c .before .before .before .before .before .before .before .before .before .before .before .before .args .cells)) (now (c .before .before .before .before .before .before .before .before .before .before .before .before .args .keys)) (now (c .before .before .before .before .before .before .before .before .before .before .before .before .args .pairs)) (now (c .before .before .before .before .before .before .before .before .before .before .before .before .args .functions)) (now (c .before .before .before .before .before .before .before .before .before .before .before .before .args .bindings)))) (c .before .before .before .before .before .before .if1 .taken) (c .before .before .at16 .ensures) (c .before .before .before .before .before .in-hand .ensures) (c .before .before .before .before .in-hand2 .ensures) (c .before .before .before .in-hand3 .ensures)))
 
 act-one-requires : tie.Need-act-one-requires
 act-one-requires c κs = search needs
 
 returns-2 : tie.Need-returns-2
-returns-2 c = simp (c .before .before .before .before .before .if2 .taken) (c .act-one .ensures (tables (now (c .before .before .before .before .before .before .before .before .before .before .before .args .frames)) (now (c .before .before .before .before .before .before .before .before .before .before .before .args .cells)) (now (c .before .before .before .before .before .before .before .before .before .before .before .args .keys)) (now (c .before .before .before .before .before .before .before .before .before .before .before .args .pairs)) (now (c .before .before .before .before .before .before .before .before .before .before .before .args .functions)) (now (c .before .before .before .before .before .before .before .before .before .before .before .args .bindings))))
+returns-2 c = λ ts. simp (c .before .before .before .before .before .if2 .taken) (c .act-one .ensures (tables ts (now (c .before .before .before .before .before .before .before .before .before .before .before .before .args .frames)) (now (c .before .before .before .before .before .before .before .before .before .before .before .before .args .cells)) (now (c .before .before .before .before .before .before .before .before .before .before .before .before .args .keys)) (now (c .before .before .before .before .before .before .before .before .before .before .before .before .args .pairs)) (now (c .before .before .before .before .before .before .before .before .before .before .before .before .args .functions)) (now (c .before .before .before .before .before .before .before .before .before .before .before .before .args .bindings))))
 
 held-at-requires : tie.Need-held-at-requires
 held-at-requires c κs = search needs
@@ -53,13 +53,13 @@ act-two-requires : tie.Need-act-two-requires
 act-two-requires c κs = search needs
 
 returns-3 : tie.Need-returns-3
-returns-3 c = simp (c .before .before .before .before .before .before .if3 .taken, ← c .before .before .before .before .before .held-at .ensures) (c .act-two .ensures (tables (now (c .before .before .before .before .before .before .before .before .before .before .before .before .before .args .frames)) (now (c .before .before .before .before .before .before .before .before .before .before .before .before .before .args .cells)) (now (c .before .before .before .before .before .before .before .before .before .before .before .before .before .args .keys)) (now (c .before .before .before .before .before .before .before .before .before .before .before .before .before .args .pairs)) (now (c .before .before .before .before .before .before .before .before .before .before .before .before .before .args .functions)) (now (c .before .before .before .before .before .before .before .before .before .before .before .before .before .args .bindings))))
+returns-3 c = λ ts. simp (c .before .before .before .before .before .before .if3 .taken, ← c .before .before .before .before .before .held-at .ensures) (c .act-two .ensures (tables ts (now (c .before .before .before .before .before .before .before .before .before .before .before .before .before .before .args .frames)) (now (c .before .before .before .before .before .before .before .before .before .before .before .before .before .before .args .cells)) (now (c .before .before .before .before .before .before .before .before .before .before .before .before .before .before .args .keys)) (now (c .before .before .before .before .before .before .before .before .before .before .before .before .before .before .args .pairs)) (now (c .before .before .before .before .before .before .before .before .before .before .before .before .before .before .args .functions)) (now (c .before .before .before .before .before .before .before .before .before .before .before .before .before .before .args .bindings))))
 
 stop-requires : tie.Need-stop-requires
 stop-requires c κs = search needs
 
 returns-4 : tie.Need-returns-4
-returns-4 c = is-stuck _ (tables (now (c .before .before .before .before .before .before .before .before .args .frames)) (now (c .before .before .before .before .before .before .before .before .args .cells)) (now (c .before .before .before .before .before .before .before .before .args .keys)) (now (c .before .before .before .before .before .before .before .before .args .pairs)) (now (c .before .before .before .before .before .before .before .before .args .functions)) (now (c .before .before .before .before .before .before .before .before .args .bindings))) _ (c .stop .ensures) (code-more (now (c .before .before .before .before .before .before .before .before .args .heads)) (now (c .before .before .before .before .before .before .before .before .args .slots)) (c .before .before .before .before .before .before .before .before .args .at .0) _ (c .before .before .before .before .at64 .ensures) (c .before .before .before .before .before .before .before .before .args .held) (heldIn (now (c .before .before .before .before .before .before .before .before .args .frames)) (c .before .before .before .before .before .before .before .before .args .top) 0) (heldIn (now (c .before .before .before .before .before .before .before .before .args .frames)) (c .before .before .before .before .before .before .before .before .args .top) 1) (heldIn (now (c .before .before .before .before .before .before .before .before .args .frames)) (c .before .before .before .before .before .before .before .before .args .top) 2) (valueIn (c .before .before .before .before .before .before .before .before .args .v)) (view (c .before .before .before .before .before .before .before .before .args .back) (tables (now (c .before .before .before .before .before .before .before .before .args .frames)) (now (c .before .before .before .before .before .before .before .before .args .cells)) (now (c .before .before .before .before .before .before .before .before .args .keys)) (now (c .before .before .before .before .before .before .before .before .args .pairs)) (now (c .before .before .before .before .before .before .before .before .args .functions)) (now (c .before .before .before .before .before .before .before .before .args .bindings)))) (c .before .before .before .if1 .left) (c .before .before .if2 .left) (c .before .if3 .left))
+returns-4 c = λ ts. is-stuck _ (tables ts (now (c .before .before .before .before .before .before .before .before .before .args .frames)) (now (c .before .before .before .before .before .before .before .before .before .args .cells)) (now (c .before .before .before .before .before .before .before .before .before .args .keys)) (now (c .before .before .before .before .before .before .before .before .before .args .pairs)) (now (c .before .before .before .before .before .before .before .before .before .args .functions)) (now (c .before .before .before .before .before .before .before .before .before .args .bindings))) _ (c .stop .ensures) (code-more (now (c .before .before .before .before .before .before .before .before .before .args .heads)) (now (c .before .before .before .before .before .before .before .before .before .args .slots)) (c .before .before .before .before .before .before .before .before .before .args .at .0) _ (c .before .before .before .before .at64 .ensures) (c .before .before .before .before .before .before .before .before .before .args .held) (heldIn (now (c .before .before .before .before .before .before .before .before .before .args .frames)) (c .before .before .before .before .before .before .before .before .before .args .top) 0) (heldIn (now (c .before .before .before .before .before .before .before .before .before .args .frames)) (c .before .before .before .before .before .before .before .before .before .args .top) 1) (heldIn (now (c .before .before .before .before .before .before .before .before .before .args .frames)) (c .before .before .before .before .before .before .before .before .before .args .top) 2) (valueIn (c .before .before .before .before .before .before .before .before .before .args .v)) (view (c .before .before .before .before .before .before .before .before .before .args .back) (tables ts (now (c .before .before .before .before .before .before .before .before .before .args .frames)) (now (c .before .before .before .before .before .before .before .before .before .args .cells)) (now (c .before .before .before .before .before .before .before .before .before .args .keys)) (now (c .before .before .before .before .before .before .before .before .before .args .pairs)) (now (c .before .before .before .before .before .before .before .before .before .args .functions)) (now (c .before .before .before .before .before .before .before .before .before .args .bindings)))) (c .before .before .before .if1 .left) (c .before .before .if2 .left) (c .before .if3 .left))
 
 pub act-spec : {M : Type 1} → statement M
 act-spec =

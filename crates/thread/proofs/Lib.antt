@@ -1,0 +1,5 @@
+pub mod Sorts
+pub mod Hands
+pub mod Enters
+pub mod Seeks
+pub mod Loops

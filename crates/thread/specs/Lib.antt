@@ -1,0 +1,4 @@
+pub mod Meaning
+pub mod View
+pub mod Inner
+pub mod Lent
