@@ -1,12 +1,15 @@
 -- Laws of lists written over others, and of lists of calls.
 use mathlib.Core.Path.{_≡_, refl, sym, ap, _∙_}
-use Prim.Native.Nat.{ℕ, zero, suc, _-_, _*_, _≤_, _<_}
+use Prim.Native.Nat.{ℕ, zero, suc, _+_, _-_, _*_, _^_, _≤_, _<_}
 use native.Mathlib.Omega.{arith}
 use mathlib.Core.List.{List, [], _∷_, _++_}
 use lib.ListN.{length, drop, set}
 use lib.Seq.{sets, set-out}
-use Rattle.semantics.specs.Machine.{Machine}
-use Rattle.semantics.specs.Calls.{Steps, one-step, run-of, calls, call}
+use Rattle.semantics.specs.Machine.{System, most-threads}
+use Rattle.semantics.specs.Threads.{Steps, Took, t-step, t-none, t-room, t-stuck, t-denied, turn}
+use Rattle.semantics.specs.Calls.{taken, ran, bump, total, no-steps, always, onTurn, one-step, run-of, calls, call}
+use Rattle.semantics.specs.TurnLaws.{Lawful}
+use Rattle.semantics.specs.CountLaws.{run-counted}
 use Rattle.calls.specs.Words.{callOf, callsIn, resultWords, over}
 
 pub sets-cons : (x : ℕ) (l : List ℕ) (i : ℕ) (vs : List ℕ) → sets (x ∷ l) (suc i) vs ≡ x ∷ sets l i vs
@@ -39,7 +42,7 @@ over-length (o ∷ os) [] = refl
 over-length (o ∷ os) (n ∷ ns) = ap suc (over-length os ns)
 
 -- two words a call
-pub result-length : (K : Steps) (ws : List ℕ) (m : Machine) → length (resultWords (calls K (callsIn ws) m)) ≡ 2 * length ws
+pub result-length : (K : Steps) (ws : List ℕ) (m : System) → length (resultWords (calls K (callsIn ws) m)) ≡ 2 * length ws
 unfolding callsIn calls resultWords
 result-length K [] m = refl
 result-length K (w ∷ ws) m = let h = result-length K ws (call K (callOf w) m .machine) in omega (arith, h)
@@ -52,3 +55,26 @@ call-run (suc n) h = let e : suc n - 1 ≡ n = omega arith in ap run-of (sym e)
 pub call-step : (w : ℕ) → w ≡ 0 → callOf w ≡ one-step
 unfolding callOf
 call-step w e = rw e
+
+-- the steps of all threads in a call are never more than a word holds
+bump-most : (i : ℕ) (c : List ℕ) → total (bump i c) ≤ suc (total c)
+unfolding bump total
+bump-most i [] = omega arith
+bump-most zero (n ∷ c) = omega arith
+bump-most (suc i) (n ∷ c) = omega (arith, bump-most i c)
+
+step-most : (K : Steps) (s : System) → total (call K one-step s .counts) ≤ 1
+unfolding call onTurn total
+step-most K s = at (turn K (always no-steps) s)
+  where
+    at : (o : Took) → total (onTurn o no-steps s (λ i t. ran taken (bump i no-steps) i t) .counts) ≤ 1
+    at (t-step i t) = omega (arith, bump-most i no-steps)
+    at t-none = omega arith
+    at (t-room i) = omega arith
+    at (t-stuck i) = omega arith
+    at (t-denied i) = omega arith
+
+pub call-fits : (K : Steps) (law : Lawful K) (w : ℕ) (s : System) → length (s .threads) ≤ most-threads → w < 2 ^ 64 → total (call K (callOf w) s .counts) < 2 ^ 64
+unfolding callOf
+call-fits K law zero s few h = omega (arith, step-most K s)
+call-fits K law (suc n) s few h = omega (arith, run-counted K law n s few .most)

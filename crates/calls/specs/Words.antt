@@ -1,8 +1,7 @@
 -- Calls and what they give, as numbers.
 use Prim.Native.Nat.{ℕ, zero, suc}
 use mathlib.Core.List.{List, [], _∷_}
-use Rattle.semantics.specs.Machine.{Machine}
-use Rattle.semantics.specs.Calls.{Steps, Call, one-step, run-of, Answer, taken, finished, spent, noroom, stuck, denied, Ran, call}
+use Rattle.semantics.specs.Calls.{Call, one-step, run-of, Answer, taken, finished, spent, noroom, stuck, denied, Ran, total}
 
 -- 0 is a step, n + 1 a run of n steps
 unfoldable pub callOf : ℕ → Call
@@ -21,15 +20,15 @@ answerNo noroom = 3
 answerNo stuck = 4
 answerNo denied = 5
 
--- the answer and the count of steps taken, for each call
+-- the answer of each call, and the steps of all threads in it
 unfoldable pub resultWords : List Ran → List ℕ
 resultWords [] = []
-resultWords (r ∷ l) = answerNo (r .answer) ∷ r .count ∷ resultWords l
+resultWords (r ∷ l) = answerNo (r .answer) ∷ total (r .counts) ∷ resultWords l
 
--- the machine that the last of the calls gives
-unfoldable pub lastOf : Steps → List Call → Machine → Machine
-lastOf K [] m = m
-lastOf K (c ∷ cs) m = lastOf K cs (call K c m .machine)
+-- the steps that each thread took in the last of the calls, by their results; d where there is none
+unfoldable pub lastCounts : List Ran → List ℕ → List ℕ
+lastCounts [] d = d
+lastCounts (r ∷ l) d = lastCounts l (r .counts)
 
 -- the second list over the first, as far as the first goes; what it does not reach stays
 unfoldable pub over : List ℕ → List ℕ → List ℕ

@@ -3,31 +3,26 @@ use mathlib.Core.Path.{_≡_, refl, sym, ap, _∙_, subst}
 use Prim.Native.Nat.{ℕ, _*_, _/_, _<_, _≤_}
 use native.Mathlib.Omega.{arith}
 use mathlib.Core.Bool.{Bool, true, false}
-use mathlib.Core.List.{List, _++_}
+use mathlib.Core.List.{List, [], _++_}
 use lib.ListN.{length, set, drop}
 use borrow.Author.Tests.{le-leb, lt-leb}
 use Rattle.syntax.specs.Words.{codeIn}
-use Rattle.semantics.specs.Machine.{Machine as Clean}
+use Rattle.semantics.specs.Machine.{System}
 use Rattle.syntax.specs.Loading.{JobTables}
-use Rattle.semantics.specs.Calls.{Steps, stepsOf, calls}
+use Rattle.semantics.specs.Threads.{Steps, stepsOf}
+use Rattle.semantics.specs.Calls.{calls, lastOf}
 use Rattle.semantics.specs.Starting.{started, unstarted}
 use Rattle.table.specs.Told.{Tells}
-use Rattle.machine.specs.declared.Machine.{Machine}
 use Rattle.machine.specs.View.{seen}
 use Rattle.calls.specs.Words.{callsIn, resultWords, over}
 use Rattle.calls.specs.Laws.{over-fits, result-length}
-use Rattle.calls.specs.Made.{Made}
 use Rattle.start.specs.declared.Told.{Told}
 use Rattle.start.specs.declared.Told.the-variants as told
 use Rattle.start.specs.declared.Opened.{Opened}
 use Rattle.start.specs.Starts.{toldIn, Starts}
 use Rattle.session.specs.Session.{roomFor}
-use Rattle.results.specs.Told.{roomWords, countWords}
-use Rattle.results.proofs.Told.{counts-are}
+use Rattle.results.specs.Told.{roomWords}
 use Rattle.capi.specs.Runs.{numberOf, openedWith, openedTables, Goes, Ran, Runs}
-
-pub goes : {K : Steps} {words a a' k k' : List ℕ} {m : Clean} (last : Machine) → Made K words m a a' (seen last) → k' ≡ over k (countWords (last .thread) (last .used)) → Goes K words m a a' k k'
-goes {k = k} last h e = record { last = seen last; made = h; rooms = e ∙ ap (λ (l : List ℕ). over k l) (counts-are last) }
 
 -- answers with room for two words a call, or not
 room-no : (ws a : List ℕ) → length a / 2 < length ws → roomFor ws a ≡ false
@@ -38,12 +33,12 @@ room-yes : (ws a : List ℕ) → length ws ≤ length a / 2 → roomFor ws a ≡
 unfolding roomFor
 room-yes ws a h = le-leb (2 * length ws) (length a) (omega arith)
 
-all-ran : {K : Steps} {ws a a' k k' : List ℕ} {m : Clean} → length ws ≤ length a / 2 → Goes K ws m a a' k k' → Ran K ws m a a' k k'
+all-ran : {K : Steps} {ws a a' k k' : List ℕ} {m : System} → length ws ≤ length a / 2 → Goes K ws m a a' k k' → Ran K ws m a a' k k'
 all-ran {K} {ws} {a} {k = k} {m = m} h g =
     let l : length (resultWords (calls K (callsIn ws) m)) ≡ 2 * length ws = result-length K ws m in
     record {
       answers = g .made .answers ∙ over-fits a _ (omega (arith, l)) ∙ ap (λ (n : ℕ). resultWords (calls K (callsIn ws) m) ++ drop n a) l;
-      rooms = g .rooms ∙ ap (λ (z : Clean). over k (roomWords z)) (g .made .machine);
+      rooms = g .rooms ∙ ap (λ (z : System). over k (roomWords z (g .counts))) (g .made .machine) ∙ ap (λ (c : List ℕ). over k (roomWords (lastOf K (callsIn ws) m) c)) (g .made .steps);
     }
 
 pub runs-short : (bytes ws : List ℕ) (w : JobTables) (a k k' : List ℕ) {r : ℕ} → length a / 2 < length ws → Tells 1 0 r k k' → Runs bytes r ws w w a a k k'
@@ -62,23 +57,23 @@ runs-short bytes ws w a k k' h f =
 
 module _ (bytes ws a : List ℕ) {w x : JobTables} (o : Opened) (to : Starts bytes o w x) (room : length ws ≤ length a / 2) where
   -- what the answer of the start stands for
-  outcome : {u : Told} → o .told ≡ u → openedWith (roomFor ws a) w bytes ≡ toldIn u (seen (o .machine))
+  outcome : (fs : List ℕ) {u : Told} → o .told ≡ u → openedWith (roomFor ws a) w bytes ≡ toldIn u (seen (o .machine) fs)
   unfolding openedWith
-  outcome e = ap (λ (b : Bool). openedWith b w bytes) (room-yes ws a room) ∙ sym (to .answer) ∙ ap (λ (u : Told). toldIn u (seen (o .machine))) e
+  outcome fs e = ap (λ (b : Bool). openedWith b w bytes) (room-yes ws a room) ∙ sym (to .answer fs) ∙ ap (λ (u : Told). toldIn u (seen (o .machine) fs)) e
 
   tables-are : x ≡ openedTables (roomFor ws a) w bytes
   unfolding openedTables
   tables-are = to .tables ∙ sym (ap (λ (b : Bool). openedTables b w bytes) (room-yes ws a room))
 
   module _ {k k' : List ℕ} where
-    pub runs-started : {a' : List ℕ} → o .told ≡ told.Started → Goes (stepsOf (codeIn (x .heads) (x .slots))) ws (seen (o .machine)) a a' k k' → Runs bytes 0 ws w x a a' k k'
+    pub runs-started : (fs : List ℕ) {a' : List ℕ} → o .told ≡ told.Started → Goes (stepsOf (codeIn (x .heads) (x .slots))) ws (seen (o .machine) fs) a a' k k' → Runs bytes 0 ws w x a a' k k'
     unfolding numberOf
-    runs-started {a'} e g =
+    runs-started fs {a'} e g =
         record {
           tables = tables-are;
-          number = sym (ap numberOf (outcome e));
-          goes = λ m z. let y : seen (o .machine) ≡ m = cc (sym (outcome e) ∙ z) in subst (λ (c : Clean). Ran (stepsOf (codeIn (x .heads) (x .slots))) ws c a a' k k') y (all-ran room g);
-          stops = λ q z. absurd (let y : _≡_ {A = ℕ} 0 1 = cc (sym (outcome e) ∙ z) in omega arith);
+          number = sym (ap numberOf (outcome fs e));
+          goes = λ m z. let y : seen (o .machine) fs ≡ m = cc (sym (outcome fs e) ∙ z) in subst (λ (c : System). Ran (stepsOf (codeIn (x .heads) (x .slots))) ws c a a' k k') y (all-ran room g);
+          stops = λ q z. absurd (let y : _≡_ {A = ℕ} 0 1 = cc (sym (outcome fs e) ∙ z) in omega arith);
         }
 
     pub runs-refused : (n p : ℕ) {r : ℕ} → o .told ≡ told.Refused n p → Tells n p r k k' → Runs bytes r ws w x a a k k'
@@ -86,7 +81,7 @@ module _ (bytes ws a : List ℕ) {w x : JobTables} (o : Opened) (to : Starts byt
     runs-refused n p e z =
         record {
           tables = tables-are;
-          number = z .number ∙ sym (ap numberOf (outcome e));
-          goes = λ m y. absurd (let q : _≡_ {A = ℕ} 0 1 = cc (sym (outcome e) ∙ y) in omega arith);
-          stops = λ q y. let s : p ≡ q .place = cc (sym (outcome e) ∙ y) in record { answers = refl; rooms = z .told ∙ ap (λ (i : ℕ). set k 0 i) s };
+          number = z .number ∙ sym (ap numberOf (outcome [] e));
+          goes = λ m y. absurd (let q : _≡_ {A = ℕ} 0 1 = cc (sym (outcome [] e) ∙ y) in omega arith);
+          stops = λ q y. let s : p ≡ q .place = cc (sym (outcome [] e) ∙ y) in record { answers = refl; rooms = z .told ∙ ap (λ (i : ℕ). set k 0 i) s };
         }

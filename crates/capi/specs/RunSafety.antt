@@ -15,7 +15,8 @@ use Rattle.typing.specs.Tables.{Tables}
 use Rattle.semantics.specs.Start.{startOf}
 use Rattle.semantics.specs.Starting.{started}
 use Rattle.semantics.specs.Calls as semantics
-use Rattle.semantics.specs.Calls.{stepsOf, calls}
+use Rattle.semantics.specs.Threads.{stepsOf}
+use Rattle.semantics.specs.Calls.{calls}
 use Rattle.semantics.specs.Demand3.{exprOf, callsOf, Allowed}
 use Rattle.calls.specs.Words.{callsIn, resultWords}
 use Rattle.checker.specs.declared.Checked.{Checked}

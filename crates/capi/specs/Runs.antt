@@ -6,11 +6,12 @@ use mathlib.Core.List.{List, _++_}
 use lib.ListN.{length, set, drop}
 use Rattle.syntax.specs.Words.{codeIn}
 use Rattle.syntax.specs.Reading.{Refusal}
-use Rattle.semantics.specs.Machine.{Machine as Clean}
+use Rattle.semantics.specs.Machine.{System}
 use Rattle.syntax.specs.Loading.{JobTables, tablesAfterLoad}
-use Rattle.semantics.specs.Calls.{Steps, stepsOf, calls}
+use Rattle.semantics.specs.Threads.{Steps, stepsOf}
+use Rattle.semantics.specs.Calls.{no-steps, calls, lastOf}
 use Rattle.semantics.specs.Starting.{Started, started, unstarted, startWith}
-use Rattle.calls.specs.Words.{callsIn, resultWords, lastOf, over}
+use Rattle.calls.specs.Words.{callsIn, resultWords, lastCounts, over}
 use Rattle.calls.specs.Made.{Made}
 use Rattle.results.specs.Told.{roomWords}
 use Rattle.session.specs.Session.{roomFor}
@@ -30,15 +31,16 @@ openedTables true w s = tablesAfterLoad w s
 openedTables false w s = w
 
 -- the calls `words` on machine m: a and a' are the answers before and after, k and k' the rooms
-pub record Goes (K : Steps) (words : List ℕ) (m : Clean) (a a' k k' : List ℕ) : Type 0 where
-  pub last : Clean
-  pub made : Made K words m a a' last
-  pub rooms : k' ≡ over k (roomWords last)
+pub record Goes (K : Steps) (words : List ℕ) (m : System) (a a' k k' : List ℕ) : Type 0 where
+  pub last : System
+  pub counts : List ℕ
+  pub made : Made K words m a a' last counts
+  pub rooms : k' ≡ over k (roomWords last counts)
 
--- the same with all answers written
-pub record Ran (K : Steps) (words : List ℕ) (m : Clean) (a a' k k' : List ℕ) : Type 0 where
+-- the same with all answers written; the steps are those of each thread in the last call
+pub record Ran (K : Steps) (words : List ℕ) (m : System) (a a' k k' : List ℕ) : Type 0 where
   pub answers : a' ≡ resultWords (calls K (callsIn words) m) ++ drop (2 * length words) a
-  pub rooms : k' ≡ over k (roomWords (lastOf K (callsIn words) m))
+  pub rooms : k' ≡ over k (roomWords (lastOf K (callsIn words) m) (lastCounts (calls K (callsIn words) m) no-steps))
 
 -- a refusal writes its place and makes no call
 pub record Stops (q : Refusal) (a a' k k' : List ℕ) : Type 0 where
@@ -49,5 +51,5 @@ pub record Stops (q : Refusal) (a a' k k' : List ℕ) : Type 0 where
 pub record Runs (bytes : List ℕ) (r : ℕ) (words : List ℕ) (w x : JobTables) (a a' k k' : List ℕ) : Type 0 where
   pub tables : x ≡ openedTables (roomFor words a) w bytes
   pub number : r ≡ numberOf (openedWith (roomFor words a) w bytes)
-  pub goes : (m : Clean) → openedWith (roomFor words a) w bytes ≡ started m → Ran (stepsOf (codeIn (x .heads) (x .slots))) words m a a' k k'
+  pub goes : (m : System) → openedWith (roomFor words a) w bytes ≡ started m → Ran (stepsOf (codeIn (x .heads) (x .slots))) words m a a' k k'
   pub stops : (q : Refusal) → openedWith (roomFor words a) w bytes ≡ unstarted q → Stops q a a' k k'

@@ -31,20 +31,22 @@ lentBefore a v c o = lent (now (a .entry)) (now (v .entry)) (now (c .entry)) (no
 abbrev pub lentAfter : Table → Table → Table → Table → Lent
 lentAfter a v c o = lent (now (a .exit)) (now (v .exit)) (now (c .exit)) (now (o .exit))
 
--- what is told of a session that ended, as far as there are places
+-- what is told of a session that ended, as far as there are places, whatever the frames hold
 pub record Reported (h : Held) (r : ℕ) (v v' c c' o o' : List ℕ) : Type 0 where
   pub number : r ≡ numberFor (h .verdict)
-  pub value : v' ≡ over v (valueWords (seen (h .machine)))
-  pub cells : c' ≡ over c (cellWords (seen (h .machine)))
+  pub value : (fs : List ℕ) → v' ≡ over v (valueWords (seen (h .machine) fs))
+  pub cells : (fs : List ℕ) → c' ≡ over c (cellWords (seen (h .machine) fs))
   pub out : o' ≡ over o (outWords (h .verdict))
 
--- a session that ended, all of it told
+-- a session that ended, all of it told, for some frames that it lends the calls, before and after: they are seen with its machine alone
 pub record Ended (bytes words : List ℕ) (r : ℕ) (w x : Tables) (l k : Lent) : Type 0 where
   pub held : Held
-  pub to : SessionTo bytes words held w x (l .answers) (k .answers)
+  pub frames : List ℕ
+  pub frames-after : List ℕ
+  pub to : SessionTo bytes words held w x frames frames-after (l .answers) (k .answers)
   pub number : r ≡ numberFor (held .verdict)
-  pub value : k .value ≡ valueWords (seen (held .machine)) ++ drop 2 (l .value)
-  pub cells : k .cells ≡ cellWords (seen (held .machine)) ++ drop cell-words (l .cells)
+  pub value : k .value ≡ valueWords (seen (held .machine) frames-after) ++ drop 2 (l .value)
+  pub cells : k .cells ≡ cellWords (seen (held .machine) frames-after) ++ drop cell-words (l .cells)
   pub out : k .out ≡ outWords (held .verdict) ++ drop 2 (l .out)
 
 -- 1, and nothing is written

@@ -2,9 +2,10 @@
 use machine::Machine;
 use session::Held;
 use start::Told;
+use store::FRAMES_WORDS;
 ghost use Rattle.syntax.specs.Words.{codeIn};
 ghost use Rattle.table.specs.Lent.{jobBefore, jobAfter};
-ghost use Rattle.semantics.specs.Calls.{stepsOf};
+ghost use Rattle.semantics.specs.Threads.{stepsOf};
 ghost use Rattle.machine.specs.View.{seen};
 ghost use Rattle.judge.specs.Lent.{before};
 ghost use Rattle.checker.specs.Lent.{after};
@@ -14,30 +15,31 @@ ghost use Rattle.capi.specs.Runs.{Goes, Runs};
 ghost use Rattle.capi.specs.Sheets.{Sheets};
 ghost use Rattle.capi.specs.Sessions.{lentBefore, lentAfter, Reported, Sessions};
 
-// The calls on a machine, and the room that the last machine uses.
+// The calls on a machine, the room that the last machine uses, and the steps of each thread in the last call. Nobody looks at the frames afterwards.
 fn go(
     m: Machine,
     heads: &[u64],
     slots: &[u16],
+    frames: &mut [u64; FRAMES_WORDS],
     calls: &[u64],
     answers: &mut [u64],
     rooms: &mut [u64],
 )
     ensures { λ _. ⌜
-        Goes (stepsOf (codeIn (now (heads .entry)) (now (slots .entry)))) (now (calls .entry)) (seen m)
+        Goes (stepsOf (codeIn (now (heads .entry)) (now (slots .entry)))) (now (calls .entry)) (seen m (now (frames .entry)))
         (now (answers .entry)) (now (answers .exit)) (now (rooms .entry)) (now (rooms .exit))
         ⌝ }
 {
-    let last = calls::make_calls(m, heads, slots, calls, answers);
-    let t = last.thread;
-    let u = last.used;
-    results::count(t, u, rooms);
+    let last = calls::make_calls(m, heads, slots, frames, calls, answers);
+    let at_end = last.machine;
+    let counts = last.counts;
+    results::count(at_end, counts, rooms);
 }
 
 // Starts the job and makes the calls, without a check: 0 says that the job is started, and is no verdict on it. Only of a job that
 // `jobdesk_check` accepts is it proved that no call is stuck or denied. Another number is that of a refusal, whose place goes to rooms[0]; 1 too
-// where the answers have no room for two words a call. Where the job is started rooms are the cells, keys, pairs, functions, frames and
-// bindings in use at the end.
+// where the answers have no room for two words a call. Where the job is started rooms are the cells, keys, pairs, functions, frames of all threads,
+// bindings and threads in use at the end, then the steps of each of eight threads in the last call.
 #[no_mangle]
 pub extern "C" fn jobdesk_run(
     job: &[u8],
@@ -65,7 +67,8 @@ pub extern "C" fn jobdesk_run(
     match told {
         Told::Started => {
             let m = o.machine;
-            go(m, heads, slots, calls, answers, rooms);
+            let mut frames = [0u64; FRAMES_WORDS];
+            go(m, heads, slots, &mut frames, calls, answers, rooms);
             0
         }
         Told::Refused(n, p) => table::tell(n, p, rooms),
@@ -123,7 +126,7 @@ fn finish(h: Held, value: &mut [u64], cells: &mut [u64], out: &mut [u64]) -> u64
 
 // Checks the job and, where it is accepted, starts it and makes the calls, each on the machine that the last one gave. Returns 0 where the job is
 // accepted: then every answer is one that demand 3 allows. Another number is that of its refusal, and no call is made. out[0] and out[1] are as
-// `jobdesk_check` has them. value[0] is the kind of a finished job's value (1 number, 2 pair, 3 cell, 4 function, 5 limit, 6 grant) and value[1]
+// `jobdesk_check` has them. value[0] is the kind of a finished job's value, that of thread 0, (1 number, 2 pair, 3 cell, 4 function, 5 limit, 6 grant) and value[1]
 // what it holds; cells[2i] and cells[2i + 1] are the same of cell i; 0 and 0 where there is no value. Where answers, value, cells or out are too
 // short, 1 is returned and nothing at all is written.
 #[no_mangle]
@@ -153,6 +156,7 @@ pub extern "C" fn jobdesk_session(
     if results::is_short(calls, answers, value, cells, out) {
         return 1;
     }
+    let mut frames = [0u64; FRAMES_WORDS];
     let h = session::session(
         job,
         names,
@@ -163,6 +167,7 @@ pub extern "C" fn jobdesk_session(
         slots,
         entries,
         effects,
+        &mut frames,
         calls,
         answers,
     );

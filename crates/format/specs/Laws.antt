@@ -1,13 +1,15 @@
 -- The lines by kind are the desk program's lines, and each line is shorter than 64 bytes, so that two of them have room in a text.
 use Prim.Native.Nat.{ℕ, _<_, _≤_}
 use mathlib.Core.Path.{_≡_, refl, _∙_}
+use mathlib.Core.Option.{some}
 use mathlib.Core.List.{List, _++_}
 use native.Mathlib.Omega.{arith}
 use lib.ListN.{length, length-append}
 use lib.Seq.{take-all}
 use Rattle.order.specs.Effects.{Effect}
 use Rattle.syntax.specs.Types.{Ty, num, pair, cell, fn, lim, grant}
-use Rattle.semantics.specs.Machine.{Kind, k-num, k-pair, k-fn, k-cell, k-lim, k-grant, Value, hand, Machine}
+use Rattle.semantics.specs.Machine.{Kind, k-num, k-pair, k-fn, k-cell, k-lim, k-grant, Value, System}
+use Rattle.semantics.specs.Threads.{valueOf}
 use Rattle.semantics.specs.Calls.{finished, spent, noroom}
 use Rattle.format.specs.declared.Sort.{Sort}
 use Rattle.format.specs.declared.Sort.the-variants.{Number, Pair, Cell, Function, Limit, Grant}
@@ -40,16 +42,16 @@ pub accepted-line : (T : Ty) (s : Effect) → acceptedAs s (typeSort T) ≡ acce
 unfolding acceptedAs acceptedLine
 accepted-line T s = rw type-word
 
--- its second line: a machine that hands on a value with no frame left, all steps spent, no room
-pub done-line : (n : ℕ) (m : Machine) (v : Value) → m .thread .control ≡ hand v → doneAs n (kindSort (v .kind)) (kindNumber (v .kind)) ≡ ranLine finished n m
+-- its second line: a job that is done with a value, all steps spent, no room
+pub done-line : (n : ℕ) (m : System) (v : Value) → valueOf m ≡ some v → doneAs n (kindSort (v .kind)) (kindNumber (v .kind)) ≡ ranLine finished n m
 unfolding doneAs ranLine handed
 done-line n m v e = simp (e, value-words)
 
-pub spent-line : (n : ℕ) (m : Machine) → spentAs n ≡ ranLine spent n m
+pub spent-line : (n : ℕ) (m : System) → spentAs n ≡ ranLine spent n m
 unfolding spentAs ranLine
 spent-line n m = refl
 
-pub no-room-line : (n : ℕ) (m : Machine) → noRoomAs n ≡ ranLine noroom n m
+pub no-room-line : (n : ℕ) (m : System) → noRoomAs n ≡ ranLine noroom n m
 unfolding noRoomAs ranLine
 no-room-line n m = refl
 
@@ -94,9 +96,9 @@ unfolding joined
 two-fit a b h g = take-all text-bytes (a ++ b) (simp length-append (omega arith))
 
 -- what an accepted job prints, with each way its run can end
-module _ (T : Ty) (s : Effect) (n : ℕ) (m : Machine) where
+module _ (T : Ty) (s : Effect) (n : ℕ) (m : System) where
   pub accepted-done :
-      (v : Value) → m .thread .control ≡ hand v →
+      (v : Value) → valueOf m ≡ some v →
       joined (acceptedAs s (typeSort T)) (doneAs n (kindSort (v .kind)) (kindNumber (v .kind))) ≡ acceptedLine T s ++ ranLine finished n m
   accepted-done v e =
       two-fit _ _ (accepted-length s (typeSort T)) (done-length n (kindSort (v .kind)) (kindNumber (v .kind)))

@@ -1,10 +1,11 @@
 -- The lines that the functions put together are the desk program's.
 use mathlib.Core.Path.{_≡_, refl, sym, ap, _∙_, fun-ext}
-use Prim.Native.Nat.{ℕ, _%_, _≤_, _<_}
+use Prim.Native.Nat.{ℕ, _%_, _^_, _≤_, _<_}
+use native.Mathlib.Nat.{mod-eq-of-lt}
 use native.Mathlib.Omega.{arith}
-use mathlib.Core.Bool.{Bool, true, false, cond, false≢true}
+use mathlib.Core.Bool.{Bool, true, false, cond, not, false≢true}
 use mathlib.Core.List.{List, [], _++_, append-nil}
-use lib.ListN.{length, getD, take}
+use lib.ListN.{length, getElem?, getD, take}
 use lib.Seq.{take-all, length-take-le}
 use lib.Dec.{eqb}
 use borrow.Author.Tests.{ne-eqb}
@@ -12,29 +13,34 @@ use Rattle.order.specs.Effects.{Effect, ofWord}
 use mathlib.Core.Option.{none, some}
 use Rattle.syntax.specs.Types.{Ty, e-num, entryTree, treeIn}
 use Rattle.syntax.specs.Commands.{Cmd}
-use Rattle.syntax.specs.Job.{Job, sourceOf}
+use Rattle.syntax.specs.Job.{Job, Src, sourceOf}
 use Rattle.syntax.specs.Reading.{read, reading}
 use Rattle.syntax.specs.Words.{codeIn, entryBits, entryIn}
 use Rattle.syntax.specs.WordLaws.{Bytes}
-use Rattle.typing.specs.Verdict.{Verdict, accept, verdictOf}
+use Rattle.typing.specs.Verdict.{accept, verdictOf}
 use Rattle.typing.specs.Tables.{Tables, short}
-use Rattle.semantics.specs.Machine.{hand, Machine as Clean}
+use Rattle.semantics.specs.Machine.{System, most-threads}
 use Rattle.semantics.specs.Start.{startOf}
-use Rattle.semantics.specs.Room.{isDone, doneAt}
-use Rattle.semantics.specs.Calls.{Steps, stepsOf, Call, taken, finished, spent, noroom, stuck, denied, Ran, run}
-use Rattle.semantics.specs.RunLaws.{Says, one-taken, one-done, one-stuck, one-denied, one-noroom, run-done, run-spent, run-stuck, run-denied, run-noroom, run-says}
-use Rattle.semantics.specs.StepExactly.{exact}
+use Rattle.semantics.specs.Room.{doneAt}
+use Rattle.semantics.specs.Threads.{stepsOf, liveThread, allDone, handedOn, valueOf}
+use Rattle.semantics.specs.Calls.{taken, finished, spent, noroom, stuck, denied, run-of, Ran, total, no-steps, together, call}
+use Rattle.semantics.specs.TurnLaws.{lawful, done-live, value-is}
+use Rattle.semantics.specs.RunLaws.{RunSays, run-done, run-spent, run-stuck, run-denied, run-noroom, Says, run-says, says-exactly}
+use Rattle.semantics.specs.CountLaws.{run-counted}
+use Rattle.semantics.specs.Rounds.{takes-grown}
 use Rattle.semantics.specs.Demand3.{exprOf, stepsIn, same-steps}
 use Rattle.store.specs.declared.Value.{Value as Held}
 use Rattle.table.specs.declared.Expr.{Expr}
 use Rattle.store.specs.Meaning.{valueIn, kindIn}
 use Rattle.machine.specs.declared.Machine.{Machine}
 use Rattle.machine.specs.declared.Outcome.{Outcome}
-use Rattle.acts.specs.declared.Answer.{Answer}
+use Rattle.machine.specs.declared.Answer.{Answer}
 use Rattle.acts.specs.declared.Control.the-variants.{Enter, Hand}
-use Rattle.acts.specs.Meaning.{answerIn, controlIn}
-use Rattle.acts.specs.View.{view}
-use Rattle.machine.specs.View.{seen, ranIn}
+use Rattle.acts.specs.Meaning.{controlIn}
+use Rattle.store.specs.Tables.{capped}
+use Rattle.machine.specs.Scheduled.{idle, threadAt}
+use Rattle.machine.specs.Listed.{listed-length, listed-get}
+use Rattle.machine.specs.View.{seen, answerIn, ranIn}
 use Rattle.format.specs.declared.Sort.{Sort}
 use Rattle.format.specs.declared.Sort.the-variants.{Number, Pair, Cell, Function, Limit, Grant}
 use Rattle.output.specs.Lines.{refusedLine, acceptedLine, ranLine, ranOf, runLine, runRead, reported, deskOf, most-bytes, most-steps, printed}
@@ -82,79 +88,119 @@ pub sort-is : (types sets : List ℕ) (i w : ℕ) (k : Sort) → ((q a b s : ℕ
 unfolding treeOf treeIn entryIn
 sort-is types sets i w k h e = rw (sym e) (h _ _ _ _ _)
 
--- a machine that hands on a value, and one that is done
-seen-hand : (m : Machine) (v : Held) → m .thread .now .control ≡ Hand v → seen m .thread .control ≡ hand (valueIn v)
-unfolding view
-seen-hand m v e = ap controlIn e
+-- the value of a job that is done, by the control of the first thread
+module _ (m : Machine) (fs : List ℕ) (some-thread : 0 < length (seen m fs .threads)) where
+  first-there : getElem? (seen m fs .threads) 0 ≡ some (threadAt (m .threads) fs 0)
+  first-there = listed-get (threadAt (m .threads) fs) (capped (m .count) most-threads) 0 (omega (arith, some-thread, listed-length (threadAt (m .threads) fs) (capped (m .count) most-threads)))
 
-seen-enter : (m : Machine) (e : Expr) → m .thread .now .control ≡ Enter e → isDone (seen m) ≡ false
-unfolding view isDone doneAt
-seen-enter m e h = rw h
+  seen-hand : (v : Held) → getD (m .threads) 0 idle .now .control ≡ Hand v → allDone (seen m fs .threads) ≡ true → valueOf (seen m fs) ≡ some (valueIn v)
+  unfolding threadAt handedOn
+  seen-hand v e d = value-is (seen m fs) (threadAt (m .threads) fs 0) d first-there ∙ ap (λ c. handedOn (controlIn c)) e
 
-pub finished-hand : (T : Ty) (s : Effect) (o : Outcome) (v : Held) (first second both : List ℕ) (k : Sort) (x : ℕ) → first ≡ acceptedAs s (typeSort T) → o .machine .thread .now .control ≡ Hand v
-    → k ≡ kindSort (kindIn (v .kind) (v .payload)) → x ≡ kindNumber (kindIn (v .kind) (v .payload)) → second ≡ doneAs (o .taken) k x → both ≡ joined first second
-    → both ≡ acceptedLine T s ++ ranLine finished (o .taken) (seen (o .machine))
-finished-hand T s o v first second both k x a c d e f g =
-    rw (g, a, f, d, e) (accepted-done T s (o .taken) (seen (o .machine)) (valueIn v) (seen-hand (o .machine) v c))
+  seen-enter : (e : Expr) → getD (m .threads) 0 idle .now .control ≡ Enter e → allDone (seen m fs .threads) ≡ false
+  unfolding threadAt liveThread doneAt
+  seen-enter e h = at (allDone (seen m fs .threads)) refl
+    where
+      busy : liveThread (some (threadAt (m .threads) fs 0)) ≡ true
+      busy = ap (λ c. not (doneAt (controlIn c) (threadAt (m .threads) fs 0 .frames))) h
 
-pub finished-enter : {A : Type 0} (o : Outcome) (e : Expr) → o .machine .thread .now .control ≡ Enter e → isDone (seen (o .machine)) ≡ true → A
-finished-enter o e h d = absurd (false≢true (sym (seen-enter (o .machine) e h) ∙ d))
+      at : (b : Bool) → allDone (seen m fs .threads) ≡ b → b ≡ false
+      at true d = absurd (false≢true (sym (done-live (seen m fs .threads) d 0) ∙ ap liveThread first-there ∙ busy))
+      at false d = refl
+
+pub finished-hand : (T : Ty) (s : Effect) (o : Outcome) (fs : List ℕ) (v : Held) (first second both : List ℕ) (n : ℕ) (k : Sort) (x : ℕ) → first ≡ acceptedAs s (typeSort T) → total (o .counts) < 2 ^ 64
+    → 0 < length (seen (o .machine) fs .threads) → allDone (seen (o .machine) fs .threads) ≡ true → getD (o .machine .threads) 0 idle .now .control ≡ Hand v → n ≡ total (o .counts) % 2 ^ 64
+    → k ≡ kindSort (kindIn (v .kind) (v .payload)) → x ≡ kindNumber (kindIn (v .kind) (v .payload)) → second ≡ doneAs n k x → both ≡ joined first second
+    → both ≡ acceptedLine T s ++ ranLine finished (total (o .counts)) (seen (o .machine) fs)
+finished-hand T s o fs v first second both n k x a small some-thread done c count d e f g =
+    rw (g, a, f, d, e, count ∙ mod-eq-of-lt small) (accepted-done T s (total (o .counts)) (seen (o .machine) fs) (valueIn v) (seen-hand (o .machine) fs some-thread v c done))
+
+pub finished-enter : {A : Type 0} (o : Outcome) (fs : List ℕ) (e : Expr) → getD (o .machine .threads) 0 idle .now .control ≡ Enter e → 0 < length (seen (o .machine) fs .threads)
+    → allDone (seen (o .machine) fs .threads) ≡ true → A
+finished-enter o fs e h some-thread d = absurd (false≢true (sym (seen-enter (o .machine) fs some-thread e h) ∙ d))
 
 -- by the answer
-ran-at : (o : Outcome) (a : Answer) → o .answer ≡ a → ranLine (answerIn a) (o .taken) (seen (o .machine)) ≡ ranOf (ranIn o)
+ran-at : (o : Outcome) (fs : List ℕ) (a : Answer) → o .answer ≡ a → ranLine (answerIn a) (total (o .counts)) (seen (o .machine) fs) ≡ ranOf (ranIn o fs)
 unfolding ranOf
-ran-at o a e = ap (λ z. ranLine (answerIn z) (o .taken) (seen (o .machine))) (sym e)
+ran-at o fs a e = ap (λ z. ranLine (answerIn z) (total (o .counts)) (seen (o .machine) fs)) (sym e)
 
-pub ended-with : (T : Ty) (s : Effect) (o : Outcome) (a : Answer) (both : List ℕ) → o .answer ≡ a → both ≡ acceptedLine T s ++ ranLine (answerIn a) (o .taken) (seen (o .machine))
-    → both ≡ acceptedLine T s ++ ranOf (ranIn o)
-ended-with T s o a both e h = h ∙ ap (λ z. acceptedLine T s ++ z) (ran-at o a e)
+pub ended-with : (T : Ty) (s : Effect) (o : Outcome) (fs : List ℕ) (a : Answer) (both : List ℕ) → o .answer ≡ a → both ≡ acceptedLine T s ++ ranLine (answerIn a) (total (o .counts)) (seen (o .machine) fs)
+    → both ≡ acceptedLine T s ++ ranOf (ranIn o fs)
+ended-with T s o fs a both e h = h ∙ ap (λ z. acceptedLine T s ++ z) (ran-at o fs a e)
 
-pub with-spent : (T : Ty) (s : Effect) (n : ℕ) (m : Clean) (first second both : List ℕ) → first ≡ acceptedAs s (typeSort T) → second ≡ spentAs n → both ≡ joined first second
+-- a count that is below 2 ^ 64 is told whole
+pub told-whole : (n : ℕ) {k : ℕ} → k ≡ n % 2 ^ 64 → n < 2 ^ 64 → k ≡ n
+told-whole n e h = e ∙ mod-eq-of-lt h
+
+pub with-spent : (T : Ty) (s : Effect) (n : ℕ) (m : System) (first second both : List ℕ) → first ≡ acceptedAs s (typeSort T) → second ≡ spentAs n → both ≡ joined first second
     → both ≡ acceptedLine T s ++ ranLine spent n m
 with-spent T s n m first second both a b c = rw (c, a, b) (accepted-spent T s n m)
 
-pub with-no-room : (T : Ty) (s : Effect) (n : ℕ) (m : Clean) (first second both : List ℕ) → first ≡ acceptedAs s (typeSort T) → second ≡ noRoomAs n → both ≡ joined first second
+pub with-no-room : (T : Ty) (s : Effect) (n : ℕ) (m : System) (first second both : List ℕ) → first ≡ acceptedAs s (typeSort T) → second ≡ noRoomAs n → both ≡ joined first second
     → both ≡ acceptedLine T s ++ ranLine noroom n m
 with-no-room T s n m first second both a b c = rw (c, a, b) (accepted-no-room T s n m)
 
 pub with-none : (T : Ty) (s : Effect) (first l : List ℕ) → first ≡ acceptedAs s (typeSort T) → l ≡ [] → first ≡ acceptedLine T s ++ l
 with-none T s first l a e = a ∙ accepted-line T s ∙ sym (append-nil (acceptedLine T s)) ∙ ap (λ z. acceptedLine T s ++ z) (sym e)
 
-pub no-taken : (n : ℕ) (m : Clean) → ranLine taken n m ≡ []
+pub no-taken : (n : ℕ) (m : System) → ranLine taken n m ≡ []
 unfolding ranLine
 no-taken n m = refl
 
-pub no-stuck : (n : ℕ) (m : Clean) → ranLine stuck n m ≡ []
+pub no-stuck : (n : ℕ) (m : System) → ranLine stuck n m ≡ []
 unfolding ranLine
 no-stuck n m = refl
 
-pub no-denied : (n : ℕ) (m : Clean) → ranLine denied n m ≡ []
+pub no-denied : (n : ℕ) (m : System) → ranLine denied n m ≡ []
 unfolding ranLine
 no-denied n m = refl
 
--- a run that finished came to a machine that is done
-says-done : (K : Steps) {m : Clean} {c : Call} {r : Ran} → Says K m c r → r .answer ≡ finished → isDone (r .machine) ≡ true
-says-done K (one-taken x) e = absurd (let z : _≡_ {A = ℕ} 0 1 = cc in omega arith)
-says-done K (one-done x) e = x
-says-done K (one-stuck x) e = absurd (let z : _≡_ {A = ℕ} 0 1 = cc in omega arith)
-says-done K (one-denied x) e = absurd (let z : _≡_ {A = ℕ} 0 1 = cc in omega arith)
-says-done K (one-noroom x) e = absurd (let z : _≡_ {A = ℕ} 0 1 = cc in omega arith)
-says-done K (run-done k x y) e = y
-says-done K (run-spent x y) e = absurd (let z : _≡_ {A = ℕ} 0 1 = cc in omega arith)
-says-done K (run-stuck k x y) e = absurd (let z : _≡_ {A = ℕ} 0 1 = cc in omega arith)
-says-done K (run-denied k x y) e = absurd (let z : _≡_ {A = ℕ} 0 1 = cc in omega arith)
-says-done K (run-noroom k x y) e = absurd (let z : _≡_ {A = ℕ} 0 1 = cc in omega arith)
+-- a run of the machine: how many steps its threads take together, that it leaves at least the threads that there were, and that it is finished only where all are
+module _ (h p : List ℕ) (n : ℕ) (m : System) (few : length (m .threads) ≤ most-threads) where
+  run-few : (o : Ran) → o ≡ call (stepsOf (codeIn h p)) (run-of n) m → n < 2 ^ 64 → total (o .counts) < 2 ^ 64
+  run-few o e l = let z = run-counted (stepsOf (codeIn h p)) (lawful (codeIn h p)) n m few .most in let y = ap (λ (r : Ran). total (r .counts)) e in omega (arith, z, y, l)
 
-pub done-at-end : (h p : List ℕ) (n : ℕ) (m : Clean) (o : Ran) → o ≡ run (stepsOf (codeIn h p)) n 0 m → o .answer ≡ finished → isDone (o .machine) ≡ true
-done-at-end h p n m o e f = rw e (says-done (stepsOf (codeIn h p)) (run-says (stepsOf (codeIn h p)) (exact (codeIn h p)) n m) (sym (ap (λ (r : Ran). r .answer) e) ∙ f))
+  run-some : (o : Ran) → o ≡ call (stepsOf (codeIn h p)) (run-of n) m → 0 < length (m .threads) → 0 < length (o .machine .threads)
+  run-some o e l =
+      let z = takes-grown (stepsOf (codeIn h p)) (lawful (codeIn h p)) (run-counted (stepsOf (codeIn h p)) (lawful (codeIn h p)) n m few .takes) in
+      let y = ap (λ (r : Ran). length (r .machine .threads)) e in
+      omega (arith, z, y, l)
 
--- the run of a job
-pub ran-line : (J : Job) (h p : List ℕ) (m : Clean) (o : Ran) → o ≡ run (stepsOf (codeIn h p)) most-steps 0 m → m ≡ startOf (sourceOf J) → ((e : ℕ) → codeIn h p e ≡ exprOf J e) → ranOf o ≡ runLine (sourceOf J)
+  done-at-end : (o : Ran) → o ≡ call (stepsOf (codeIn h p)) (run-of n) m → o .answer ≡ finished → allDone (o .machine .threads) ≡ true
+  done-at-end o e f = at (says-exactly (codeIn h p) m (run-of n) o few .0 (sym e)) f
+    where
+      on : {r : Ran} → RunSays (stepsOf (codeIn h p)) (together n) no-steps m r → r .answer ≡ finished → allDone (r .machine .threads) ≡ true
+      on (run-done x y) e = y
+      on (run-spent x y z) e = absurd (let z : _≡_ {A = ℕ} 0 1 = cc in omega arith)
+      on (run-stuck x y z) e = absurd (let z : _≡_ {A = ℕ} 0 1 = cc in omega arith)
+      on (run-denied x y z) e = absurd (let z : _≡_ {A = ℕ} 0 1 = cc in omega arith)
+      on (run-noroom x y z) e = absurd (let z : _≡_ {A = ℕ} 0 1 = cc in omega arith)
+
+      at : {r : Ran} → Says (stepsOf (codeIn h p)) m (run-of n) r → r .answer ≡ finished → allDone (r .machine .threads) ≡ true
+      at (run-says x) f = on x f
+
+one-thread : (S : Src) → length (startOf S .threads) ≡ 1
+unfolding startOf
+one-thread S = refl
+
+-- the run of a job from its start
+pub record JobRun (o : Ran) : Type 0 where
+  pub small : total (o .counts) < 2 ^ 64
+  pub some-thread : 0 < length (o .machine .threads)
+  pub ended : o .answer ≡ finished → allDone (o .machine .threads) ≡ true
+
+pub job-run : (J : Job) (h p : List ℕ) (m : System) (o : Ran) → o ≡ call (stepsOf (codeIn h p)) (run-of most-steps) m → m ≡ startOf (sourceOf J) → JobRun o
+job-run J h p m o e f =
+    let l : length (m .threads) ≡ 1 = ap (λ (s : System). length (s .threads)) f ∙ one-thread (sourceOf J) in
+    let few : length (m .threads) ≤ most-threads = omega (arith, l) in
+    record { small = run-few h p most-steps m few o e (omega arith); some-thread = run-some h p most-steps m few o e (omega (arith, l)); ended = done-at-end h p most-steps m few o e }
+
+pub ran-line : (J : Job) (h p : List ℕ) (m : System) (o : Ran) → o ≡ call (stepsOf (codeIn h p)) (run-of most-steps) m → m ≡ startOf (sourceOf J) → ((e : ℕ) → codeIn h p e ≡ exprOf J e) → ranOf o ≡ runLine (sourceOf J)
 unfolding runLine
 ran-line J h p m o e f g =
     ap ranOf
-    (e ∙ ap (λ (z : ℕ → Cmd ℕ). run (stepsOf z) most-steps 0 m) (fun-ext g) ∙ ap (λ z. run (stepsIn J) most-steps 0 z) f
-    ∙ ap (λ K. run K most-steps 0 (startOf (sourceOf J))) (sym (same-steps J)))
+    (e ∙ ap (λ (z : ℕ → Cmd ℕ). call (stepsOf z) (run-of most-steps) m) (fun-ext g) ∙ ap (λ z. call (stepsIn J) (run-of most-steps) z) f
+    ∙ ap (λ K. call K (run-of most-steps) (startOf (sourceOf J))) (sym (same-steps J)))
 
 pub told-refused : (bytes : List ℕ) (r : Checked) (w x : Tables) (n p q : ℕ) (text : List ℕ) → CheckTo bytes r w x → r .verdict ≡ verdicts.Refused n p → q ≡ p
     → text ≡ refusedLine (record { number = n; place = q }) → short w ≡ false → text ≡ deskOf bytes

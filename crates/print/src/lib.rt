@@ -6,6 +6,7 @@ use job::Shape;
 use machine::Answer;
 use machine::Control;
 use machine::Outcome;
+use store::FRAMES_WORDS;
 use store::Kind;
 use table::MOST_BYTES;
 use table::MOST_EXPRESSIONS;
@@ -17,17 +18,18 @@ use table::wide;
 ghost use mathlib.Core.Path.{_≡_};
 ghost use mathlib.Core.Bool.{true};
 ghost use mathlib.Core.List.{List, _++_};
-ghost use Prim.Native.Nat.{ℕ};
+ghost use Prim.Native.Nat.{ℕ, _<_, _^_};
+ghost use lib.ListN.{length};
 ghost use Rattle.order.specs.Effects.{Effect, ofWord};
 ghost use Rattle.syntax.specs.Types.{Ty, entryTree};
 ghost use Rattle.syntax.specs.Job.{Job, sourceOf};
 ghost use Rattle.syntax.specs.Words.{codeIn, entryBits};
-ghost use Rattle.semantics.specs.Room.{isDone};
+ghost use Rattle.semantics.specs.Threads.{allDone};
 ghost use Rattle.semantics.specs.Calls as spec;
+ghost use Rattle.semantics.specs.Calls.{total};
 ghost use Rattle.semantics.specs.Demand3.{exprOf};
 ghost use Rattle.store.specs.Meaning.{kindIn};
-ghost use Rattle.acts.specs.Meaning.{answerIn};
-ghost use Rattle.machine.specs.View.{seen, ranIn};
+ghost use Rattle.machine.specs.View.{seen, answerIn, ranIn};
 ghost use Rattle.output.specs.Lines.{acceptedLine, ranLine, ranOf, runLine, deskOf, printed};
 ghost use Rattle.format.specs.Text.{textOf, typeSort, kindSort, kindNumber, acceptedAs};
 ghost use Rattle.checker.specs.Answer.{treeOf};
@@ -76,23 +78,26 @@ fn kind_number(k: Kind, payload: u32) -> u32
     }
 }
 
-// The second line of a run that came to an end, after the first.
+// The second line of a run that came to an end, after the first, with the value of the first thread.
 fn finished(first: Text, o: Outcome) -> Text
     ensures { λ r. ⌜
-        ((T : Ty) (s : Effect) → textOf first ≡ acceptedAs s (typeSort T) → isDone (seen (o .machine)) ≡ true
-        → textOf r ≡ acceptedLine T s ++ ranLine spec.finished (o .taken) (seen (o .machine)))
+        ((T : Ty) (s : Effect) (fs : List ℕ) → textOf first ≡ acceptedAs s (typeSort T) → total (o .counts) < 2 ^ 64 → 0 < length (seen (o .machine) fs .threads)
+        → allDone (seen (o .machine) fs .threads) ≡ true → textOf r ≡ acceptedLine T s ++ ranLine spec.finished (total (o .counts)) (seen (o .machine) fs))
         ⌝ }
 {
+    let counts = o.counts;
+    let n = calls::steps(counts);
     let m = o.machine;
-    let t = m.thread;
-    let n = t.now;
-    let control = n.control;
+    let threads = m.threads;
+    let t = threads[0];
+    let now = t.now;
+    let control = now.control;
     match control {
         Control::Hand(v) => {
             let k = v.kind;
             let sort = kind_sort(k);
             let x = kind_number(k, v.payload);
-            let second = format::done(o.taken, sort, x);
+            let second = format::done(n, sort, x);
             format::both(first, second)
         }
         Control::Enter(_) => first,
@@ -102,12 +107,13 @@ fn finished(first: Text, o: Outcome) -> Text
 // The second line, if there is one, after the first. An accepted job is never stuck or denied.
 fn ended(first: Text, o: Outcome) -> Text
     ensures { λ r. ⌜
-        ((T : Ty) (s : Effect) → textOf first ≡ acceptedAs s (typeSort T) → (answerIn (o .answer) ≡ spec.finished → isDone (seen (o .machine)) ≡ true)
-        → textOf r ≡ acceptedLine T s ++ ranOf (ranIn o))
+        ((T : Ty) (s : Effect) (fs : List ℕ) → textOf first ≡ acceptedAs s (typeSort T) → total (o .counts) < 2 ^ 64 → 0 < length (seen (o .machine) fs .threads)
+        → (answerIn (o .answer) ≡ spec.finished → allDone (seen (o .machine) fs .threads) ≡ true) → textOf r ≡ acceptedLine T s ++ ranOf (ranIn o fs))
         ⌝ }
 {
     let a = o.answer;
-    let n = o.taken;
+    let counts = o.counts;
+    let n = calls::steps(counts);
     match a {
         Answer::Finished => finished(first, o),
         Answer::Spent => format::both(first, format::spent(n)),
@@ -139,7 +145,8 @@ fn accepted(
     let sort = type_sort(w % 256);
     let first = format::accepted(s, sort);
     let m = start::built(g, names, types, values);
-    let o = m.run(MOST_STEPS, heads, slots);
+    let mut frames = [0u64; FRAMES_WORDS];
+    let o = m.run(MOST_STEPS, heads, slots, &mut frames);
     ended(first, o)
 }
 

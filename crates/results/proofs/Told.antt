@@ -1,29 +1,32 @@
 -- Words written one by one: a verdict, the room of a machine by its counts; and which lent slice is too short.
-use mathlib.Core.Path.{_≡_, refl, sym, ap, _∙_}
-use Prim.Native.Nat.{ℕ, _*_, _/_, _<_, _≤_}
+use mathlib.Core.Path.{_≡_, refl, sym, ap, ap₂, _∙_}
+use Prim.Native.Nat.{ℕ, zero, suc, _+_, _*_, _/_, _<_, _≤_}
 use native.Mathlib.Omega.{arith}
 use mathlib.Core.Bool.{Bool, true, false, false≢true}
-use mathlib.Core.List.{List, [], _∷_}
+use mathlib.Core.List.{List, [], _∷_, _++_}
 use borrow.Author.Tests.{lt-ltb, le-ltb, ltb-false}
-use lib.ListN.{length, set}
+use lib.ListN.{length, length-set, getD, set, drop}
+use lib.Seq.{sets}
+use native.Mathlib.Numerals.{add-one}
 use lib.Dec.{ltb}
 use Rattle.order.specs.Bools.{_or_}
 use Rattle.table.specs.Told.{TwoPut}
-use Rattle.semantics.specs.Machine.{most-cells, most-keys, most-pairs, most-functions, most-frames, most-bindings}
-use Rattle.store.specs.Tables.{capped}
+use Rattle.semantics.specs.Machine.{Thread as SThread, most-threads, most-cells, most-keys, most-pairs, most-functions, most-frames, most-bindings}
+use Rattle.store.specs.Tables.{capped, stackOf}
 use Rattle.store.specs.Words.{cellIn, pairIn, functionIn, linkIn, upIn}
 use Rattle.store.specs.Frames.{frameIn}
-use Rattle.store.proofs.Laws.{list-length, stack-length}
+use Rattle.store.proofs.Laws.{cap-le, list-length, stack-length}
 use Rattle.store.specs.declared.Used.{Used}
-use Rattle.machine.specs.declared.Thread.{Thread}
+use Rattle.thread.specs.declared.Thread.{Thread}
 use Rattle.machine.specs.declared.Machine.{Machine}
-use Rattle.acts.specs.View.{view}
+use Rattle.machine.specs.Scheduled.{partOf, idle, threadAt, listed}
+use Rattle.machine.specs.Listed.{listed-length}
 use Rattle.machine.specs.View.{seen}
 use Rattle.calls.specs.Words.{over}
 use Rattle.calls.specs.Laws.{sets-over}
 use Rattle.judge.specs.declared.Verdict.{Verdict}
 use Rattle.judge.specs.declared.Verdict.the-variants as verdict
-use Rattle.results.specs.Told.{numberFor, outWords, roomWords, countWords, cell-words, lentShort}
+use Rattle.results.specs.Told.{numberFor, outWords, framesOf, roomWords, countWords, cell-words, lentShort}
 
 pub tells-accepted : (v : Verdict) (l : List ℕ) (i s : ℕ) {k : List ℕ} {a : ℕ} → v ≡ verdict.Accepted i s → a ≡ i → TwoPut l k 0 a s → (0 ≡ numberFor v) × (k ≡ over l (outWords v))
 unfolding numberFor outWords
@@ -40,23 +43,108 @@ unfolding outWords
 out-length (verdict.Accepted i s) = refl
 out-length (verdict.Refused n p) = refl
 
-pub counted : (t : Thread) (u : Used) (l : List ℕ) {l1 l2 l3 l4 l5 l6 : List ℕ} {a b c d e f : ℕ}
-    → a ≡ capped (u .cells) most-cells → b ≡ capped (u .keys) most-keys → c ≡ capped (u .pairs) most-pairs → d ≡ capped (u .functions) most-functions → e ≡ capped (t .frames) most-frames → f ≡ capped (u .bindings) most-bindings
-    → l1 ≡ set l 0 a → l2 ≡ set l1 1 b → l3 ≡ set l2 2 c → l4 ≡ set l3 3 d → l5 ≡ set l4 4 e → l6 ≡ set l5 5 f → l6 ≡ over l (countWords t u)
+pub counted : (u : Used) (e g : ℕ) (l : List ℕ) {l1 l2 l3 l4 l5 l6 l7 : List ℕ} {a b c d f : ℕ}
+    → a ≡ capped (u .cells) most-cells → b ≡ capped (u .keys) most-keys → c ≡ capped (u .pairs) most-pairs → d ≡ capped (u .functions) most-functions → f ≡ capped (u .bindings) most-bindings
+    → l1 ≡ set l 0 a → l2 ≡ set l1 1 b → l3 ≡ set l2 2 c → l4 ≡ set l3 3 d → l5 ≡ set l4 4 e → l6 ≡ set l5 5 f → l7 ≡ set l6 6 g → l7 ≡ over l (countWords u e g)
 unfolding countWords
-counted t u l {a = a} {b} {c} {d} {e} {f} ha hb hc hd he hf h1 h2 h3 h4 h5 h6 =
-    h6 ∙ ap (λ z. set z 5 f) (h5 ∙ ap (λ z. set z 4 e) (h4 ∙ ap (λ z. set z 3 d) (h3 ∙ ap (λ z. set z 2 c) (h2 ∙ ap (λ z. set z 1 b) h1))))
-    ∙ sets-over l (a ∷ b ∷ c ∷ d ∷ e ∷ f ∷ [])
-    ∙ (λ i. over l (ha i ∷ hb i ∷ hc i ∷ hd i ∷ he i ∷ hf i ∷ []))
+counted u e g l {a = a} {b} {c} {d} {f} ha hb hc hd hf h1 h2 h3 h4 h5 h6 h7 =
+    h7 ∙ ap (λ z. set z 6 g) (h6 ∙ ap (λ z. set z 5 f) (h5 ∙ ap (λ z. set z 4 e) (h4 ∙ ap (λ z. set z 3 d) (h3 ∙ ap (λ z. set z 2 c) (h2 ∙ ap (λ z. set z 1 b) h1)))))
+    ∙ sets-over l (a ∷ b ∷ c ∷ d ∷ e ∷ f ∷ g ∷ [])
+    ∙ (λ i. over l (ha i ∷ hb i ∷ hc i ∷ hd i ∷ e ∷ hf i ∷ g ∷ []))
+
+-- The frames of so many threads
+
+frames-snoc : (l : List SThread) (t : SThread) → framesOf (l ++ (t ∷ [])) ≡ framesOf l + length (t .frames)
+unfolding framesOf
+frames-snoc [] t = omega arith
+frames-snoc (x ∷ l) t = let h = frames-snoc l t in omega (arith, h)
+
+-- one thread more
+pub frames-more : (ts : List Thread) (i : ℕ) {x s : ℕ} → x ≡ capped (getD ts i idle .frames) most-frames → ((fs : List ℕ) → s ≡ framesOf (listed (threadAt ts fs) i))
+    → (fs : List ℕ) → s + x ≡ framesOf (listed (threadAt ts fs) (i + 1))
+unfolding listed threadAt
+frames-more ts i {x} {s} h e fs =
+    let y : length (stackOf frameIn (partOf fs i) (capped (getD ts i idle .frames) most-frames)) ≡ x = stack-length frameIn (partOf fs i) (capped (getD ts i idle .frames) most-frames) ∙ sym h in
+    let z = frames-snoc (listed (threadAt ts fs) i) (threadAt ts fs i) in
+    let w : s + x ≡ framesOf (listed (threadAt ts fs) i) + length (threadAt ts fs i .frames) = omega (arith, e fs, y) in
+    w ∙ sym z ∙ ap (λ (n : ℕ). framesOf (listed (threadAt ts fs) n)) (sym (add-one i))
+
+-- the frames of so many of them are summed
+pub record Summing (ts : List Thread) (n sum i : ℕ) : Type 0 where
+  pub told : (fs : List ℕ) → sum ≡ framesOf (listed (threadAt ts fs) i)
+  pub few : sum ≤ i * 256
+  pub within : i ≤ n
+  pub places : n ≤ 8
+
+pub summing-start : (ts : List Thread) (n : ℕ) → n ≤ 8 → Summing ts n 0 0
+unfolding listed framesOf
+summing-start ts n h = record { told = λ fs. refl; few = omega arith; within = omega arith; places = h }
+
+pub summing-on : (ts : List Thread) {n s i x : ℕ} → i < n → (x ≡ capped (getD ts i idle .frames) most-frames) × (x ≤ most-frames) → Summing ts n s i → Summing ts n (s + x) (i + 1)
+summing-on ts {n} {s} {i} h c w = record { told = frames-more ts i (c .0) (w .told); few = omega (arith, w .few, c .1); within = omega arith; places = w .places }
+
+pub summing-end : {ts : List Thread} {n s i : ℕ} → n ≤ i → Summing ts n s i → (fs : List ℕ) → s ≡ framesOf (listed (threadAt ts fs) n)
+summing-end {ts} {n} {s} {i} h w fs = w .told fs ∙ ap (λ (k : ℕ). framesOf (listed (threadAt ts fs) k)) (let z : i ≡ n = omega (arith, h, w .within) in z)
+
+pub within-few : (m : ℕ) {n : ℕ} → n ≡ capped m most-threads → n ≤ most-threads
+within-few m h = let z = cap-le m most-threads in omega (arith, h, z)
+
+-- The steps of each thread
+
+drop-next : (l : List ℕ) (i : ℕ) → i < length l → drop i l ≡ getD l i 0 ∷ drop (suc i) l
+drop-next [] i h = absurd (omega arith)
+drop-next (x ∷ l) zero h = refl
+drop-next (x ∷ l) (suc i) h = drop-next l i (omega arith)
+
+drop-all : (l : List ℕ) (i : ℕ) → length l ≤ i → drop i l ≡ []
+drop-all [] zero h = refl
+drop-all [] (suc i) h = refl
+drop-all (x ∷ l) zero h = absurd (omega arith)
+drop-all (x ∷ l) (suc i) h = drop-all l i (omega arith)
+
+-- so many are written; the others are still to be
+pub record Putting (counts before after : List ℕ) (i : ℕ) : Type 0 where
+  pub onward : sets after (7 + i) (drop i counts) ≡ sets before 7 counts
+  pub long : length counts ≡ 8
+  pub same : length after ≡ length before
+
+pub putting-start : (counts s : List ℕ) → length counts ≡ 8 → Putting counts s s 0
+putting-start counts s h = record { onward = refl; long = h; same = refl }
+
+pub putting-on : {counts s a b : List ℕ} {i : ℕ} → i < 8 → b ≡ set a (7 + i) (getD counts i 0) → Putting counts s a i → Putting counts s b (i + 1)
+putting-on {counts} {s} {a} {b} {i} h e w = record {
+  onward =
+      ap (λ (z : List ℕ). sets z (7 + (i + 1)) (drop (i + 1) counts)) e
+      ∙ ap₂ (λ (m k : ℕ). sets (set a (7 + i) (getD counts i 0)) m (drop k counts)) (let y : 7 + (i + 1) ≡ suc (7 + i) = omega arith in y) (add-one i)
+      ∙ ap (λ (z : List ℕ). sets a (7 + i) z) (sym (drop-next counts i (omega (arith, h, w .long))))
+      ∙ w .onward;
+  long = w .long;
+  same = ap length e ∙ length-set a (7 + i) (getD counts i 0) ∙ w .same;
+}
+
+pub putting-end : {counts s a : List ℕ} {i : ℕ} → 8 ≤ i → Putting counts s a i → a ≡ sets s 7 counts
+putting-end {counts} {s} {a} {i} h w = ap (λ (z : List ℕ). sets a (7 + i) z) (sym (drop-all counts i (omega (arith, h, w .long)))) ∙ w .onward
+
+-- All of them
+
+sets-more : (l : List ℕ) (i : ℕ) (vs ws : List ℕ) → sets (sets l i vs) (i + length vs) ws ≡ sets l i (vs ++ ws)
+sets-more l i [] ws = ap (λ (k : ℕ). sets l k ws) (let z : i + 0 ≡ i = omega arith in z)
+sets-more l i (v ∷ vs) ws = ap (λ (k : ℕ). sets (sets (set l i v) (suc i) vs) k ws) (let z : i + suc (length vs) ≡ suc i + length vs = omega arith in z) ∙ sets-more (set l i v) (suc i) vs ws
 
 -- the counts are the lengths
-pub counts-are : (m : Machine) → countWords (m .thread) (m .used) ≡ roomWords (seen m)
-unfolding countWords roomWords view
-counts-are m =
-    sym
-    (λ i.
-    list-length cellIn (m .cells) (capped (m .used .cells) most-cells) i ∷ list-length upIn (m .keys) (capped (m .used .keys) most-keys) i ∷ list-length pairIn (m .pairs) (capped (m .used .pairs) most-pairs) i
-    ∷ list-length functionIn (m .functions) (capped (m .used .functions) most-functions) i ∷ stack-length frameIn (m .frames) (capped (m .thread .frames) most-frames) i ∷ list-length linkIn (m .bindings) (capped (m .used .bindings) most-bindings) i ∷ [])
+pub rooms-told : (m : Machine) (counts l : List ℕ) {k k' : List ℕ} {f n g : ℕ} → n ≡ capped (m .count) most-threads → g ≡ n → ((fs : List ℕ) → f ≡ framesOf (listed (threadAt (m .threads) fs) n))
+    → k ≡ over l (countWords (m .used) f g) → k' ≡ sets k 7 counts → (fs : List ℕ) → k' ≡ over l (roomWords (seen m fs) counts)
+unfolding countWords roomWords
+rooms-told m counts l {f = f} {n} {g = w} hn hw hf h g fs =
+    g
+    ∙ ap (λ (z : List ℕ). sets z 7 counts) (h ∙ sym (sets-over l (countWords (m .used) f w)))
+    ∙ sets-more l 0 (countWords (m .used) f w) counts
+    ∙ sets-over l (countWords (m .used) f w ++ counts)
+    ∙ (λ i.
+    over l
+    (sym (list-length cellIn (m .cells) (capped (m .used .cells) most-cells)) i ∷ sym (list-length upIn (m .keys) (capped (m .used .keys) most-keys)) i ∷ sym (list-length pairIn (m .pairs) (capped (m .used .pairs) most-pairs)) i
+    ∷ sym (list-length functionIn (m .functions) (capped (m .used .functions) most-functions)) i ∷ (hf fs ∙ ap (λ (z : ℕ). framesOf (listed (threadAt (m .threads) fs) z)) hn) i
+    ∷ sym (list-length linkIn (m .bindings) (capped (m .used .bindings) most-bindings)) i ∷ (hw ∙ hn ∙ sym (listed-length (threadAt (m .threads) fs) (capped (m .count) most-threads))) i ∷ counts))
 
 or-none : (a b : Bool) → (a or b) ≡ false → (a ≡ false) × (b ≡ false)
 unfolding _or_

@@ -4,74 +4,75 @@ use Prim.Native.Nat.{ℕ, zero, suc, _+_, _-_, _*_, _<_, _≤_}
 use native.Mathlib.Omega.{arith}
 use mathlib.Core.Bool.{Bool, true, false, cond}
 use mathlib.Core.List.{List, [], _∷_}
-use mathlib.Core.Option.{Option, none, some}
+use mathlib.Core.Option.{Option, none, some, Option·none-ne-some, Option·some-injective}
 use lib.Dec.{ltb}
-use lib.ListN.{length, getElem?}
+use lib.ListN.{length, getElem?, getD}
 use lib.Seq.{sets}
-use Rattle.semantics.specs.Machine.{Value, hand, most-cells, most-frames}
-use Rattle.semantics.specs.Room.{isDone, doneAt}
+use Rattle.semantics.specs.Machine.{Value, Thread as SThread, most-cells, most-threads}
+use Rattle.semantics.specs.Threads.{allDone, handedOn, firstValue}
 use Rattle.store.specs.declared.Value.{Value as Held}
 use Rattle.table.specs.declared.Expr.{Expr}
 use Rattle.table.specs.Told.{TwoPut}
 use Rattle.store.specs.Meaning.{kindIn, valueIn}
 use Rattle.store.specs.Words.{cellIn}
-use Rattle.store.specs.Frames.{frameIn}
-use Rattle.store.specs.Tables.{listOf, stackOf, capped}
+use Rattle.store.specs.Tables.{listOf, capped}
 use Rattle.store.proofs.Laws.{list-get, list-beyond}
-use Rattle.store.specs.declared.Used.{Used}
-use Rattle.machine.specs.declared.Thread.{Thread}
+use Rattle.thread.specs.declared.Thread.{Thread}
 use Rattle.acts.specs.declared.Control.the-variants.{Enter, Hand}
 use Rattle.machine.specs.declared.Machine.{Machine}
-use Rattle.acts.specs.View.{Tables, view}
-use Rattle.machine.specs.View.{stateOf, seen}
+use Rattle.acts.specs.Meaning.{controlIn}
+use Rattle.machine.specs.Scheduled.{idle, threadAt, listed}
+use Rattle.machine.specs.Listed.{listed-get}
+use Rattle.machine.specs.View.{seen}
 use Rattle.calls.specs.Words.{over}
 use Rattle.calls.specs.Laws.{sets-over}
-use Rattle.results.specs.Values.{kindNo, payloadOf, firstWord, secondWord, handedOn, valueOf, valueWords, cellsFrom, cellWords, CellPut}
+use Rattle.results.specs.Values.{kindNo, payloadOf, firstWord, secondWord, valueAt, valueAmong, cellsFrom, cellWords, CellPut}
 
--- the value
-none-is : (t : Thread) (u : Used) (w : Tables) → valueOf (view (stateOf t u) w) ≡ none → valueWords (view (stateOf t u) w) ≡ 0 ∷ 0 ∷ []
-unfolding valueWords firstWord secondWord
-none-is t u w e = rw e
-
-enter-none : (t : Thread) (u : Used) (w : Tables) (e : Expr) → t .now .control ≡ Enter e → valueOf (view (stateOf t u) w) ≡ none
-unfolding valueOf view isDone doneAt
-enter-none t u w e h = rw h
-
-some-frames : (n : ℕ) → (n ≡ 0 → ⊥) → 0 < capped n most-frames
-some-frames n h = at (ltb n most-frames)
-  where
-    at : (b : Bool) → 0 < cond b n most-frames
-    at true = omega (arith, h)
-    at false = omega arith
-
-frames-some : (v : Value) (t : List ℕ) (n : ℕ) → (n ≡ 0 → ⊥) → doneAt (hand v) (stackOf frameIn t (capped n most-frames)) ≡ false
-unfolding doneAt stackOf
-frames-some v t n h = at (capped n most-frames) (some-frames n h)
-  where
-    at : (k : ℕ) → 0 < k → doneAt (hand v) (stackOf frameIn t k) ≡ false
-    at zero l = absurd (omega arith)
-    at (suc k) l = refl
-
-hand-none : (t : Thread) (u : Used) (w : Tables) (v : Held) → t .now .control ≡ Hand v → (t .frames ≡ 0 → ⊥) → valueOf (view (stateOf t u) w) ≡ none
-unfolding valueOf view isDone
-hand-none t u w v h n = rw (h, frames-some (valueIn v) (w .frames) (t .frames) n)
-
-hand-some : (t : Thread) (u : Used) (w : Tables) (v : Held) → t .now .control ≡ Hand v → t .frames ≡ 0 → valueOf (view (stateOf t u) w) ≡ some (valueIn v)
-unfolding valueOf view isDone doneAt stackOf handedOn
-hand-some t u w v h e = rw (h, e)
-
+-- the value that a thread hands on
 module _ (t : Thread) {s k : List ℕ} where
-  pub put-enter : (e : Expr) → t .now .control ≡ Enter e → TwoPut s k 0 0 0 → (u : Used) (w : Tables) → k ≡ over s (valueWords (view (stateOf t u) w))
-  put-enter e h z u w = z .same ∙ sets-over s (0 ∷ 0 ∷ []) ∙ ap (over s) (sym (none-is t u w (enter-none t u w e h)))
+  pub put-enter : (e : Expr) → t .now .control ≡ Enter e → TwoPut s k 0 0 0 → k ≡ over s (valueAt (handedOn (controlIn (t .now .control))))
+  unfolding valueAt firstWord secondWord handedOn
+  put-enter e h z = z .same ∙ sets-over s (0 ∷ 0 ∷ []) ∙ sym (ap (λ c. over s (valueAt (handedOn (controlIn c)))) h)
 
-  pub put-waits : (v : Held) → t .now .control ≡ Hand v → (t .frames ≡ 0 → ⊥) → TwoPut s k 0 0 0 → (u : Used) (w : Tables) → k ≡ over s (valueWords (view (stateOf t u) w))
-  put-waits v h n z u w = z .same ∙ sets-over s (0 ∷ 0 ∷ []) ∙ ap (over s) (sym (none-is t u w (hand-none t u w v h n)))
+  pub put-hand : (v : Held) (x y : ℕ) → t .now .control ≡ Hand v → x ≡ kindNo (kindIn (v .kind) (v .payload)) → y ≡ payloadOf (kindIn (v .kind) (v .payload)) → TwoPut s k 0 x y
+      → k ≡ over s (valueAt (handedOn (controlIn (t .now .control))))
+  unfolding valueAt firstWord secondWord handedOn
+  put-hand v x y h p q z = z .same ∙ sets-over s (x ∷ y ∷ []) ∙ (λ i. over s (p i ∷ q i ∷ [])) ∙ sym (ap (λ c. over s (valueAt (handedOn (controlIn c)))) h)
 
-  pub put-done : (v : Held) (x y : ℕ) → t .now .control ≡ Hand v → t .frames ≡ 0 → x ≡ kindNo (kindIn (v .kind) (v .payload)) → y ≡ payloadOf (kindIn (v .kind) (v .payload)) → TwoPut s k 0 x y
-      → (u : Used) (w : Tables) → k ≡ over s (valueWords (view (stateOf t u) w))
-  unfolding valueWords firstWord secondWord
-  put-done v x y h e p q z u w =
-      z .same ∙ sets-over s (x ∷ y ∷ []) ∙ (λ i. over s (p i ∷ q i ∷ [])) ∙ sym (ap (λ (o : Option Value). over s (firstWord o ∷ secondWord o ∷ [])) (hand-some t u w v h e))
+-- the value of so many threads
+first-listed : (f : ℕ → SThread) (n : ℕ) → 0 < n → firstValue (listed f n) ≡ handedOn (f 0 .control)
+unfolding firstValue
+first-listed f n h = at (listed f n) (listed-get f n 0 h)
+  where
+    at : (l : List SThread) → getElem? l 0 ≡ some (f 0) → firstValue l ≡ handedOn (f 0 .control)
+    at [] e = absurd (Option·none-ne-some (f 0) e)
+    at (x ∷ l) e = ap (λ (y : SThread). handedOn (y .control)) (Option·some-injective x (f 0) e)
+
+module _ (ts : List Thread) (c : ℕ) (s : List ℕ) {k : List ℕ} where
+  pub value-nobody : c ≡ 0 → TwoPut s k 0 0 0 → (fs : List ℕ) → k ≡ over s (valueAt (valueAmong (listed (threadAt ts fs) (capped c most-threads))))
+  unfolding valueAt firstWord secondWord listed allDone firstValue
+  value-nobody h z fs = z .same ∙ sets-over s (0 ∷ 0 ∷ []) ∙ sym (ap (λ (n : ℕ). over s (valueAt (valueAmong (listed (threadAt ts fs) (capped n most-threads))))) h)
+
+  pub value-waits : (b : Bool) → b ≡ false → ((fs : List ℕ) → b ≡ allDone (listed (threadAt ts fs) (capped c most-threads))) → TwoPut s k 0 0 0
+      → (fs : List ℕ) → k ≡ over s (valueAt (valueAmong (listed (threadAt ts fs) (capped c most-threads))))
+  unfolding valueAt firstWord secondWord
+  value-waits b h d z fs =
+      z .same ∙ sets-over s (0 ∷ 0 ∷ []) ∙ sym (ap (λ (a : Bool). over s (valueAt (cond a (firstValue (listed (threadAt ts fs) (capped c most-threads))) none))) (sym (d fs) ∙ h))
+
+  pub value-first : (b : Bool) → b ≡ true → ((fs : List ℕ) → b ≡ allDone (listed (threadAt ts fs) (capped c most-threads))) → (c ≡ 0 → ⊥) → k ≡ over s (valueAt (handedOn (controlIn (getD ts 0 idle .now .control))))
+      → (fs : List ℕ) → k ≡ over s (valueAt (valueAmong (listed (threadAt ts fs) (capped c most-threads))))
+  unfolding threadAt
+  value-first b h d n e fs =
+      e
+      ∙ ap (λ o. over s (valueAt o)) (sym (first-listed (threadAt ts fs) (capped c most-threads) (some-threads c n)))
+      ∙ sym (ap (λ (a : Bool). over s (valueAt (cond a (firstValue (listed (threadAt ts fs) (capped c most-threads))) none))) (sym (d fs) ∙ h))
+    where
+      some-threads : (n : ℕ) → (n ≡ 0 → ⊥) → 0 < capped n most-threads
+      some-threads n h = at (ltb n most-threads)
+        where
+          at : (b : Bool) → 0 < cond b n most-threads
+          at true = omega (arith, h)
+          at false = omega arith
 
 -- a cell
 module _ (table : List ℕ) (used i : ℕ) {s k : List ℕ} where
@@ -121,9 +122,9 @@ writing-end {l} {s} {a} {i} h w =
 
 -- the cells of the machine, by their count
 pub cells-told : (m : Machine) (s : List ℕ) {k : List ℕ} (used : ℕ) → used ≡ capped (m .used .cells) most-cells → k ≡ over s (cellsFrom (listOf cellIn (m .cells) used) 0 most-cells)
-    → k ≡ over s (cellWords (seen m))
-unfolding cellWords view
-cells-told m s used e z = z ∙ ap (λ (u : ℕ). over s (cellsFrom (listOf cellIn (m .cells) u) 0 most-cells)) e
+    → (fs : List ℕ) → k ≡ over s (cellWords (seen m fs))
+unfolding cellWords
+cells-told m s used e z fs = z ∙ ap (λ (u : ℕ). over s (cellsFrom (listOf cellIn (m .cells) u) 0 most-cells)) e
 
 -- two words a cell
 pub cells-length : (l : List Value) (i n : ℕ) → length (cellsFrom l i n) ≡ 2 * n

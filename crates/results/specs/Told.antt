@@ -1,14 +1,13 @@
 -- What callers from C and Rust are told of a verdict and of the room in use, in words; and how long the slices are that they lend for it.
-use Prim.Native.Nat.{ℕ, _*_}
+use Prim.Native.Nat.{ℕ, _+_, _*_}
 use mathlib.Core.Bool.{Bool}
 use mathlib.Core.List.{List, [], _∷_}
 use lib.ListN.{length}
 use lib.Dec.{ltb}
 use Rattle.order.specs.Bools.{_or_}
-use Rattle.semantics.specs.Machine.{Machine as Clean, most-cells, most-keys, most-pairs, most-functions, most-frames, most-bindings}
+use Rattle.semantics.specs.Machine.{Thread as SThread, System, most-cells, most-keys, most-pairs, most-functions, most-bindings}
 use Rattle.store.specs.Tables.{capped}
 use Rattle.store.specs.declared.Used.{Used}
-use Rattle.machine.specs.declared.Thread.{Thread}
 use Rattle.judge.specs.declared.Verdict.{Verdict}
 use Rattle.judge.specs.declared.Verdict.the-variants.{Accepted, Refused}
 
@@ -22,15 +21,20 @@ unfoldable pub outWords : Verdict → List ℕ
 outWords (Accepted i s) = i ∷ s ∷ []
 outWords (Refused n p) = p ∷ 0 ∷ []
 
--- the cells, keys, pairs, functions, frames and bindings that a machine uses
-unfoldable pub roomWords : Clean → List ℕ
-roomWords m = length (m .store .cells) ∷ length (m .store .keys) ∷ length (m .store .pairs) ∷ length (m .store .functions) ∷ length (m .thread .frames) ∷ length (m .store .bindings) ∷ []
+-- the frames of all threads together
+unfoldable pub framesOf : List SThread → ℕ
+framesOf [] = 0
+framesOf (t ∷ l) = length (t .frames) + framesOf l
 
--- the same by the counts of a thread and of the store
-unfoldable pub countWords : Thread → Used → List ℕ
-countWords t u =
-    capped (u .cells) most-cells ∷ capped (u .keys) most-keys ∷ capped (u .pairs) most-pairs ∷ capped (u .functions) most-functions ∷ capped (t .frames) most-frames
-    ∷ capped (u .bindings) most-bindings ∷ []
+-- the cells, keys, pairs, functions, frames and bindings that a machine uses, and its threads; then the steps of each thread in the last call
+unfoldable pub roomWords : System → List ℕ → List ℕ
+roomWords s counts =
+    length (s .store .cells) ∷ length (s .store .keys) ∷ length (s .store .pairs) ∷ length (s .store .functions) ∷ framesOf (s .threads) ∷ length (s .store .bindings) ∷ length (s .threads) ∷ counts
+
+-- the first of them by the counts of the store, with so many frames and threads
+unfoldable pub countWords : Used → ℕ → ℕ → List ℕ
+countWords u f n =
+    capped (u .cells) most-cells ∷ capped (u .keys) most-keys ∷ capped (u .pairs) most-pairs ∷ capped (u .functions) most-functions ∷ f ∷ capped (u .bindings) most-bindings ∷ n ∷ []
 
 -- two words for each cell
 abbrev pub cell-words : ℕ

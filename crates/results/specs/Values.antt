@@ -7,8 +7,8 @@ use mathlib.Core.List.{List, [], _∷_}
 use mathlib.Core.Option.{Option, none, some}
 use lib.ListN.{getElem?}
 use lib.Seq.{sets}
-use Rattle.semantics.specs.Machine.{Kind, k-num, k-pair, k-fn, k-cell, k-lim, k-grant, Value, Control, enter, hand, Machine, most-cells}
-use Rattle.semantics.specs.Room.{isDone}
+use Rattle.semantics.specs.Machine.{Kind, k-num, k-pair, k-fn, k-cell, k-lim, k-grant, Value, Thread, System, most-cells}
+use Rattle.semantics.specs.Threads.{allDone, firstValue, valueOf}
 
 -- in the order of document 01's kinds: number, pair, cell, function, limit, grant
 unfoldable pub kindNo : Kind → ℕ
@@ -36,17 +36,16 @@ unfoldable pub secondWord : Option Value → ℕ
 secondWord none = 0
 secondWord (some v) = payloadOf (v .kind)
 
--- the value that the control hands on
-unfoldable pub handedOn : Control → Option Value
-handedOn (enter e) = none
-handedOn (hand v) = some v
+-- the two words of a value, or of none
+unfoldable pub valueAt : Option Value → List ℕ
+valueAt o = firstWord o ∷ secondWord o ∷ []
 
--- the value of a finished job; none where the machine is not done
-unfoldable pub valueOf : Machine → Option Value
-valueOf m = cond (isDone m) (handedOn (m .thread .control)) none
+-- the value of a job with these threads: that of the first, where all are finished
+abbrev pub valueAmong : List Thread → Option Value
+valueAmong l = cond (allDone l) (firstValue l) none
 
-unfoldable pub valueWords : Machine → List ℕ
-valueWords m = firstWord (valueOf m) ∷ secondWord (valueOf m) ∷ []
+unfoldable pub valueWords : System → List ℕ
+valueWords s = valueAt (valueOf s)
 
 -- what n cells hold, from cell i on; there is no value where there is no cell
 unfoldable pub cellsFrom : List Value → ℕ → ℕ → List ℕ
@@ -54,8 +53,8 @@ cellsFrom l i zero = []
 cellsFrom l i (suc n) = firstWord (getElem? l i) ∷ secondWord (getElem? l i) ∷ cellsFrom l (suc i) n
 
 -- two words for each cell
-unfoldable pub cellWords : Machine → List ℕ
-cellWords m = cellsFrom (m .store .cells) 0 most-cells
+unfoldable pub cellWords : System → List ℕ
+cellWords s = cellsFrom (s .store .cells) 0 most-cells
 
 -- what cell i of l holds is written
 pub record CellPut (l : List Value) (before after : List ℕ) (i : ℕ) : Type 0 where

@@ -3,6 +3,8 @@ use checker::Verdict;
 use machine::Control;
 use machine::Machine;
 use machine::Thread;
+use machine::all_finished;
+use machine::within;
 use store::CELL_WORDS;
 use store::Kind;
 use store::MOST_BINDINGS;
@@ -11,6 +13,7 @@ use store::MOST_FRAMES;
 use store::MOST_FUNCTIONS;
 use store::MOST_KEYS;
 use store::MOST_PAIRS;
+use store::MOST_THREADS;
 use store::Used;
 use store::cap;
 use table::put_two;
@@ -19,17 +22,20 @@ use table::wide;
 use table::wide8;
 use table::wide16;
 ghost use mathlib.Core.Path.{_≡_};
-ghost use Prim.Native.Nat.{ℕ, _<_};
-ghost use Rattle.semantics.specs.Machine.{most-cells};
-ghost use Rattle.store.specs.declared.Used.{Used};
+ghost use Prim.Native.Nat.{ℕ, _≤_, _<_};
+ghost use mathlib.Core.List.{List};
+ghost use lib.Seq.{sets};
+ghost use Rattle.semantics.specs.Machine.{most-cells, most-threads};
+ghost use Rattle.semantics.specs.Threads.{handedOn};
 ghost use Rattle.store.specs.Meaning.{kindIn};
 ghost use Rattle.store.specs.Words.{cellIn};
-ghost use Rattle.store.specs.Tables.{listOf};
-ghost use Rattle.acts.specs.View.{Tables, view};
-ghost use Rattle.machine.specs.View.{stateOf, seen};
+ghost use Rattle.store.specs.Tables.{capped, listOf};
+ghost use Rattle.acts.specs.Meaning.{controlIn};
+ghost use Rattle.machine.specs.Scheduled.{threadAt, listed};
+ghost use Rattle.machine.specs.View.{seen};
 ghost use Rattle.calls.specs.Words.{over};
-ghost use Rattle.results.specs.Told.{numberFor, outWords, countWords, lentShort};
-ghost use Rattle.results.specs.Values.{kindNo, payloadOf, cellsFrom, valueWords, cellWords, CellPut};
+ghost use Rattle.results.specs.Told.{numberFor, outWords, framesOf, roomWords, countWords, lentShort};
+ghost use Rattle.results.specs.Values.{kindNo, payloadOf, cellsFrom, valueAt, valueAmong, valueWords, cellWords, CellPut};
 
 // The words of all cells, two for each.
 pub const TOLD_WORDS: usize = CELL_WORDS * 2;
@@ -53,15 +59,30 @@ pub fn tell(v: Verdict, out: &mut [u64]) -> u64
     }
 }
 
-// How much of each kind is in use, as far as there are places to write it.
-pub fn count(t: Thread, u: Used, rooms: &mut [u64])
-    ensures { λ _. ⌜ now (rooms .exit) ≡ over (now (rooms .entry)) (countWords t u) ⌝ }
+// The frames of so many threads together.
+fn frames_of(threads: [Thread; MOST_THREADS], n: usize) -> u64
+    requires { ⌜ n ≤ most-threads ⌝ }
+    ensures { λ r. ⌜ ((fs : List ℕ) → r ≡ framesOf (listed (threadAt threads fs) n)) ⌝ }
+{
+    let mut sum: u64 = 0;
+    let mut i: usize = 0;
+    while i < n {
+        let t = threads[i];
+        let frames = cap(t.frames, MOST_FRAMES);
+        sum = sum + frames;
+        i = i + 1;
+    }
+    sum
+}
+
+// How much of each kind is in use, with so many frames and threads.
+fn put_rooms(u: Used, frames: u64, threads: u64, rooms: &mut [u64])
+    ensures { λ _. ⌜ now (rooms .exit) ≡ over (now (rooms .entry)) (countWords u frames threads) ⌝ }
 {
     let cells = cap(u.cells, MOST_CELLS);
     let keys = cap(u.keys, MOST_KEYS);
     let pairs = cap(u.pairs, MOST_PAIRS);
     let functions = cap(u.functions, MOST_FUNCTIONS);
-    let frames = cap(t.frames, MOST_FRAMES);
     let bindings = cap(u.bindings, MOST_BINDINGS);
     put64(rooms, 0, cells);
     put64(rooms, 1, keys);
@@ -69,6 +90,31 @@ pub fn count(t: Thread, u: Used, rooms: &mut [u64])
     put64(rooms, 3, functions);
     put64(rooms, 4, frames);
     put64(rooms, 5, bindings);
+    put64(rooms, 6, threads);
+}
+
+// The steps of each thread, from place 7 on.
+fn put_steps(counts: [u64; MOST_THREADS], rooms: &mut [u64])
+    ensures { λ _. ⌜ now (rooms .exit) ≡ sets (now (rooms .entry)) 7 counts ⌝ }
+{
+    let mut i: usize = 0;
+    while i < MOST_THREADS {
+        let n = counts[i];
+        put64(rooms, 7 + i, n);
+        i = i + 1;
+    }
+}
+
+// How much of each kind the machine uses, its threads, and the steps of each in the last call, as far as there are places to write it.
+pub fn count(m: Machine, counts: [u64; MOST_THREADS], rooms: &mut [u64])
+    ensures { λ _. ⌜ ((fs : List ℕ) → now (rooms .exit) ≡ over (now (rooms .entry)) (roomWords (seen m fs) counts)) ⌝ }
+{
+    let n = within(m.count);
+    let threads = m.threads;
+    let frames = frames_of(threads, n);
+    let u = m.used;
+    put_rooms(u, frames, wide(n), rooms);
+    put_steps(counts, rooms);
 }
 
 // Whether a slice that is lent to a session is too short: two words a call, two for the value, two for each cell, two for what is told.
@@ -120,9 +166,9 @@ fn payload_word(k: Kind, payload: u32) -> u64
     }
 }
 
-// The value of a finished job.
-fn put_value(t: Thread, value: &mut [u64])
-    ensures { λ _. ⌜ ((u : Used) (w : Tables) → now (value .exit) ≡ over (now (value .entry)) (valueWords (view (stateOf t u) w))) ⌝ }
+// The value that a thread hands on.
+fn put_handed(t: Thread, value: &mut [u64])
+    ensures { λ _. ⌜ now (value .exit) ≡ over (now (value .entry)) (valueAt (handedOn (controlIn (t .now .control)))) ⌝ }
 {
     let n = t.now;
     let c = n.control;
@@ -130,9 +176,21 @@ fn put_value(t: Thread, value: &mut [u64])
         put_two(value, 0, 0, 0);
         return;
     };
-    if t.frames == 0 {
-        let k = v.kind;
-        put_two(value, 0, kind_word(k), payload_word(k, v.payload));
+    let k = v.kind;
+    put_two(value, 0, kind_word(k), payload_word(k, v.payload));
+}
+
+// The value of a job whose threads are all finished: that of the first.
+fn put_value(threads: [Thread; MOST_THREADS], count: u8, value: &mut [u64])
+    ensures { λ _. ⌜ ((fs : List ℕ) → now (value .exit) ≡ over (now (value .entry)) (valueAt (valueAmong (listed (threadAt threads fs) (capped count most-threads))))) ⌝ }
+{
+    if count == 0 {
+        put_two(value, 0, 0, 0);
+        return;
+    }
+    if all_finished(threads, count) {
+        let t = threads[0];
+        put_handed(t, value);
         return;
     }
     put_two(value, 0, 0, 0);
@@ -166,11 +224,11 @@ fn put_cells(table: &[u64; CELL_WORDS], used: u64, cells: &mut [u64])
 
 // What the machine holds.
 pub fn hand_over(m: Machine, value: &mut [u64], cells: &mut [u64])
-    ensures value { λ _. ⌜ now (value .exit) ≡ over (now (value .entry)) (valueWords (seen m)) ⌝ }
-    ensures cells { λ _. ⌜ now (cells .exit) ≡ over (now (cells .entry)) (cellWords (seen m)) ⌝ }
+    ensures value { λ _. ⌜ ((fs : List ℕ) → now (value .exit) ≡ over (now (value .entry)) (valueWords (seen m fs))) ⌝ }
+    ensures cells { λ _. ⌜ ((fs : List ℕ) → now (cells .exit) ≡ over (now (cells .entry)) (cellWords (seen m fs))) ⌝ }
 {
-    let t = m.thread;
-    put_value(t, value);
+    let threads = m.threads;
+    put_value(threads, m.count, value);
     let u = m.used;
     let used = cap(u.cells, MOST_CELLS);
     let table = m.cells;

@@ -1,12 +1,13 @@
 -- Demand 3 from the contracts of the public functions alone. Whoever checks a job by `check`, starts it by `start` (or by `built`, from the tables that the check left) and then
--- makes any list of calls of `Machine::step` and `Machine::run`, each on the machine that the last one gave, while the job's tables stay as the check or the start left them,
--- gets answers that demand 3 allows. The hypotheses are what these functions ensure, and nothing else.
+-- makes any list of calls of `Machine::step` and `Machine::run`, each on the machine that the last one gave and with the frames as that one left them (at the first they may hold
+-- anything), while the job's tables stay as the check or the start left them, gets answers that demand 3 allows. The hypotheses are what these functions ensure, and nothing else.
 use mathlib.Core.Path.{_≡_, refl, sym, ap, _∙_, subst, fun-ext}
 use Prim.Native.Nat.{ℕ}
 use native.Mathlib.Omega.{arith}
 use mathlib.Core.Bool.{Bool, true, false}
 use mathlib.Core.List.{List, [], _∷_, map}
 use mathlib.Core.Option.{Option, none, some}
+use lib.ListN.{getElem?}
 use Rattle.order.specs.Effects.{Effect, ofWord}
 use Rattle.syntax.specs.Types.{Ty}
 use Rattle.syntax.specs.Commands.{Cmd}
@@ -21,11 +22,13 @@ use Rattle.syntax.specs.LoadLaws.{load-whole, short-load, long-load, long-after
 use Rattle.typing.specs.Verdict.{accept, refuse, unless, judge, judgeRead, verdictOf}
 use Rattle.typing.specs.Tables as tables
 use Rattle.typing.specs.Tables.{Tables, verdictWith}
-use Rattle.semantics.specs.Machine.{Machine as Clean}
+use Rattle.semantics.specs.Machine.{Thread, System}
 use Rattle.semantics.specs.Start.{startOf}
 use Rattle.semantics.specs.Starting.{started, unstarted, startLoaded, startWith}
-use Rattle.semantics.specs.Calls.{stepsOf, Call, one-step, run-of, Ran, run, call, calls}
-use Rattle.semantics.specs.Demand3.{exprOf, stepsIn, callsOf, Allowed}
+use Rattle.semantics.specs.Wants.{needs, wrong, shut}
+use Rattle.semantics.specs.Threads.{stepsOf, alone}
+use Rattle.semantics.specs.Calls.{Call, one-step, run-of, Ran, call, calls, lastOf}
+use Rattle.semantics.specs.Demand3.{exprOf, stepsIn, callsOf, Allowed, demand3-threads}
 use Rattle.machine.specs.declared.Machine.{Machine}
 use Rattle.machine.specs.declared.Outcome.{Outcome}
 use Rattle.machine.specs.View.{seen, ranIn}
@@ -35,43 +38,75 @@ use Rattle.checker.specs.Answer.{treeOf, verdictIn, CheckTo}
 use Rattle.start.specs.declared.Told.{Told}
 use Rattle.start.specs.declared.Told.the-variants as told
 use Rattle.start.specs.declared.Opened.{Opened}
-use Rattle.start.specs.Starts.{toldIn, Starts, builtFrom, ready-built}
+use Rattle.start.specs.Starts.{toldIn, startedIn, Starts, builtFrom, ready-built}
 use Rattle.safety.specs.Accepting.{Accepting, accepting, if-accepted, after-accept}
 
--- what the two functions ensure of one call on the machine m, by the words of the job's expressions
-pub data Called (heads slots : List ℕ) (m : Machine) : Call → Outcome → Type 0 where
-  by-step : {o : Outcome} → ranIn o ≡ call (stepsOf (codeIn heads slots)) one-step (seen m) → Called heads slots m one-step o
-  by-run : {n : ℕ} {o : Outcome} → ranIn o ≡ run (stepsOf (codeIn heads slots)) n 0 (seen m) → Called heads slots m (run-of n) o
+-- what a call gave, and what the lent frames held then
+pub record Gave : Type 0 where
+  pub outcome : Outcome
+  pub frames : List ℕ
 
--- a list of calls, each on the machine that the last one gave; the words are the same at each
-pub data AllCalled (heads slots : List ℕ) : Machine → List Call → List Outcome → Type 0 where
-  no-call : {m : Machine} → AllCalled heads slots m [] []
-  next-call : {m : Machine} {c : Call} {cs : List Call} {o : Outcome} {os : List Outcome} → Called heads slots m c o → AllCalled heads slots (o .machine) cs os → AllCalled heads slots m (c ∷ cs) (o ∷ os)
+abbrev pub ranOf : Gave → Ran
+ranOf g = ranIn (g .outcome) (g .frames)
+
+-- what the two functions ensure of one call on the machine m with the frames fs, by the words of the job's expressions
+pub data Called (heads slots : List ℕ) (m : Machine) (fs : List ℕ) : Call → Gave → Type 0 where
+  by-step : {g : Gave} → ranOf g ≡ call (stepsOf (codeIn heads slots)) one-step (seen m fs) → Called heads slots m fs one-step g
+  by-run : {n : ℕ} {g : Gave} → ranOf g ≡ call (stepsOf (codeIn heads slots)) (run-of n) (seen m fs) → Called heads slots m fs (run-of n) g
+
+-- a list of calls, each on the machine that the last one gave, with the frames as that one left them; the words are the same at each
+pub data AllCalled (heads slots : List ℕ) : Machine → List ℕ → List Call → List Gave → Type 0 where
+  no-call : {m : Machine} {fs : List ℕ} → AllCalled heads slots m fs [] []
+  next-call : {m : Machine} {fs : List ℕ} {c : Call} {cs : List Call} {g : Gave} {gs : List Gave} → Called heads slots m fs c g → AllCalled heads slots (g .outcome .machine) (g .frames) cs gs
+      → AllCalled heads slots m fs (c ∷ cs) (g ∷ gs)
 
 -- the machine of a job that is checked, and the words of its expressions: those that the start left or those that the check left
 pub data Opening (bytes : List ℕ) (r : Checked) (x : Tables) : Machine → List ℕ → List ℕ → Type 0 where
   start-start : (o : Opened) (w y : JobTables) → Starts bytes o w y → o .told ≡ told.Started → Opening bytes r x (o .machine) (y .heads) (y .slots)
   start-check : (o : Opened) (w y : JobTables) → Starts bytes o w y → o .told ≡ told.Started → Opening bytes r x (o .machine) (x .job .heads) (x .job .slots)
-  built-check : (m : Machine) → seen m ≡ builtFrom (r .shape) (x .job .names) (x .job .types) (x .job .values) → Opening bytes r x m (x .job .heads) (x .job .slots)
+  built-check : (m : Machine) → ((fs : List ℕ) → seen m fs ≡ builtFrom (r .shape) (x .job .names) (x .job .types) (x .job .values)) → Opening bytes r x m (x .job .heads) (x .job .slots)
 
--- demand 3 of the outcomes of calls: the bytes are a job, the outcomes are those of its calls from its start, and demand 3 allows them
-pub record Demand3Of (bytes : List ℕ) (cs : List Call) (os : List Outcome) : Type 0 where
+-- the machine that the last of the calls gave, with the frames as that one left them; without a call the first one
+unfoldable pub lastSeen : Machine → List ℕ → List Gave → System
+lastSeen m fs [] = seen m fs
+lastSeen m fs (g ∷ gs) = lastSeen (g .outcome .machine) (g .frames) gs
+
+-- of every thread of a machine, also where its turn is not next, the next step finds no wrong kind, no missing entry and no shut key
+abbrev pub ThreadsSafe : Job → System → Type 0
+ThreadsSafe J m = (i : ℕ) (t : Thread) → getElem? (m .threads) i ≡ some t → (wrong (needs (exprOf J)) (alone m t) ≡ false) × (shut (needs (exprOf J)) (alone m t) ≡ false)
+
+-- demand 3 of the outcomes of calls on m with the frames fs: the bytes are a job, the outcomes are those of its calls from its start, demand 3 allows them, and every thread of the last
+-- machine is safe
+pub record Demand3Of (bytes : List ℕ) (m : Machine) (fs : List ℕ) (cs : List Call) (gs : List Gave) : Type 0 where
   pub job : Job
   pub is : reading bytes ≡ read job
-  pub actual : map ranIn os ≡ callsOf job cs
-  pub allowed : Allowed job cs (map ranIn os)
+  pub actual : map ranOf gs ≡ callsOf job cs
+  pub allowed : Allowed job cs (map ranOf gs)
+  pub threads : ThreadsSafe job (lastSeen m fs gs)
 
 -- a list of calls gives what `calls` says
-called : {heads slots : List ℕ} {m : Machine} {c : Call} {o : Outcome} → Called heads slots m c o → ranIn o ≡ call (stepsOf (codeIn heads slots)) c (seen m)
-unfolding call
+called : {heads slots : List ℕ} {m : Machine} {fs : List ℕ} {c : Call} {g : Gave} → Called heads slots m fs c g → ranOf g ≡ call (stepsOf (codeIn heads slots)) c (seen m fs)
 called (by-step e) = e
 called (by-run e) = e
 
-all-called : {heads slots : List ℕ} {m : Machine} {cs : List Call} {os : List Outcome} → AllCalled heads slots m cs os → map ranIn os ≡ calls (stepsOf (codeIn heads slots)) cs (seen m)
+all-called : {heads slots : List ℕ} {m : Machine} {fs : List ℕ} {cs : List Call} {gs : List Gave} → AllCalled heads slots m fs cs gs → map ranOf gs ≡ calls (stepsOf (codeIn heads slots)) cs (seen m fs)
 unfolding calls
 all-called no-call = refl
-all-called {heads} {slots} (next-call {cs = cs} {o = o} h t) =
-    ap (λ l. ranIn o ∷ l) (all-called t) ∙ ap (λ (r : Ran). r ∷ calls (stepsOf (codeIn heads slots)) cs (r .machine)) (called h)
+all-called {heads} {slots} (next-call {cs = cs} {g = g} h t) =
+    ap (λ l. ranOf g ∷ l) (all-called t) ∙ ap (λ (r : Ran). r ∷ calls (stepsOf (codeIn heads slots)) cs (r .machine)) (called h)
+
+all-last : {heads slots : List ℕ} {m : Machine} {fs : List ℕ} {cs : List Call} {gs : List Gave} → AllCalled heads slots m fs cs gs → lastSeen m fs gs ≡ lastOf (stepsOf (codeIn heads slots)) cs (seen m fs)
+unfolding lastSeen lastOf
+all-last no-call = refl
+all-last {heads} {slots} (next-call {cs = cs} h t) = all-last t ∙ ap (λ (r : Ran). lastOf (stepsOf (codeIn heads slots)) cs (r .machine)) (called h)
+
+-- what demand 3 says of every thread, of the job that the bytes are
+pub threads-of : (bytes : List ℕ) (J : Job) {T : Ty} {e : Effect} → verdictOf bytes ≡ accept T e → reading bytes ≡ read J → (cs : List Call) {s : System} → s ≡ lastOf (stepsIn J) cs (startOf (sourceOf J))
+    → ThreadsSafe J s
+threads-of bytes J v r cs {s} e = subst (λ (m : System). ThreadsSafe J m) (sym e) (at (demand3-threads bytes v))
+  where
+    at : (K : Job) × (reading bytes ≡ read K) × ((ds : List Call) → ThreadsSafe K (lastOf (stepsIn K) ds (startOf (sourceOf K)))) → ThreadsSafe J (lastOf (stepsIn J) cs (startOf (sourceOf J)))
+    at (K, q, f) = let z : read K ≡ read J = sym q ∙ r in let k : K ≡ J = cc in subst (λ (L : Job). ThreadsSafe L (lastOf (stepsIn L) cs (startOf (sourceOf L)))) k (f cs)
 
 -- an accepted job is free of 8 to 10
 pub accepted-tree : (bytes : List ℕ) (J : Job) {T : Ty} {e : Effect} → verdictOf bytes ≡ accept T e → reading bytes ≡ read J → treeRefusal (sourceOf J) ≡ none
@@ -101,20 +136,24 @@ loaded-code bytes J by i l w h e k =
 -- a start that says so had tables long enough
 was-long : {bytes : List ℕ} {o : Opened} {w y : JobTables} → Starts bytes o w y → o .told ≡ told.Started → short w ≡ false
 unfolding startWith startLoaded
-was-long {bytes} {o} {w} {y} h e = at (short w) refl (sym (ap (λ (u : Told). toldIn u (seen (o .machine))) e) ∙ h .answer)
+was-long {bytes} {o} {w} {y} h e = at (short w) refl (sym (ap (λ (u : Told). toldIn u (seen (o .machine) [])) e) ∙ h .answer [])
   where
-    at : (b : Bool) → short w ≡ b → started (seen (o .machine)) ≡ startWith w bytes → b ≡ false
+    at : (b : Bool) → short w ≡ b → started (seen (o .machine) []) ≡ startWith w bytes → b ≡ false
     at true f g =
-        absurd (let k : started (seen (o .machine)) ≡ unstarted (record { number = 1; place = 0 }) = g ∙ ap startLoaded (short-load w bytes f) in let z : _≡_ {A = ℕ} 0 1 = cc in omega arith)
+        absurd (let k : started (seen (o .machine) []) ≡ unstarted (record { number = 1; place = 0 }) = g ∙ ap startLoaded (short-load w bytes f) in let z : _≡_ {A = ℕ} 0 1 = cc in omega arith)
     at false f g = refl
 
 -- the answer of a start that is the machine m
-says-started : (o : Opened) {m : Clean} → toldIn (o .told) (seen (o .machine)) ≡ started m → (o .told ≡ told.Started) × (seen (o .machine) ≡ m)
-says-started o {m} h = at (o .told) h
+says-started : (o : Opened) {m : System} → ((fs : List ℕ) → startedIn o fs ≡ started m) → (o .told ≡ told.Started) × ((fs : List ℕ) → seen (o .machine) fs ≡ m)
+says-started o {m} h = (at (o .told) (h []), λ fs. is (o .told) fs (h fs))
   where
-    at : (u : Told) → toldIn u (seen (o .machine)) ≡ started m → (u ≡ told.Started) × (seen (o .machine) ≡ m)
-    at told.Started g = (refl, cc)
+    at : (u : Told) → toldIn u (seen (o .machine) []) ≡ started m → u ≡ told.Started
+    at told.Started g = refl
     at (told.Refused n p) g = absurd (let z : _≡_ {A = ℕ} 0 1 = cc in omega arith)
+
+    is : (u : Told) (fs : List ℕ) → toldIn u (seen (o .machine) fs) ≡ started m → seen (o .machine) fs ≡ m
+    is told.Started fs g = cc
+    is (told.Refused n p) fs g = absurd (let z : _≡_ {A = ℕ} 0 1 = cc in omega arith)
 
 -- tables that the check found long enough are so for the start
 still-long : (J : Job) (w : Tables) → tables.short w ≡ false → short (tables.filledBy J w .job) ≡ false
@@ -126,8 +165,8 @@ pub record StartsJob (bytes : List ℕ) (o : Opened) : Type 0 where
   pub job : Job
   pub is : reading bytes ≡ read job
   pub says : o .told ≡ told.Started
-  -- the machine is the one that demand 3 speaks of
-  pub machine : seen (o .machine) ≡ startOf (sourceOf job)
+  -- the machine is the one that demand 3 speaks of, whatever the frames hold
+  pub machine : (fs : List ℕ) → seen (o .machine) fs ≡ startOf (sourceOf job)
 
 module _ (bytes : List ℕ) (by : Bytes bytes) {r : Checked} {w x : Tables} {i s : ℕ} (c : CheckTo bytes r w x) (v : r .verdict ≡ verdicts.Accepted i s) where
   its : Accepting bytes (r .shape) (treeOf (x .job .types) (x .job .sets) i) (ofWord s) x
@@ -139,7 +178,7 @@ module _ (bytes : List ℕ) (by : Bytes bytes) {r : Checked} {w x : Tables} {i s
   -- accepted bytes start, with any tables that are long enough
   pub accepted-starts : {o : Opened} {u y : JobTables} → Starts bytes o u y → short u ≡ false → StartsJob bytes o
   accepted-starts {o} {u} h l =
-      let z = says-started o (h .answer ∙ start-is u bytes (its .job) l its-loads) in
+      let z = says-started o (λ fs. h .answer fs ∙ start-is u bytes (its .job) l its-loads) in
       record { job = its .job; is = its .is; says = z .0; machine = z .1 }
 
   -- and with the tables that the check left
@@ -155,15 +194,23 @@ module _ (bytes : List ℕ) (by : Bytes bytes) {r : Checked} {w x : Tables} {i s
   start-code {u = u} h e k = loaded-code bytes (its .job) by (its .is) its-loads u (was-long h e) (h .tables) k
 
   -- every opening has the job's start and its expressions
-  opened : {m : Machine} {heads slots : List ℕ} → Opening bytes r x m heads slots → (seen m ≡ startOf (sourceOf (its .job))) × ((k : ℕ) → codeIn heads slots k ≡ exprOf (its .job) k)
+  opened : {m : Machine} {heads slots : List ℕ} → Opening bytes r x m heads slots → ((fs : List ℕ) → seen m fs ≡ startOf (sourceOf (its .job))) × ((k : ℕ) → codeIn heads slots k ≡ exprOf (its .job) k)
   unfolding its accepted-starts
   opened (start-start o u y h e) = (accepted-starts h (was-long h e) .machine, start-code h e)
   opened (start-check o u y h e) = (accepted-starts h (was-long h e) .machine, its .code)
-  opened (built-check m h) = (h ∙ ready-built (its .ready), its .code)
+  opened (built-check m h) = (λ fs. h fs ∙ ready-built (its .ready), its .code)
 
-  pub demand3-from-contracts : {m : Machine} {heads slots : List ℕ} → Opening bytes r x m heads slots → {cs : List Call} {os : List Outcome} → AllCalled heads slots m cs os → Demand3Of bytes cs os
-  demand3-from-contracts {m} {heads} {slots} o {cs} {os} h =
+  pub demand3-from-contracts : {m : Machine} {heads slots : List ℕ} → Opening bytes r x m heads slots → {fs : List ℕ} {cs : List Call} {gs : List Gave} → AllCalled heads slots m fs cs gs → Demand3Of bytes m fs cs gs
+  demand3-from-contracts {m} {heads} {slots} o {fs} {cs} {gs} h =
       let z = opened o in
-      let e : map ranIn os ≡ callsOf (its .job) cs =
-      all-called h ∙ ap (λ (k : ℕ → Cmd ℕ). calls (stepsOf k) cs (seen m)) (fun-ext (z .1)) ∙ ap (calls (stepsIn (its .job)) cs) (z .0) in
-      record { job = its .job; is = its .is; actual = e; allowed = subst (λ l. Allowed (its .job) cs l) (sym e) (its .allowed cs) }
+      let e : map ranOf gs ≡ callsOf (its .job) cs =
+      all-called h ∙ ap (λ (k : ℕ → Cmd ℕ). calls (stepsOf k) cs (seen m fs)) (fun-ext (z .1)) ∙ ap (calls (stepsIn (its .job)) cs) (z .0 fs) in
+      let l : lastSeen m fs gs ≡ lastOf (stepsIn (its .job)) cs (startOf (sourceOf (its .job))) =
+      all-last h ∙ ap (λ (k : ℕ → Cmd ℕ). lastOf (stepsOf k) cs (seen m fs)) (fun-ext (z .1)) ∙ ap (lastOf (stepsIn (its .job)) cs) (z .0 fs) in
+      record {
+        job = its .job;
+        is = its .is;
+        actual = e;
+        allowed = subst (λ l. Allowed (its .job) cs l) (sym e) (its .allowed cs);
+        threads = threads-of bytes (its .job) (its .verdict) (its .is) cs l;
+      }

@@ -15,13 +15,14 @@ use Rattle.syntax.specs.Words.{codeIn}
 use Rattle.syntax.specs.WordLaws.{Bytes}
 use Rattle.typing.specs.Verdict.{accept, refuse}
 use Rattle.typing.specs.Tables.{Tables, verdictWith, tablesAfter}
-use Rattle.semantics.specs.Machine.{Machine as Clean}
+use Rattle.semantics.specs.Machine.{System}
 use Rattle.semantics.specs.Start.{startOf}
-use Rattle.semantics.specs.Calls.{Steps, stepsOf, calls}
+use Rattle.semantics.specs.Threads.{Steps, stepsOf}
+use Rattle.semantics.specs.Calls.{calls, lastOf}
 use Rattle.semantics.specs.Demand3.{exprOf, stepsIn, callsOf}
 use Rattle.machine.specs.declared.Machine.{Machine}
 use Rattle.machine.specs.View.{seen}
-use Rattle.calls.specs.Words.{callsIn, resultWords, lastOf, over}
+use Rattle.calls.specs.Words.{callsIn, resultWords, over}
 use Rattle.calls.specs.Laws.{over-fits, result-length}
 use Rattle.calls.specs.Made.{Made}
 use Rattle.checker.specs.declared.Checked.{Checked}
@@ -32,22 +33,23 @@ use Rattle.entry.specs.declared.Shape.{Shape}
 use Rattle.entry.specs.Shapes.{shapeOf}
 use Rattle.start.specs.Starts.{builtFrom, ready-built}
 use Rattle.safety.specs.Accepting.{Accepting, accepting}
+use Rattle.safety.specs.FromContracts.{threads-of}
 use Rattle.session.specs.declared.Held.{Held}
 use Rattle.session.specs.Session.{roomFor, sessionVerdict, sessionTables, RefusedWith, SessionTo}
 
-pub made-from : {K : Steps} {ws a b : List ℕ} {m n last : Clean} → m ≡ n → Made K ws m a b last → Made K ws n a b last
-made-from {K} {ws} {a} {b} {last = last} e x = subst (λ (z : Clean). Made K ws z a b last) e x
+pub made-from : {K : Steps} {ws a b c : List ℕ} {m n last : System} → m ≡ n → Made K ws m a b last c → Made K ws n a b last c
+made-from {K} {ws} {a} {b} {c} {last = last} e x = subst (λ (z : System). Made K ws z a b last c) e x
 
 -- the calls from the start of the job that the tables hold, with its expressions
-answers-are : (J : Job) (h p ws a b : List ℕ) (m last : Clean) → Made (stepsOf (codeIn h p)) ws m a b last → m ≡ startOf (sourceOf J) → ((i : ℕ) → codeIn h p i ≡ exprOf J i)
+answers-are : (J : Job) (h p ws a b d : List ℕ) (m last : System) → Made (stepsOf (codeIn h p)) ws m a b last d → m ≡ startOf (sourceOf J) → ((i : ℕ) → codeIn h p i ≡ exprOf J i)
     → b ≡ over a (resultWords (callsOf J (callsIn ws)))
-answers-are J h p ws a b m last x e c =
+answers-are J h p ws a b d m last x e c =
     x .answers ∙ ap (λ z. over a (resultWords (calls (stepsOf (codeIn h p)) (callsIn ws) z))) e
     ∙ ap (λ (z : ℕ → Cmd ℕ). over a (resultWords (calls (stepsOf z) (callsIn ws) (startOf (sourceOf J))))) (fun-ext c)
 
-last-is : (J : Job) (h p ws a b : List ℕ) (m last : Clean) → Made (stepsOf (codeIn h p)) ws m a b last → m ≡ startOf (sourceOf J) → ((i : ℕ) → codeIn h p i ≡ exprOf J i)
+last-is : (J : Job) (h p ws a b d : List ℕ) (m last : System) → Made (stepsOf (codeIn h p)) ws m a b last d → m ≡ startOf (sourceOf J) → ((i : ℕ) → codeIn h p i ≡ exprOf J i)
     → last ≡ lastOf (stepsIn J) (callsIn ws) (startOf (sourceOf J))
-last-is J h p ws a b m last x e c =
+last-is J h p ws a b d m last x e c =
     x .machine ∙ ap (λ z. lastOf (stepsOf (codeIn h p)) (callsIn ws) z) e ∙ ap (λ (z : ℕ → Cmd ℕ). lastOf (stepsOf z) (callsIn ws) (startOf (sourceOf J))) (fun-ext c)
 
 room-no : (ws a : List ℕ) → length a / 2 < length ws → roomFor ws a ≡ false
@@ -58,14 +60,14 @@ room-yes : (ws a : List ℕ) → length ws ≤ length a / 2 → roomFor ws a ≡
 unfolding roomFor
 room-yes ws a h = le-leb (2 * length ws) (length a) (omega arith)
 
-pub session-short : (bytes ws a : List ℕ) (w : Tables) (o : Held) → length a / 2 < length ws → RefusedWith 1 0 o → SessionTo bytes ws o w w a a
+pub session-short : (bytes ws fs a : List ℕ) (w : Tables) (o : Held) → length a / 2 < length ws → RefusedWith 1 0 o → SessionTo bytes ws o w w fs fs a a
 unfolding sessionVerdict sessionTables verdictIn
-session-short bytes ws a w o h f =
+session-short bytes ws fs a w o h f =
     record {
       verdict = rw (f .verdict, room-no ws a h);
       tables = rw (room-no ws a h);
       entry = λ i s e J q. absurd (let g : verdicts.Refused 1 0 ≡ verdicts.Accepted i s = sym (f .verdict) ∙ e in let z : _≡_ {A = ℕ} 0 1 = cc in omega arith);
-      refused = λ q e. record { written = refl; machine = f .machine };
+      refused = λ q e. record { written = refl; frames = refl; machine = f .machine fs };
       accepted = λ T s e. absurd (let f : refuse (record { number = 1; place = 0 }) ≡ accept T s = rw (room-no ws a h) at e in let z : _≡_ {A = ℕ} 0 1 = cc in omega arith);
     }
 
@@ -77,17 +79,17 @@ tables-room : (bytes ws a : List ℕ) (w : Tables) → length ws ≤ length a / 
 unfolding sessionTables
 tables-room bytes ws a w h = rw (room-yes ws a h)
 
-pub session-refused : (bytes ws a : List ℕ) (r : Checked) (w x : Tables) (n p : ℕ) (o : Held) → length ws ≤ length a / 2 → CheckTo bytes r w x → r .verdict ≡ verdicts.Refused n p
-    → RefusedWith n p o → SessionTo bytes ws o w x a a
+pub session-refused : (bytes ws fs a : List ℕ) (r : Checked) (w x : Tables) (n p : ℕ) (o : Held) → length ws ≤ length a / 2 → CheckTo bytes r w x → r .verdict ≡ verdicts.Refused n p
+    → RefusedWith n p o → SessionTo bytes ws o w x fs fs a a
 unfolding verdictIn
-session-refused bytes ws a r w x n p o h c v f =
+session-refused bytes ws fs a r w x n p o h c v f =
     let e : refuse (record { number = n; place = p }) ≡ verdictWith w bytes = sym (ap (verdictIn (x .job .types) (x .job .sets)) v) ∙ c .verdict in
     let b = with-room bytes ws a w h in
     record {
       verdict = ap (verdictIn (x .job .types) (x .job .sets)) (f .verdict) ∙ e ∙ sym b;
       tables = c .tables ∙ tables-room bytes ws a w h;
       entry = λ i s k J q. absurd (let g : verdicts.Refused n p ≡ verdicts.Accepted i s = sym (f .verdict) ∙ k in let z : _≡_ {A = ℕ} 0 1 = cc in omega arith);
-      refused = λ q k. record { written = refl; machine = f .machine };
+      refused = λ q k. record { written = refl; frames = refl; machine = f .machine fs };
       accepted = λ T s k. absurd (let z : _≡_ {A = ℕ} 0 1 = cc in omega arith);
     }
 
@@ -105,16 +107,16 @@ counted : (l : List ℕ) (J K : Job) → read J ≡ read K → lastIn l (shapeOf
 unfolding shapeOf
 counted l J K e = let z : J ≡ K = cc in ap (λ (L : Job). lastIn l (length (L .cmds))) z
 
-pub session-accepted : (bytes ws a b : List ℕ) (r : Checked) (w x : Tables) (i s : ℕ) (m : Machine) → length ws ≤ length a / 2 → CheckTo bytes r w x → r .verdict ≡ verdicts.Accepted i s
-    → Made (stepsOf (codeIn (x .job .heads) (x .job .slots))) ws (builtFrom (r .shape) (x .job .names) (x .job .types) (x .job .values)) a b (seen m)
-    → Bytes bytes → SessionTo bytes ws (record { verdict = verdicts.Accepted i s; machine = m }) w x a b
-session-accepted bytes ws a b r w x i s m h c v f by = go (accepting bytes by r w x i s c v)
+pub session-accepted : (bytes ws fs fs' a b d : List ℕ) (r : Checked) (w x : Tables) (i s : ℕ) (m : Machine) → length ws ≤ length a / 2 → CheckTo bytes r w x → r .verdict ≡ verdicts.Accepted i s
+    → Made (stepsOf (codeIn (x .job .heads) (x .job .slots))) ws (builtFrom (r .shape) (x .job .names) (x .job .types) (x .job .values)) a b (seen m fs') d
+    → Bytes bytes → SessionTo bytes ws (record { verdict = verdicts.Accepted i s; machine = m }) w x fs fs' a b
+session-accepted bytes ws fs fs' a b d r w x i s m h c v f by = go (accepting bytes by r w x i s c v)
   where
     number : Answer → ℕ
     number (verdicts.Accepted j t) = j
     number (verdicts.Refused j t) = 0
 
-    go : {T : Ty} → Accepting bytes (r .shape) T (ofWord s) x → SessionTo bytes ws (record { verdict = verdicts.Accepted i s; machine = m }) w x a b
+    go : {T : Ty} → Accepting bytes (r .shape) T (ofWord s) x → SessionTo bytes ws (record { verdict = verdicts.Accepted i s; machine = m }) w x fs fs' a b
     go y =
         let e : verdictIn (x .job .types) (x .job .sets) (verdicts.Accepted i s) ≡ verdictWith w bytes = sym (ap (verdictIn (x .job .types) (x .job .sets)) v) ∙ c .verdict in
         record {
@@ -129,7 +131,8 @@ session-accepted bytes ws a b r w x i s m h c v f by = go (accepting bytes by r 
                 results = callsOf (y .job) (callsIn ws);
                 actual = refl;
                 allowed = y .allowed (callsIn ws);
-                written = answers-are (y .job) _ _ ws a b _ _ f (ready-built (y .ready)) (y .code) ∙ fits (y .job) ws a h;
-                machine = last-is (y .job) _ _ ws a b _ _ f (ready-built (y .ready)) (y .code);
+                written = answers-are (y .job) _ _ ws a b d _ _ f (ready-built (y .ready)) (y .code) ∙ fits (y .job) ws a h;
+                machine = last-is (y .job) _ _ ws a b d _ _ f (ready-built (y .ready)) (y .code);
+                threads = threads-of bytes (y .job) (y .verdict) (y .is) (callsIn ws) (last-is (y .job) _ _ ws a b d _ _ f (ready-built (y .ready)) (y .code));
               };
         }

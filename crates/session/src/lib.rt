@@ -1,9 +1,11 @@
 // A whole session on a job's bytes: it is checked and, if it is accepted, started and called.
+use calls::Last;
 use checker::Verdict;
 use job::Shape;
 use machine::Machine;
+use store::FRAMES_WORDS;
 ghost use Rattle.syntax.specs.Words.{codeIn};
-ghost use Rattle.semantics.specs.Calls.{stepsOf};
+ghost use Rattle.semantics.specs.Threads.{stepsOf};
 ghost use Rattle.machine.specs.View.{seen};
 ghost use Rattle.calls.specs.Made.{Made};
 ghost use Rattle.judge.specs.Lent.{before};
@@ -11,13 +13,13 @@ ghost use Rattle.checker.specs.Lent.{after};
 ghost use Rattle.start.specs.Starts.{builtFrom};
 ghost use Rattle.session.specs.Session.{RefusedWith, SessionTo};
 
-// The verdict, and the machine that the last call gave. The machine of a refused session is the empty one.
+// The verdict, and the machine that the last call gave, whose frames are those that were lent. The machine of a refused session is the empty one.
 pub struct Held {
     pub verdict: Verdict,
     pub machine: Machine,
 }
 
-// The calls on the machine at the start of the job that the tables hold. Returns the machine that the last one gave.
+// The calls on the machine at the start of the job that the tables hold. Returns the machine that the last one gave, and the steps of each thread in it.
 fn answer(
     g: Shape,
     names: &[u16],
@@ -25,17 +27,18 @@ fn answer(
     values: &[u64],
     heads: &[u64],
     slots: &[u16],
+    frames: &mut [u64; FRAMES_WORDS],
     calls: &[u64],
     answers: &mut [u64],
-) -> Machine
+) -> Last
     ensures { λ r. ⌜
         Made (stepsOf (codeIn (now (heads .entry)) (now (slots .entry)))) (now (calls .entry))
         (builtFrom g (now (names .entry)) (now (types .entry)) (now (values .entry)))
-        (now (answers .entry)) (now (answers .exit)) (seen r)
+        (now (answers .entry)) (now (answers .exit)) (seen (r .machine) (now (frames .exit))) (r .counts)
         ⌝ }
 {
     let m = start::built(g, names, types, values);
-    calls::make_calls(m, heads, slots, calls, answers)
+    calls::make_calls(m, heads, slots, frames, calls, answers)
 }
 
 // A session that makes no call.
@@ -50,7 +53,8 @@ fn refused(n: u8, p: usize) -> Held
 }
 
 // The bytes are checked with the lent tables. An accepted job is started, and the calls are made, each on the machine that the last one gave: 0 is a step,
-// n + 1 a run of n. Of call i the number of its answer goes to place 2i of the answers and its count of steps to place 2i + 1.
+// n + 1 a run of n. Of call i the number of its answer goes to place 2i of the answers and the steps of all threads in it to place 2i + 1. The frames may hold
+// anything before; where no call is made, they stay, and else those in use are the last machine's, and what the other words hold is left free.
 // Where the answers have no room for all calls, 1 is given and nothing is written.
 pub fn session(
     job: &[u8],
@@ -62,6 +66,7 @@ pub fn session(
     slots: &mut [u16],
     entries: &mut [u16],
     effects: &mut [u64],
+    frames: &mut [u64; FRAMES_WORDS],
     calls: &[u64],
     answers: &mut [u64],
 ) -> Held
@@ -69,7 +74,7 @@ pub fn session(
         SessionTo (now (job .entry)) (now (calls .entry)) r
         (before names types sets values heads slots entries effects)
         (after names types sets values heads slots entries effects)
-        (now (answers .entry)) (now (answers .exit))
+        (now (frames .entry)) (now (frames .exit)) (now (answers .entry)) (now (answers .exit))
         ⌝ }
 {
     if answers.len() / 2 < calls.len() {
@@ -91,7 +96,18 @@ pub fn session(
     match v {
         Verdict::Refused(n, p) => refused(n, p),
         Verdict::Accepted(i, s) => {
-            let m = answer(g, names, types, values, heads, slots, calls, answers);
+            let last = answer(
+                g,
+                names,
+                types,
+                values,
+                heads,
+                slots,
+                frames,
+                calls,
+                answers,
+            );
+            let m = last.machine;
             Held {
                 verdict: Verdict::Accepted(i, s),
                 machine: m,

@@ -7,7 +7,7 @@ step-requires : tie.Need-step-requires
 step-requires c κs = search needs
 
 returns : tie.Need-returns
-returns c = made-step _ _ _ (c .before .if1 .taken) (c .step .ensures)
+returns c = made-step _ _ _ (c .before .before .if1 .taken) (c .step .ensures)
 
 sub-run : tie.Need-sub-run
 sub-run c = search needs
@@ -16,7 +16,7 @@ run-requires : tie.Need-run-requires
 run-requires c κs = search needs
 
 returns-2 : tie.Need-returns-2
-returns-2 c = made-run _ _ _ (c .before .if1 .left) (c .run .ensures)
+returns-2 c = made-run _ _ _ (c .before .before .if1 .left) (c .run .ensures)
 
 pub make-spec : {M : Type 1} → statement M
 make-spec = tie.close (tie.spec step-requires returns sub-run run-requires returns-2)

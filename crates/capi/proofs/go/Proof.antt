@@ -1,4 +1,3 @@
-use Rattle.capi.proofs.Laws.{goes}
 use borrow.Author.Needs.{needs}
 use Rattle.capi.proofs.go.Statement.{statement}
 use Rattle.capi.proofs.go.Tie as tie
@@ -20,7 +19,7 @@ same-length-2 : tie.Need-same-length-2
 same-length-2 c = search needs
 
 returns : tie.Need-returns
-returns c = goes (c .before .before .before .before .before .before .before .before .make-calls .result) (c .before .before .before .before .before .before .before .before .make-calls .ensures) (c .before .before .count .ensures)
+returns c = record { last = _; counts = _; made = c .before .before .before .before .before .before .before .before .make-calls .ensures; rooms = c .before .before .count .ensures _ }
 
 pub go-spec : {M : Type 1} → statement M
 go-spec = tie.close (tie.spec make-calls-requires count-requires same-length same-length-2 returns)

@@ -1,15 +1,20 @@
-use mathlib.Core.Path.{ap}
-use Rattle.acts.specs.Meaning.{answerIn}
-use Rattle.print.proofs.Prints.{ended-with, with-spent, with-no-room, with-none, no-taken, no-stuck, no-denied}
+use mathlib.Core.Path.{ap, _∙_}
+use Rattle.format.specs.Text.{spentAs, noRoomAs}
+use Rattle.machine.specs.View.{answerIn}
+use Rattle.print.proofs.Prints.{ended-with, told-whole, with-spent, with-no-room, with-none, no-taken, no-stuck, no-denied}
 use borrow.Author.Needs.{needs}
 use Rattle.print.proofs.ended.Statement.{statement}
 use Rattle.print.proofs.ended.Tie as tie
 use Rattle.print.proofs.ended.Reads as reads
 use Rattle.print.proofs.ended.Lts as lts
-use Rattle.print.proofs.finished.Reads as finished-reads
+use Rattle.calls.proofs.steps.Reads as steps-reads
 use Rattle.format.proofs.both.Reads as both-reads
 use Rattle.format.proofs.no_room.Reads as no-room-reads
 use Rattle.format.proofs.spent.Reads as spent-reads
+use Rattle.print.proofs.finished.Reads as finished-reads
+
+steps-requires : tie.Need-steps-requires
+steps-requires c κs = search needs
 
 enum-told : tie.Need-enum-told
 enum-told c = search needs
@@ -45,27 +50,28 @@ enum-told-6 : tie.Need-enum-told-6
 enum-told-6 c = search needs
 
 returns : tie.Need-returns
-returns c = λ T s f d. ended-with T s _ _ _ (c .before .enum-told .given .1) (c .finished .ensures T s f (d (ap answerIn (c .before .enum-told .given .1))))
+returns c = λ T s fs f small some-thread d. ended-with T s (c .before .before .before .before .before .args .o) fs _ _ (c .before .enum-told .given .1) (c .finished .ensures T s fs f small some-thread (d (ap answerIn (c .before .enum-told .given .1))))
 
 returns-2 : tie.Need-returns-2
-returns-2 c = λ T s f d. ended-with T s _ _ _ (c .before .before .enum-told2 .given .1) (with-spent T s _ _ _ _ _ f (c .before .spent .ensures) (c .both .ensures))
+returns-2 c = λ T s fs f small some-thread d. ended-with T s (c .before .before .before .before .before .before .args .o) fs _ _ (c .before .before .enum-told2 .given .1) (with-spent T s _ _ _ _ _ f (c .before .spent .ensures ∙ ap spentAs (told-whole _ (c .before .before .before .before .steps .ensures) small)) (c .both .ensures))
 
 returns-3 : tie.Need-returns-3
-returns-3 c = λ T s f d. ended-with T s _ _ _ (c .before .before .enum-told3 .given .1) (with-no-room T s _ _ _ _ _ f (c .before .no-room .ensures) (c .both2 .ensures))
+returns-3 c = λ T s fs f small some-thread d. ended-with T s (c .before .before .before .before .before .before .args .o) fs _ _ (c .before .before .enum-told3 .given .1) (with-no-room T s _ _ _ _ _ f (c .before .no-room .ensures ∙ ap noRoomAs (told-whole _ (c .before .before .before .before .steps .ensures) small)) (c .both2 .ensures))
 
 returns-4 : tie.Need-returns-4
-returns-4 c = λ T s f d. ended-with T s _ _ _ (c .enum-told4 .given .1) (with-none T s _ _ f (no-taken _ _))
+returns-4 c = λ T s fs f small some-thread d. ended-with T s (c .before .before .before .before .args .o) fs _ _ (c .enum-told4 .given .1) (with-none T s _ _ f (no-taken _ _))
 
 returns-5 : tie.Need-returns-5
-returns-5 c = λ T s f d. ended-with T s _ _ _ (c .enum-told5 .given .1) (with-none T s _ _ f (no-stuck _ _))
+returns-5 c = λ T s fs f small some-thread d. ended-with T s (c .before .before .before .before .args .o) fs _ _ (c .enum-told5 .given .1) (with-none T s _ _ f (no-stuck _ _))
 
 returns-6 : tie.Need-returns-6
-returns-6 c = λ T s f d. ended-with T s _ _ _ (c .enum-told6 .given .1) (with-none T s _ _ f (no-denied _ _))
+returns-6 c = λ T s fs f small some-thread d. ended-with T s (c .before .before .before .before .args .o) fs _ _ (c .enum-told6 .given .1) (with-none T s _ _ f (no-denied _ _))
 
 pub ended-spec : {M : Type 1} → statement M
 ended-spec =
     tie.close
     (tie.spec
+    steps-requires
     enum-told
     finished-requires
     enum-told-2

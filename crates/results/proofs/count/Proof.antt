@@ -1,82 +1,44 @@
-use Rattle.results.proofs.Told.{counted}
+use Rattle.results.proofs.Told.{within-few, rooms-told}
 use borrow.Author.Needs.{needs}
 use Rattle.results.proofs.count.Statement.{statement}
 use Rattle.results.proofs.count.Tie as tie
 use Rattle.results.proofs.count.Reads as reads
 use Rattle.results.proofs.count.Lts as lts
-use Rattle.store.proofs.cap.Reads as cap-reads
-use Rattle.table.proofs.put64.Reads as put64-reads
+use Rattle.machine.proofs.within.Reads as within-reads
+use Rattle.results.proofs.frames_of.Reads as frames-of-reads
+use Rattle.results.proofs.put_rooms.Reads as put-rooms-reads
+use Rattle.results.proofs.put_steps.Reads as put-steps-reads
+use Rattle.table.proofs.wide.Reads as wide-reads
 
-cap-requires : tie.Need-cap-requires
-cap-requires c κs = search needs
+within-requires : tie.Need-within-requires
+within-requires c κs = search needs
 
-cap-requires-2 : tie.Need-cap-requires-2
-cap-requires-2 c κs = search needs
+frames-of-requires : tie.Need-frames-of-requires
+frames-of-requires c κs = within-few (c .before .before .before .args .m .count) (c .before .within .ensures)
 
-cap-requires-3 : tie.Need-cap-requires-3
-cap-requires-3 c κs = search needs
+wide-requires : tie.Need-wide-requires
+wide-requires c κs = search needs
 
-cap-requires-4 : tie.Need-cap-requires-4
-cap-requires-4 c κs = search needs
+put-rooms-requires : tie.Need-put-rooms-requires
+put-rooms-requires c κs = search needs
 
-cap-requires-5 : tie.Need-cap-requires-5
-cap-requires-5 c κs = search needs
-
-cap-requires-6 : tie.Need-cap-requires-6
-cap-requires-6 c κs = search needs
-
-put64-requires : tie.Need-put64-requires
-put64-requires c κs = search needs
-
-put64-requires-2 : tie.Need-put64-requires-2
-put64-requires-2 c κs = search needs
-
-put64-requires-3 : tie.Need-put64-requires-3
-put64-requires-3 c κs = search needs
-
-put64-requires-4 : tie.Need-put64-requires-4
-put64-requires-4 c κs = search needs
-
-put64-requires-5 : tie.Need-put64-requires-5
-put64-requires-5 c κs = search needs
-
-put64-requires-6 : tie.Need-put64-requires-6
-put64-requires-6 c κs = search needs
+put-steps-requires : tie.Need-put-steps-requires
+put-steps-requires c κs = search needs
 
 same-length : tie.Need-same-length
 same-length c = search needs
 
 returns : tie.Need-returns
-returns c =
-    counted _ _ _
-    (c .before .before .before .before .before .before .before .before .before .before .before .before .before .before .before .before .before .before .before .before .before .before .before .before .before .before .before .before .before .cap .ensures .0)
-    (c .before .before .before .before .before .before .before .before .before .before .before .before .before .before .before .before .before .before .before .before .before .before .before .before .before .before .before .before .cap2 .ensures .0)
-    (c .before .before .before .before .before .before .before .before .before .before .before .before .before .before .before .before .before .before .before .before .before .before .before .before .before .before .before .cap3 .ensures .0)
-    (c .before .before .before .before .before .before .before .before .before .before .before .before .before .before .before .before .before .before .before .before .before .before .before .before .before .before .cap4 .ensures .0)
-    (c .before .before .before .before .before .before .before .before .before .before .before .before .before .before .before .before .before .before .before .before .before .before .before .before .before .cap5 .ensures .0)
-    (c .before .before .before .before .before .before .before .before .before .before .before .before .before .before .before .before .before .before .before .before .before .before .before .before .cap6 .ensures .0)
-    (c .before .before .before .before .before .before .before .before .before .before .before .before .before .before .before .before .before .before .before .before .before .before .put64 .ensures)
-    (c .before .before .before .before .before .before .before .before .before .before .before .before .before .before .before .before .before .before .put642 .ensures)
-    (c .before .before .before .before .before .before .before .before .before .before .before .before .before .before .put643 .ensures)
-    (c .before .before .before .before .before .before .before .before .before .before .put644 .ensures)
-    (c .before .before .before .before .before .before .put645 .ensures)
-    (c .before .before .put646 .ensures)
+returns c = rooms-told (c .before .before .before .before .before .before .before .before .before .before .before .before .before .before .args .m) _ _ (c .before .before .before .before .before .before .before .before .before .before .before .before .within .ensures) (c .before .before .before .before .before .before .before .before .wide .ensures) (c .before .before .before .before .before .before .before .before .before .before .frames-of .ensures) (c .before .before .before .before .before .before .put-rooms .ensures) (c .before .before .put-steps .ensures)
 
 pub count-spec : {M : Type 1} → statement M
 count-spec =
     tie.close
     (tie.spec
-    cap-requires
-    cap-requires-2
-    cap-requires-3
-    cap-requires-4
-    cap-requires-5
-    cap-requires-6
-    put64-requires
-    put64-requires-2
-    put64-requires-3
-    put64-requires-4
-    put64-requires-5
-    put64-requires-6
+    within-requires
+    frames-of-requires
+    wide-requires
+    put-rooms-requires
+    put-steps-requires
     same-length
     returns)

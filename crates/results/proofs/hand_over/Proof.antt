@@ -1,12 +1,14 @@
+use Rattle.semantics.specs.Threads.{valueOf}
+use Rattle.results.specs.Values.{valueWords}
 use Rattle.results.proofs.Values.{cells-told}
 use borrow.Author.Needs.{needs}
 use Rattle.results.proofs.hand_over.Statement.{statement}
 use Rattle.results.proofs.hand_over.Tie as tie
 use Rattle.results.proofs.hand_over.Reads as reads
 use Rattle.results.proofs.hand_over.Lts as lts
-use Rattle.store.proofs.cap.Reads as cap-reads
 use Rattle.results.proofs.put_cells.Reads as put-cells-reads
 use Rattle.results.proofs.put_value.Reads as put-value-reads
+use Rattle.store.proofs.cap.Reads as cap-reads
 
 put-value-requires : tie.Need-put-value-requires
 put-value-requires c κs = search needs
@@ -18,21 +20,16 @@ put-cells-requires : tie.Need-put-cells-requires
 put-cells-requires c κs = search needs
 
 same-length : tie.Need-same-length
-same-length c = c .before .before .before .before .before .before .before .before .before .value .given
+same-length c = search needs
 
 same-length-2 : tie.Need-same-length-2
-same-length-2 c = c .before .cells .given
+same-length-2 c = search needs
 
 returns : tie.Need-returns
-returns c = (c .before .before .before .before .before .before .before .before .before .before .put-value .ensures _ _, cells-told _ _ _ (c .before .before .before .before .before .before .cap .ensures .0) (c .before .before .put-cells .ensures))
+unfolding valueWords valueOf
+returns c = (c .before .before .before .before .before .before .before .before .before .before .put-value .ensures, cells-told (c .before .before .before .before .before .before .before .before .before .before .before .before .before .before .before .args .m) _ _ (c .before .before .before .before .before .before .cap .ensures .0) (c .before .before .put-cells .ensures))
 
 pub hand-over-spec : {M : Type 1} → statement M
 hand-over-spec =
     tie.close
-    (tie.spec
-    put-value-requires
-    cap-requires
-    put-cells-requires
-    same-length
-    same-length-2
-    returns)
+    (tie.spec put-value-requires cap-requires put-cells-requires same-length same-length-2 returns)

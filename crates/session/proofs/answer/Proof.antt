@@ -4,8 +4,8 @@ use Rattle.session.proofs.answer.Statement.{statement}
 use Rattle.session.proofs.answer.Tie as tie
 use Rattle.session.proofs.answer.Reads as reads
 use Rattle.session.proofs.answer.Lts as lts
-use Rattle.start.proofs.built.Reads as built-reads
 use Rattle.calls.proofs.make_calls.Reads as make-calls-reads
+use Rattle.start.proofs.built.Reads as built-reads
 
 built-requires : tie.Need-built-requires
 built-requires c κs = search needs
@@ -17,7 +17,7 @@ same-length : tie.Need-same-length
 same-length c = search needs
 
 returns : tie.Need-returns
-returns c = made-from (c .before .before .before .before .built .ensures) (c .before .before .make-calls .ensures)
+returns c = made-from (c .before .before .before .before .before .built .ensures _) (c .before .before .make-calls .ensures)
 
 pub answer-spec : {M : Type 1} → statement M
 answer-spec = tie.close (tie.spec built-requires make-calls-requires same-length returns)
