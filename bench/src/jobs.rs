@@ -1,9 +1,12 @@
 //! The jobs that are measured. Each is accepted.
 
 use second::bytes_of;
-use second::generate::{example, heavy, ladder, largest};
+use second::generate::{example, heavy, heavy_threads, ladder, largest};
 use second::job::{Expr, HostValue, Job, Shape, Type, UNUSED};
 use second::names::Names;
+
+/// The most threads there can be.
+const THREADS: usize = 8;
 
 /// The job of a name.
 pub fn job(name: &str) -> Option<Vec<u8>> {
@@ -13,6 +16,7 @@ pub fn job(name: &str) -> Option<Vec<u8>> {
         "largest" => bytes_of(&largest()),
         "ladder" => bytes_of(&ladder(16, 120, 1)),
         "loop" => bytes_of(&heavy(40)),
+        "threads" => bytes_of(&heavy_threads(40, THREADS)),
         _ => return None,
     })
 }

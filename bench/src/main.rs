@@ -1,9 +1,9 @@
 //! Measures the proved code beside the second implementation.
 //!
 //! `bench check JOB WHO [TIMES]`, the same with `read`, `write` or `sheet`, `bench start WHO [TIMES]`
-//! and `bench run WHO [TIMES]` do one thing so many times, for a tool that counts instructions. `bench
-//! times` prints a line for each thing: its name, the job's bytes, and the nanoseconds of the proved
-//! code and of the second.
+//! and `bench run WHO [TIMES]`, and `bench start threads WHO [TIMES]` and `bench run threads WHO [TIMES]`
+//! do one thing so many times, for a tool that counts instructions. `bench times` prints a line for each
+//! thing: its name, the job's bytes, and the nanoseconds of the proved code and of the second.
 #![forbid(unsafe_code)]
 
 mod jobs;
@@ -161,12 +161,14 @@ fn work(name: &[&str]) -> Option<Work> {
         ["sheet", job] => Work::new(What::Sheet, jobs::job(job)?),
         ["start"] => Work::new(What::Run(0), jobs::job("loop")?),
         ["run"] => Work::new(What::Run(STEPS), jobs::job("loop")?),
+        ["start", "threads"] => Work::new(What::Run(0), jobs::job("threads")?),
+        ["run", "threads"] => Work::new(What::Run(STEPS), jobs::job("threads")?),
         _ => return None,
     })
 }
 
 /// Every thing that is measured.
-const ALL: [&[&str]; 13] = [
+const ALL: [&[&str]; 15] = [
     &["check", "small"],
     &["check", "medium"],
     &["check", "largest"],
@@ -180,6 +182,8 @@ const ALL: [&[&str]; 13] = [
     &["sheet", "medium"],
     &["start"],
     &["run"],
+    &["start", "threads"],
+    &["run", "threads"],
 ];
 
 fn times() -> ExitCode {
@@ -217,7 +221,7 @@ fn main() -> ExitCode {
     let (Some(who), Some(mut work)) = (who, work(&words)) else {
         eprintln!(
             "usage: bench times | bench check|read|write|sheet JOB WHO [TIMES] | \
-             bench start|run WHO [TIMES]\n\
+             bench start|run [threads] WHO [TIMES]\n\
              JOB is small, medium, largest or ladder; WHO is proved or second"
         );
         return ExitCode::from(2);

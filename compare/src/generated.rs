@@ -5,12 +5,12 @@ use std::process::ExitCode;
 
 use compare::expected;
 use compare::probe::probe;
-use compare::proved::{self, RUN_TABLES, Tables};
+use compare::proved::{self, DIRTY, ROOMS, RUN_TABLES, Tables};
 use compare::words::{Words, kind, words};
 use jobdesk::{Answer, Call, LENGTHS};
 use second::generate::{Rng, job};
-use second::observe::{acts, made, refused_at, wanted_of_acts};
-use second::{Job, Machine, Refusal, check, read, to_hex, tree};
+use second::observe::{acts, made, refused_at, wanted_of_acts, wanted_of_threads};
+use second::{Job, Machine, Refusal, check, read, to_hex, tree, turns};
 
 use crate::sessions::{END, compare_session};
 use crate::sheets::{self, compare_sheet};
@@ -19,6 +19,9 @@ use crate::writing::{self, compare_back, compare_checked, compare_tables};
 /// The steps that a job is mostly run for, and sometimes.
 const STEPS: u64 = 20_000;
 const MORE_STEPS: u64 = 100_000;
+
+/// How many words are lent for the room in use and for the steps of each thread.
+const TOLD: [&str; 2] = ["room and steps told in 15 words", "room and steps told in fewer words"];
 
 /// How often something was met, and the steps taken in all.
 #[derive(Default)]
@@ -74,7 +77,8 @@ pub fn all(count: u64, seed: u64) -> ExitCode {
 
 /// What a comparison must have met.
 fn wanted() -> Vec<String> {
-    let mut wanted: Vec<String> = (1..=14).map(|number| format!("refused {number:2}")).collect();
+    let refused = (1..=14).chain([16]);
+    let mut wanted: Vec<String> = refused.map(|number| format!("refused {number:2}")).collect();
     wanted.extend((1..=10).map(|number| format!("not started {number:2}")));
     wanted.push("accepted".to_string());
     for kind in ["number", "pair", "cell", "function", "limit", "grant"] {
@@ -90,10 +94,13 @@ fn wanted() -> Vec<String> {
     }
     wanted.extend(END.map(|end| format!("session ends with {end}")));
     wanted.push("session with a short result".to_string());
-    for room in ["cells", "keys", "pairs", "functions", "frames", "bindings"] {
+    for room in ["cells", "keys", "pairs", "functions", "frames", "bindings", "threads"] {
         wanted.push(format!("no room in {room} alone"));
     }
+    wanted.extend(TOLD.map(str::to_string));
     wanted.extend(wanted_of_acts());
+    wanted.extend(wanted_of_threads());
+    wanted.extend(turns::wanted());
     wanted.extend(writing::wanted());
     wanted.extend(sheets::wanted());
     wanted
@@ -168,7 +175,7 @@ fn compare_check(job: &[u8], rng: &mut Rng, met: &mut Met) -> Result<bool, Strin
         Err(refusal @ Refusal { number, place }) => {
             same("verdict", verdict, (number as u64, [place as u64, 0]))?;
             met.meet(format!("refused {number:2}"));
-            let at = ["Look", "Divide", "at 40", "at 41"];
+            let at = ["Look", "Divide", "Spawn", "at 40", "at 41", "at 42"];
             let told = |words: &String| at.iter().any(|at| words.contains(at));
             refused_at(job, refusal).into_iter().filter(told).for_each(|words| met.meet(words));
             same_tables("after a refusal", tables.differs(&before, &Words::default(), 8))?;
@@ -189,6 +196,8 @@ fn compare_short(job: &[u8], rng: &mut Rng, met: &mut Met) -> Result<(), String>
         } else {
             let (number, answers, rooms) = proved::run(job, &mut tables, &[Call::Step], 7);
             same("run with a short table", (number, rooms[0]), (1, 0))?;
+            let stay = rooms[1..].iter().all(|&word| word == DIRTY);
+            same("no rooms with a short table", stay, true)?;
             same("no answers with a short table", answers, vec![7; 2])?;
             met.meet("not started  1".to_string());
         }
@@ -197,8 +206,17 @@ fn compare_short(job: &[u8], rng: &mut Rng, met: &mut Met) -> Result<(), String>
     Ok(())
 }
 
-/// Some calls for a machine that ends, or is left, after so many steps.
+/// Some calls for a machine that ends, or is left, after so many steps. Of the last one each thread's
+/// steps are told, so it is often one before the end.
 fn calls(rng: &mut Rng, taken: u64, ended: bool) -> Vec<Call> {
+    let mut calls = all_calls(rng, taken, ended);
+    if rng.chance(40) {
+        calls.truncate(rng.below(calls.len() + 1));
+    }
+    calls
+}
+
+fn all_calls(rng: &mut Rng, taken: u64, ended: bool) -> Vec<Call> {
     use Call::{Run, Step};
     let half = taken / 2;
     match rng.below(6) {
@@ -243,15 +261,11 @@ fn compare_run(
     let most = if rng.chance(6) { MORE_STEPS } else { STEPS };
     let (_, taken) = whole.run(most);
     let calls = calls(rng, taken, taken < most);
-    let second = expected::run(&mut machine, &calls);
-    let (proved, answers, rooms) = proved::run(job, &mut tables, &calls, 0xDEAD);
-    same("start", proved, 0)?;
-    same(&format!("answers to calls {calls:?}"), &answers, &second)?;
-    same(&format!("rooms after calls {calls:?}"), rooms, expected::rooms(machine.rooms()))?;
+    let answers = compare_calls(job, &calls, (&mut machine, &mut tables), rng, met)?;
     let words = words(&read, &read.types, &[]);
     same_tables("after a run", tables.differs(&before, &words, RUN_TABLES))?;
     compare_session(job, &calls, rng, met)?;
-    meet_acts(&read, accepted, taken, met);
+    meet_acts(&read, accepted, (taken, &calls), met);
     let last = meet_answers(&calls, &answers, accepted, met)?;
     if last == Some(Answer::NoRoom)
         && let [room] = machine.rooms().full()[..]
@@ -259,6 +273,27 @@ fn compare_run(
         met.meet(format!("no room in {room} alone"));
     }
     Ok(whole.result().and_then(|value| probe(&read, value, rng)))
+}
+
+/// The answers to some calls; the rooms in use and the steps of each thread, as far as words are lent for
+/// them.
+fn compare_calls(
+    job: &[u8],
+    calls: &[Call],
+    (machine, tables): (&mut Machine, &mut Tables),
+    rng: &mut Rng,
+    met: &mut Met,
+) -> Result<Vec<u64>, String> {
+    let (second, steps) = expected::run(machine, calls);
+    let lent = if rng.chance(80) { ROOMS } else { rng.below(ROOMS) };
+    let (proved, answers, rooms) = proved::run_telling(job, tables, calls, DIRTY, lent);
+    same("start", proved, 0)?;
+    same(&format!("answers to calls {calls:?}"), &answers, &second)?;
+    let mut told = expected::rooms(machine.rooms(), steps);
+    told[lent..].fill(DIRTY);
+    met.meet(TOLD[(lent < ROOMS) as usize].to_string());
+    same(&format!("rooms and steps after calls {calls:?}"), rooms, told)?;
+    Ok(answers)
 }
 
 /// A run of a job that is not started.
@@ -272,15 +307,19 @@ fn compare_refused_run(
     let before = tables.clone();
     let (proved, answers, rooms) = proved::run(job, tables, &[Call::Step, Call::Step], 7);
     same("start", (proved, rooms[0]), (number as u64, place as u64))?;
+    same("no rooms without a start", rooms[1..].iter().all(|&word| word == DIRTY), true)?;
     same("no answers without a start", answers, vec![7; 4])?;
     met.meet(format!("not started {number:2}"));
     compare_session(job, &[Call::Step], rng, met)?;
     same_tables("after no start", tables.differs(&before, &Words::default(), RUN_TABLES))
 }
 
-/// Counts what the looks, sums, differences and divisions of a job come to within so many steps.
-fn meet_acts(job: &Job, accepted: bool, steps: u64, met: &mut Met) {
-    for act in acts(job, steps) {
+/// Counts what the looks, sums, differences and divisions of a job come to within so many steps, and its
+/// threads in some calls.
+fn meet_acts(job: &Job, accepted: bool, (steps, calls): (u64, &[Call]), met: &mut Met) {
+    let step = |call: &Call| if let Call::Run(steps) = *call { steps } else { 1 };
+    let calls: Vec<u64> = calls.iter().map(step).collect();
+    for act in acts(job, steps).into_iter().chain(turns::turns(job, &calls)) {
         met.meet(act.to_string());
         if accepted {
             met.meet(format!("accepted, {act}"));

@@ -1,7 +1,7 @@
 //! The proved code, and dirty tables to lend it.
 
 use jobdesk::lent::{self, Lent, Results};
-use jobdesk::{Call, LENGTHS};
+use jobdesk::{Call, LENGTHS, THREADS};
 use second::generate::Rng;
 
 use crate::words::Words;
@@ -125,21 +125,39 @@ pub fn check(job: &[u8], tables: &mut Tables) -> (u64, [u64; 2]) {
     (lent::check(job, lent, entries, effects, &mut out), out)
 }
 
+/// How many words there are of what a run tells: the room in use, and each thread's steps in the last
+/// call.
+pub const ROOMS: usize = 7 + THREADS;
+
 /// Starts a job and makes the calls: 0 or a refusal's number, the words of `answers`, which were
-/// `before`, and the six words of `rooms`.
+/// `before`, and those of `rooms`.
 pub fn run(
     job: &[u8],
     tables: &mut Tables,
     calls: &[Call],
     before: u64,
-) -> (u64, Vec<u64>, [u64; 6]) {
+) -> (u64, Vec<u64>, [u64; ROOMS]) {
+    run_telling(job, tables, calls, before, ROOMS)
+}
+
+/// The same with so many words of `rooms` lent.
+pub fn run_telling(
+    job: &[u8],
+    tables: &mut Tables,
+    calls: &[Call],
+    before: u64,
+    words: usize,
+) -> (u64, Vec<u64>, [u64; ROOMS]) {
     let calls: Vec<u64> = calls.iter().map(|call| call.word()).collect();
     let mut answers = vec![before; 2 * calls.len()];
-    let mut rooms = [0xDEAD; 6];
+    let mut rooms = [DIRTY; ROOMS];
     let (lent, _, _) = tables.lend();
-    let number = lent::run(job, lent, &calls, &mut answers, &mut rooms);
+    let number = lent::run(job, lent, &calls, &mut answers, &mut rooms[..words]);
     (number, answers, rooms)
 }
+
+/// What words hold that a run does not write.
+pub const DIRTY: u64 = 0xDEAD;
 
 /// The least lengths of what a session gives, after the answers: value, cells, out.
 pub const RESULTS: [usize; 3] = [2, 512, 2];

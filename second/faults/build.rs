@@ -7,7 +7,7 @@ use std::path::{Path, PathBuf};
 use std::{env, fs};
 
 /// The files of edits, each named after the file that its edits change unless they say another.
-const PARTS: [&str; 6] = ["read", "tree", "check", "machine", "write", "sheet"];
+const PARTS: [&str; 7] = ["read", "tree", "check", "thread", "machine", "write", "sheet"];
 
 /// A text to be put in place of another.
 #[derive(Default)]
@@ -105,6 +105,12 @@ fn edited(fault: &Fault, sources: &Path) -> BTreeMap<String, String> {
         let found = text.matches(old.as_str()).count();
         assert_eq!(found, 1, "fault {}: this is not in {file} once:\n{old}", fault.number);
         *text = text.replacen(old, new, 1);
+    }
+    if made.contains_key("thread") {
+        // The machine has threads, and must have these.
+        let machine = made.entry("machine".to_string());
+        let text = machine.or_insert_with(|| text_of(&sources.join("machine.rs")));
+        *text = text.replacen("use crate::thread::", "use super::thread::", 1);
     }
     made
 }

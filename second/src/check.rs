@@ -1,4 +1,4 @@
-//! The check: least types and effects, refusals 11 to 14.
+//! The check: least types and effects, refusals 11 to 14 and 16.
 
 use crate::job::*;
 use crate::names::Names;
@@ -178,6 +178,7 @@ impl Checker<'_> {
             Expr::Associate(value, key) => return self.associate(value, key),
             Expr::Look(key, a, b, ty) => return self.look(key, a, b, ty),
             Expr::Divide(dividend, divisor) => return self.divide(dividend, divisor),
+            Expr::Spawn(body) => return self.spawn(body),
         })
     }
 
@@ -304,6 +305,15 @@ impl Checker<'_> {
         let part = self.make(Shape::Number, 0).entry;
         Ok(self.make(Shape::Pair(part, part), divided | dividing))
     }
+
+    /// A thread has no keys, so its body must need none. Its value is dropped.
+    #[inline(always)]
+    fn spawn(&mut self, body: u16) -> Result<Typed, u32> {
+        if self.of(body).effect != 0 {
+            return Err(16);
+        }
+        Ok(self.make(Shape::Number, 0))
+    }
 }
 
 /// Subtypes.
@@ -364,7 +374,8 @@ fn types_made(expr: &Expr) -> usize {
         | Expr::NewCell(..)
         | Expr::Sum(..)
         | Expr::Difference(..)
-        | Expr::Associate(..) => 1,
+        | Expr::Associate(..)
+        | Expr::Spawn(_) => 1,
         Expr::Divide(..) => 2,
         _ => 0,
     }

@@ -47,6 +47,8 @@ pub enum Code {
     Look(u16, u16, u16),
     /// Quotient and rest of two numbers.
     Divide(u16, u16),
+    /// A new thread, by its body.
+    Spawn(u16),
 }
 
 /// The code of a job: each variable becomes the binding of a host value or the number of bindings
@@ -96,5 +98,6 @@ fn untyped(expr: &Expr) -> Code {
         Expr::Associate(a, b) => Code::Associate(a, b),
         Expr::Look(a, b, c, _) => Code::Look(a, b, c),
         Expr::Divide(a, b) => Code::Divide(a, b),
+        Expr::Spawn(body) => Code::Spawn(body),
     }
 }

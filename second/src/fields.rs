@@ -180,5 +180,6 @@ fn head(expr: &Expr) -> (u8, u64) {
         Expr::Associate(..) => (0x3F, 0),
         Expr::Look(..) => (0x40, 0),
         Expr::Divide(..) => (0x41, 0),
+        Expr::Spawn(_) => (0x42, 0),
     }
 }

@@ -7,6 +7,7 @@ mod hosts;
 mod limits;
 mod looks;
 mod tables;
+mod threads;
 
 use crate::job::Job;
 use crate::write::bytes_of;
@@ -61,6 +62,8 @@ pub enum Source {
     Looks,
     /// Divisions, with keyed operands and such of wrong kinds.
     Divisions,
+    /// Threads, with work that they share and keys that they lack.
+    Threads,
     /// Many host names and host values, some of them used.
     Hosts,
     /// Near one of the limits.
@@ -78,13 +81,14 @@ pub fn desk_job(seed: u64) -> (Source, Vec<u8>) {
     let mut rng = Rng::new(seed);
     let rng = &mut rng;
     match rng.below(100) {
-        0..24 => (Source::Typed, bytes_of(&typed(rng))),
-        24..38 => (Source::Loop, bytes_of(&looped(rng))),
-        38..68 => {
+        0..22 => (Source::Typed, bytes_of(&typed(rng))),
+        22..35 => (Source::Loop, bytes_of(&looped(rng))),
+        35..64 => {
             let mut job = match rng.below(20) {
                 0..5 => looped(rng),
                 5 => looks::job(rng),
                 6 => divisions::job(rng),
+                7 => threads::job(rng),
                 _ => typed(rng),
             };
             for _ in 0..1 + rng.below(3) {
@@ -92,10 +96,11 @@ pub fn desk_job(seed: u64) -> (Source, Vec<u8>) {
             }
             (Source::Changed, bytes_of(&job))
         }
-        68..83 => {
+        64..78 => {
             let job = match rng.below(12) {
                 0 => looks::job(rng),
                 1 => divisions::job(rng),
+                2 => threads::job(rng),
                 _ => typed(rng),
             };
             let mut bytes = bytes_of(&job);
@@ -104,8 +109,9 @@ pub fn desk_job(seed: u64) -> (Source, Vec<u8>) {
             }
             (Source::Damaged, bytes)
         }
-        83..85 => (Source::Looks, bytes_of(&looks::job(rng))),
-        85..88 => (Source::Divisions, bytes_of(&divisions::job(rng))),
+        78..80 => (Source::Looks, bytes_of(&looks::job(rng))),
+        80..83 => (Source::Divisions, bytes_of(&divisions::job(rng))),
+        83..89 => (Source::Threads, bytes_of(&threads::job(rng))),
         _ => (Source::Limits, limits::job(rng)),
     }
 }
@@ -127,5 +133,5 @@ pub fn looped(rng: &mut Rng) -> Job {
     build::job(rng, true)
 }
 
-pub use limits::{heavy, ladder, largest, tower};
+pub use limits::{heavy, heavy_threads, ladder, largest, tower};
 pub use tables::{COMMANDS, MOST, Writing, commands, room, tables};

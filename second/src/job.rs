@@ -16,9 +16,9 @@ pub const UNUSED: u16 = 0xFFFF;
 /// Why and where a job is refused.
 #[derive(Clone, Copy, Debug, PartialEq, Eq)]
 pub struct Refusal {
-    /// 2 to 15.
+    /// 2 to 16.
     pub number: u32,
-    /// 2 to 7: an offset in the job's bytes; 8 to 14: the number of an expression; 15: 0.
+    /// 2 to 7: an offset in the job's bytes; 8 to 14 and 16: the number of an expression; 15: 0.
     pub place: u32,
 }
 
@@ -156,6 +156,8 @@ pub enum Expr {
     Associate(u16, u16),
     /// 41: a number divided by another; quotient and rest.
     Divide(u16, u16),
+    /// 42: a thread is started; body.
+    Spawn(u16),
 }
 
 /// What an expression binds, and where.
@@ -180,7 +182,8 @@ macro_rules! each_operand {
                 Expr::Part(a, _)
                 | Expr::Function(_, _, a)
                 | Expr::NewCell(_, a)
-                | Expr::Read(a) => take(a),
+                | Expr::Read(a)
+                | Expr::Spawn(a) => take(a),
                 Expr::Pair(a, b)
                 | Expr::Apply(a, b)
                 | Expr::Assign(a, b)

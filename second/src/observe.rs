@@ -10,7 +10,7 @@ use crate::machine::{Machine, runs};
 use crate::read::read;
 use crate::sheet::sheet;
 use crate::tree::tree;
-use crate::value::{Answer, Outcome, PAIRS, Rooms, Value};
+use crate::value::{Answer, Outcome, PAIRS, Rooms, THREADS, Value};
 use crate::verdict::Accepted;
 use crate::write::write;
 
@@ -19,12 +19,19 @@ use crate::write::write;
 pub struct Ran {
     /// What the run says.
     pub outcome: Outcome,
-    /// The steps taken.
-    pub steps: u64,
+    /// The steps that each thread took.
+    pub counts: [u64; THREADS],
     /// The room in use after it.
     pub rooms: Rooms,
     /// The value, where the machine has ended.
     pub result: Option<Value>,
+}
+
+impl Ran {
+    /// The steps that all threads took.
+    pub fn steps(&self) -> u64 {
+        self.counts.iter().sum()
+    }
 }
 
 /// All that is seen of a job.
@@ -43,7 +50,7 @@ pub struct Parts {
     pub read: fn(&[u8]) -> Result<Job, Refusal>,
     /// Refusals 8 to 10.
     pub tree: fn(&Job) -> Result<(), Refusal>,
-    /// Refusals 11 to 14.
+    /// Refusals 11 to 14 and 16.
     pub check: fn(&Job) -> Result<Accepted, Refusal>,
     /// The start and some runs.
     pub run: fn(&Job, &[u64]) -> Vec<Ran>,
@@ -72,8 +79,8 @@ pub fn observe(job: &[u8], steps: &[u64]) -> Seen {
     Parts::OWN.observe(job, steps)
 }
 
-/// The command that a refusal is at, in words; of 13 also that it is around a look or a division, and
-/// of 11 at a division for which operand.
+/// The command that a refusal is at, in words; of 13 also that it is around a look or a division, of
+/// 11 at a division for which operand, and where it stands to threads.
 pub fn refused_at(bytes: &[u8], refusal: Refusal) -> Vec<String> {
     let (number, place) = (refusal.number, refusal.place as usize);
     let mut words = Vec::new();
@@ -81,6 +88,7 @@ pub fn refused_at(bytes: &[u8], refusal: Refusal) -> Vec<String> {
         (8.., Ok(job)) => {
             let expr = job.exprs.get(place);
             words.extend(expr.map(|expr| format!("refused {number} at {}", expr.label())));
+            words.extend(beside_threads(&job, place).map(|how| format!("refused {number} {how}")));
             words.extend(match (number, expr) {
                 (11, Some(&Expr::Divide(dividend, _))) => {
                     Some(format!("refused 11 at Divide for its {}", wrong(&job, place, dividend)))
@@ -100,6 +108,28 @@ pub fn refused_at(bytes: &[u8], refusal: Refusal) -> Vec<String> {
         _ => {}
     }
     words
+}
+
+/// How an expression stands to the job's threads, if it has any.
+fn beside_threads(job: &Job, place: usize) -> impl Iterator<Item = &'static str> {
+    let is_spawn = |expr: &Expr| matches!(expr, Expr::Spawn(_));
+    let mut around = false;
+    job.exprs[place].each_operand(|&operand| around |= is_spawn(&job.exprs[operand as usize]));
+    let (mut inside, mut inner) = (false, place);
+    for (number, expr) in job.exprs.iter().enumerate().skip(place + 1) {
+        let mut uses = false;
+        expr.each_operand(|&operand| uses |= operand as usize == inner);
+        if uses {
+            inner = number;
+            inside |= is_spawn(expr);
+        }
+    }
+    let words = [
+        ("around Spawn", around),
+        ("inside Spawn", inside),
+        ("beside Spawn", job.exprs.iter().any(is_spawn)),
+    ];
+    words.into_iter().filter_map(|(word, holds)| holds.then_some(word))
 }
 
 /// The operand for which a division is refused: the dividend if it is no divisor either.
@@ -231,6 +261,16 @@ fn division(dividend: i64, divisor: i64) -> usize {
     }
 }
 
+/// Refusals at threads, around and inside them, and of jobs that have some.
+pub fn wanted_of_threads() -> Vec<String> {
+    let mut wanted: Vec<String> = (3..=6).map(|number| format!("refused {number} at 42")).collect();
+    wanted.extend([8, 16].map(|number| format!("refused {number} at Spawn")));
+    wanted.extend([11, 12].map(|number| format!("refused {number} around Spawn")));
+    wanted.extend([9, 10, 11, 12, 13, 16].map(|number| format!("refused {number} inside Spawn")));
+    wanted.push("refused 14 beside Spawn".to_string());
+    wanted
+}
+
 /// What must be met of looks, sums, differences and divisions.
 pub fn wanted_of_acts() -> Vec<String> {
     let mut wanted = wanted_of_looks();
@@ -268,8 +308,10 @@ impl fmt::Display for Ran {
     fn fmt(&self, f: &mut fmt::Formatter) -> fmt::Result {
         let r = self.rooms;
         let words = self.outcome.words();
-        write!(f, "{words} {} {} {} {}", self.steps, r.cells, r.keys, r.pairs)?;
-        write!(f, " {} {} {}", r.functions, r.frames, r.bindings)
+        write!(f, "{words} {} {} {} {}", self.steps(), r.cells, r.keys, r.pairs)?;
+        write!(f, " {} {} {}", r.functions, r.frames, r.bindings)?;
+        let counts: Vec<String> = self.counts.iter().take(r.threads).map(u64::to_string).collect();
+        write!(f, " threads {}: {}", r.threads, counts.join(","))
     }
 }
 

@@ -13,7 +13,7 @@ pub enum Section {
     Hosts,
     /// 21.
     Rights,
-    /// 30 to 41.
+    /// 30 to 42.
     Expressions,
     /// FF.
     End,
@@ -46,7 +46,7 @@ pub fn command(byte: u8) -> Option<(Section, usize)> {
         0x21 => (Section::Rights, 8),
         0x31 => (Section::Expressions, 0),
         0x32 => (Section::Expressions, 1),
-        0x39 => (Section::Expressions, 2),
+        0x39 | 0x42 => (Section::Expressions, 2),
         0x34 => (Section::Expressions, 3),
         0x30 | 0x33 | 0x36 | 0x37 | 0x38 | 0x3D | 0x3F | 0x41 => (Section::Expressions, 4),
         0x35 | 0x3A => (Section::Expressions, 5),
@@ -259,7 +259,8 @@ impl Reader {
             0x40 => {
                 Expr::Look(self.expr(o)?, self.expr(o)?, self.expr(o)?, self.ty(o.reference())?)
             }
-            _ => Expr::Divide(self.expr(o)?, self.expr(o)?),
+            0x41 => Expr::Divide(self.expr(o)?, self.expr(o)?),
+            _ => Expr::Spawn(self.expr(o)?),
         };
         self.0.exprs.push(expr);
         Some(())

@@ -62,7 +62,7 @@ pub fn wanted() -> Vec<String> {
     let lines = [&NAMES[..], &UPPERS, &YES, &NO, &CELLS, &BESIDE].concat();
     let mut wanted: Vec<String> =
         SHEETS.iter().chain(&lines).map(|word| word.to_string()).collect();
-    wanted.extend((2..=14).map(refused));
+    wanted.extend((2..=14).chain([16]).map(refused));
     wanted.extend(PLACES.map(place));
     wanted
 }

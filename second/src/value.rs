@@ -12,10 +12,12 @@ pub const KEYS: usize = 128;
 pub const PAIRS: usize = 512;
 /// The most functions there can be.
 pub const FUNCTIONS: usize = 512;
-/// The most frames there can be.
+/// The most frames that a thread can have.
 pub const FRAMES: usize = 256;
 /// The most bindings there can be.
 pub const BINDINGS: usize = 1024;
+/// The most threads that can be started, with thread 0.
+pub const THREADS: usize = 8;
 
 /// A value and the key it carries, in one word: kind, key, data.
 #[derive(Clone, Copy, Default, PartialEq, Eq)]
@@ -78,12 +80,13 @@ impl fmt::Debug for Value {
     }
 }
 
-/// What one step answers. Every answer but `Taken` leaves the machine as it was.
+/// What one turn answers: a step of the thread whose turn it is. Every answer but `Taken` leaves the
+/// machine as it was.
 #[derive(Clone, Copy, Debug, PartialEq, Eq)]
 pub enum Answer {
     /// The step is taken.
     Taken,
-    /// The job has ended with a value.
+    /// Every thread has ended with a value.
     Done,
     /// The step needs a place that is not there.
     NoRoom,
@@ -96,9 +99,9 @@ pub enum Answer {
 /// What a run says.
 #[derive(Clone, Copy, Debug, PartialEq, Eq)]
 pub enum Outcome {
-    /// The job has ended with a value.
+    /// Every thread has ended with a value.
     Done,
-    /// All steps asked for are taken, and the job has not ended.
+    /// All steps asked for are taken, and a thread has not ended.
     Spent,
     /// The next step needs a place that is not there.
     NoRoom,
@@ -122,7 +125,7 @@ impl Outcome {
 }
 
 /// How much of each kind of room is in use.
-#[derive(Clone, Copy, Debug, PartialEq, Eq)]
+#[derive(Clone, Copy, Debug, Default, PartialEq, Eq)]
 pub struct Rooms {
     /// Cells, with those of host values.
     pub cells: usize,
@@ -132,10 +135,14 @@ pub struct Rooms {
     pub pairs: usize,
     /// Functions that were made.
     pub functions: usize,
-    /// Frames of commands that wait for an operand.
+    /// Frames of commands that wait for an operand, in all threads.
     pub frames: usize,
     /// Bindings of variables and names.
     pub bindings: usize,
+    /// Threads, also those that have ended.
+    pub threads: usize,
+    /// Frames of the thread that has the most.
+    pub deepest: usize,
 }
 
 impl Rooms {
@@ -146,8 +153,9 @@ impl Rooms {
             (self.keys == KEYS, "keys"),
             (self.pairs == PAIRS, "pairs"),
             (self.functions == FUNCTIONS, "functions"),
-            (self.frames == FRAMES, "frames"),
+            (self.deepest == FRAMES, "frames"),
             (self.bindings >= BINDINGS - 1, "bindings"),
+            (self.threads == THREADS, "threads"),
         ]
         .into_iter()
         .filter_map(|(full, room)| full.then_some(room))

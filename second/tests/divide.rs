@@ -177,7 +177,7 @@ fn reading() {
     refused(&job(0, &format!("{one} 41 0000 0200")), 6, at);
     refused(&job(0, &format!("{one} 41 0200 0100")), 6, at);
     refused(&job(0, &format!("{one} 41 0000 0000")), 8, 0);
-    refused(&job(0, &format!("{one} 42 0000 0100")), 2, at);
+    refused(&job(0, &format!("{one} 43 0000 0100")), 2, at);
     let mut cut = job(0, &format!("{one} 41 0000 01"));
     cut.pop();
     refused(&cut, 4, at);

@@ -151,7 +151,7 @@ fn reading_and_scope() {
     refused(&cut, 4, place);
     refused(&job(0x00, &format!("{one} 40 0300 0100 0200 0000")), 6, place);
     refused(&job(0x00, &format!("{one} 40 0000 0100 0200 0900")), 6, place);
-    refused(&job(0x00, &format!("{one} 42 0000 0100 0200 0000")), 2, place);
+    refused(&job(0x00, &format!("{one} 43 0000 0100 0200 0000")), 2, place);
     refused(&job(0x00, &format!("{one} 40 0000 0100 0100 0000")), 8, 1);
     refused(&job(0x00, &format!("{one} 40 0000 0100 0200 0800")), 10, 3);
     let early = from_hex("1000 40 0000 0000 0000 0000").unwrap();

@@ -15,7 +15,7 @@ const ALL: &str = "0101 0202 1000 110000000000 12020000 130000000000040000000000
     200200 07000000 200400 00000000 210400000000000000
     3005000000 31 3200 3300000000 34000001 350200000000 3600000000 3700000000 3800000000 390000
     3A0000000000 3B0000000000000000 3C010000FFFFFFFFFFFF0000 3D00000000 3E0303000000000000
-    3F00000000 400000000000000000 4100000000 FF";
+    3F00000000 400000000000000000 4100000000 420000 FF";
 
 fn all() -> (Vec<u8>, Fields) {
     let bytes = from_hex(ALL).expect("hexadecimal digits");
@@ -111,7 +111,7 @@ fn no_command_is_2() {
         }
         // Also with fields that are too wide.
         let wide = |command: &mut u64, own: &mut [u64]| {
-            *command = 0x42;
+            *command = 0x43;
             own.fill(u64::MAX);
         };
         refused(&with(&fields, (table, number), wide), 2, at);
@@ -169,7 +169,7 @@ fn a_broken_condition_is_6() {
         (3, 2, 0, 64), (3, 3, 2, 3), (3, 4, 0, 0), (3, 4, 0, 3), (3, 5, 0, 1), (3, 5, 3, 6),
         (3, 7, 3, 6), (3, 9, 2, 9), (3, 10, 0, 2), (3, 12, 0, 5), (3, 12, 0, 2), (3, 12, 3, 0),
         (3, 12, 5, 0), (3, 12, 5, 0xFFFE), (3, 12, 6, 0xFFFF), (3, 14, 0, 1), (3, 14, 1, 2),
-        (3, 14, 1, 1), (3, 16, 5, 6),
+        (3, 14, 1, 1), (3, 16, 5, 6), (3, 18, 2, 18),
     ];
     for (table, number, field, value) in breaks {
         let broken = with(&fields, (table, number), |_, own| own[field] = value);
@@ -185,7 +185,7 @@ fn a_type_of_depth_17_is_6() {
     let (_, mut fields) = all();
     fields.counts[1] = 17;
     fields.counts[2] = 0;
-    fields.resize([2, 17, 0, 18]);
+    fields.resize([2, 17, 0, 19]);
     for number in 0..17 {
         let (command, own) = fields.entry_mut(1, number);
         *command = if number == 0 { 0x10 } else { 0x12 };
@@ -231,7 +231,7 @@ fn one_entry_more_than_a_limit_is_5() {
             let mut above = fields.clone();
             above.counts[table] = count;
             // Whatever the entry past the limit holds.
-            for byte in [0, 0x42, 0x100, 0xFF, 0x21, 0x01, 0x10, 0x20, 0x31, u64::MAX] {
+            for byte in [0, 0x43, 0x100, 0xFF, 0x21, 0x01, 0x10, 0x20, 0x31, u64::MAX] {
                 let (command, own) = above.entry_mut(table, most);
                 *command = byte;
                 own.fill(if byte > 0x30 { u64::MAX } else { 1 });
@@ -256,7 +256,7 @@ fn the_first_fault_decides() {
     let (_, fields) = all();
     let list = entries(&fields);
     let faults: [(u32, Change); 3] = [
-        (2, |command, _| *command = 0x42),
+        (2, |command, _| *command = 0x43),
         (3, |command, _| *command = 0x21),
         (6, |_, own| own.fill(u64::MAX)),
     ];

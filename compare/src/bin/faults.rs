@@ -8,22 +8,27 @@ use std::process::ExitCode;
 use compare::expected;
 use compare::lending::Lending;
 use compare::probe::probe;
-use compare::proved::{self, Tables};
+use compare::proved::{self, Held, RESULTS, ROOMS, Tables};
 use compare::words::{kind, set_word, type_word};
 use jobdesk::{Call, LENGTHS};
 use second::fields::TypeEntry;
 use second::generate::{Rng, Writing, job};
 use second::observe::{Ran, Seen, observe};
-use second::{Fields, Kind, Refusal, read, sheet, write};
+use second::{Expr, Fields, Kind, Refusal, read, sheet, write};
 use second_faults::{ALL, Fault, Told};
 
 /// What is seen of a job on either side.
 #[derive(PartialEq, Eq)]
 struct Observed {
     verdict: Verdict,
-    /// Answers and rooms, or number and place of a refusal.
-    runs: Result<(Vec<u64>, [u64; 6]), (u64, u64)>,
+    /// What is told, or number and place of a refusal.
+    runs: Result<Runs, (u64, u64)>,
+    /// The value of an accepted job at the end.
+    value: [u64; 2],
 }
+
+/// The answers to calls, and rooms with the steps of each thread.
+type Runs = (Vec<u64>, Vec<[u64; ROOMS]>);
 
 #[derive(PartialEq, Eq)]
 enum Verdict {
@@ -37,8 +42,9 @@ enum Verdict {
     Refused(u64, u64),
 }
 
-/// What the proved code does.
-fn proved(job: &[u8], steps: &[u64], tables: &mut Tables) -> Observed {
+/// What the proved code does. Rooms and the steps of each thread are told after the last call alone; so
+/// of a job with threads, calls are made again and again, each time with one more.
+fn proved(job: &[u8], steps: &[u64], threads: bool, tables: &mut Tables) -> Observed {
     let verdict = match proved::check(job, tables) {
         (0, [entry, effect]) => {
             // No type word and no head is zero.
@@ -57,14 +63,26 @@ fn proved(job: &[u8], steps: &[u64], tables: &mut Tables) -> Observed {
     };
     let calls: Vec<Call> = steps.iter().map(|&steps| Call::Run(steps)).collect();
     let runs = match proved::run(job, tables, &calls, 0) {
-        (0, answers, rooms) => Ok((answers, rooms)),
+        (0, answers, rooms) => {
+            let made = if threads { 1..calls.len() } else { 0..0 };
+            let before = made.map(|made| proved::run(job, tables, &calls[..made], 0).2);
+            Ok((answers, before.chain([rooms]).collect()))
+        }
         (number, _, rooms) => Err((number, rooms[0])),
     };
-    Observed { verdict, runs }
+    Observed { verdict, runs, value: value(job, &calls, tables) }
+}
+
+/// The value that a session ends with.
+fn value(job: &[u8], calls: &[Call], tables: &mut Tables) -> [u64; 2] {
+    let mut held = Held::dirty(calls.len(), &mut Rng::new(1));
+    let lengths = [2 * calls.len(), RESULTS[0], RESULTS[1], RESULTS[2]];
+    proved::session(job, tables, calls, &mut held, lengths);
+    [held.value[0], held.value[1]]
 }
 
 /// What the second implementation does, in the same words.
-fn second(seen: &Seen) -> Observed {
+fn second(seen: &Seen, threads: bool) -> Observed {
     let verdict = match &seen.verdict {
         Ok(accepted) => Verdict::Accepted {
             last: (accepted.entry as u64, Some(accepted.kind), accepted.effect),
@@ -77,18 +95,23 @@ fn second(seen: &Seen) -> Observed {
     };
     let runs = match &seen.runs {
         Ok(runs) => {
-            let answer = |run: &Ran| [expected::outcome(run.outcome).number(), run.steps];
+            let answer = |run: &Ran| [expected::outcome(run.outcome).number(), run.steps()];
             let answers = runs.iter().flat_map(answer).collect();
-            Ok((answers, runs.last().map_or([0; 6], |run| expected::rooms(run.rooms))))
+            let told = if threads { &runs[..] } else { &runs[runs.len() - 1..] };
+            let rooms = told.iter().map(|run| expected::rooms(run.rooms, run.counts));
+            Ok((answers, rooms.collect()))
         }
         Err(refusal) => Err((refusal.number as u64, refusal.place as u64)),
     };
-    Observed { verdict, runs }
+    let last = seen.runs.iter().flatten().last().filter(|_| seen.verdict.is_ok());
+    Observed { verdict, runs, value: expected::value(last.and_then(|run| run.result)) }
 }
 
 struct Case {
     job: Vec<u8>,
     steps: Vec<u64>,
+    /// Whether it starts threads.
+    threads: bool,
     proved: Observed,
     /// The sheet that the proved code gives.
     sheet: String,
@@ -103,19 +126,21 @@ fn cases(seed: u64, tables: &mut Tables, cases: &mut Vec<Case>) {
         let whole = observe(&job, &[100_000]);
         let (mut taken, mut result) = (0, None);
         if let Ok(runs) = whole.runs {
-            (taken, result) = (runs[0].steps, runs[0].result);
+            (taken, result) = (runs[0].steps(), runs[0].result);
         }
         next = result.and_then(|value| probe(&read(&job).ok()?, value, &mut rng));
-        let steps = vec![0, taken / 2, taken - taken / 2, 0, 3];
-        let proved = proved(&job, &steps, tables);
+        let steps = vec![0, taken / 2, taken - taken / 2, 0, 3, 2];
+        let spawns = |expr: &Expr| matches!(expr, Expr::Spawn(_));
+        let threads = read(&job).is_ok_and(|job| job.exprs.iter().any(spawns));
+        let proved = proved(&job, &steps, threads, tables);
         let sheet = jobdesk::sheet(&job).text().to_string();
-        cases.push(Case { job, steps, proved, sheet });
+        cases.push(Case { job, steps, threads, proved, sheet });
     }
 }
 
 /// Whether what is seen of a job by the second implementation is not what the proved code does.
 fn differs(case: &Case, seen: Seen) -> bool {
-    second(&seen) != case.proved
+    second(&seen, case.threads) != case.proved
 }
 
 /// What writing gives: the bytes, or number and place of a refusal.

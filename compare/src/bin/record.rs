@@ -6,9 +6,11 @@
 use std::collections::HashMap;
 use std::process::ExitCode;
 
+use second::desk::STEPS;
 use second::generate::{desk_job, example};
 use second::observe::{acts, refused_at};
-use second::{Machine, Outcome, check, desk, read};
+use second::turns::turns;
+use second::{Accepted, Expr, Job, Machine, Outcome, Refusal, check, desk, read};
 
 /// The seeds that are tried, the cases wanted, and the bytes that all may take.
 const SEEDS: std::ops::Range<u64> = 1..40_000;
@@ -17,42 +19,66 @@ const BYTES: usize = 65_536;
 /// The end of the file, in place of a length.
 const END: u16 = 0xFFFF;
 
+/// What must come up of threads in accepted jobs, and the kinds of room that must be used up.
+const THREADS: [&str; 11] = [
+    "2 threads",
+    "8 threads",
+    "a thread is started within a round",
+    "a thread is started by another than thread 0",
+    "a thread reads what another has assigned",
+    "a thread takes a look's second branch",
+    "done, and thread 0 was the first to end",
+    "done, and thread 0 was the last to end",
+    "no room in a thread",
+    "no room for frames in a thread",
+    "no room for a thread in a thread",
+];
+const ROOMS: [&str; 7] = ["cells", "keys", "pairs", "functions", "frames", "bindings", "threads"];
+
 /// What a job shows, as words; cases are chosen so that each word comes up some times.
 fn shows(job: &[u8]) -> Vec<String> {
-    let mut words = Vec::new();
-    match check(job) {
-        Err(refusal) => {
-            words.push(format!("refused {}", refusal.number));
-            // Jobs that are full of expressions are long.
-            let byte = job.get(refusal.place as usize);
-            if refusal.number != 5 || byte.is_none_or(|&byte| byte <= 0x30) {
-                words.extend(refused_at(job, refusal));
-            }
-        }
-        Ok(accepted) => {
-            let Ok(mut machine) = Machine::start(job) else { return words };
-            let (outcome, _) = machine.run(second::desk::STEPS);
-            words.push(outcome.words().to_string());
-            words.push(format!("accepted as {}", accepted.kind.word()));
-            if let (Outcome::Done, Some(value)) = (outcome, machine.result()) {
-                words.push(format!("done with {}", value.kind().word()));
-            }
-            if outcome == Outcome::NoRoom
-                && let [room] = machine.rooms().full()[..]
-            {
-                words.push(format!("no room in {room}"));
-            }
-            let pure = if accepted.effect == 0 { "no" } else { "an" };
-            let Ok(job) = read(job) else { return words };
-            for expr in &job.exprs {
-                words.push(format!("accepted with {}, {pure} effect", expr.label()));
-            }
-            let acts = acts(&job, second::desk::STEPS);
-            words.extend(acts.iter().map(|act| format!("accepted, {act}")));
-        }
-    }
+    let mut words = match check(job) {
+        Err(refusal) => refused(job, refusal),
+        Ok(accepted) => match (Machine::start(job), read(job)) {
+            (Ok(machine), Ok(job)) => runs(machine, &job, &accepted),
+            _ => Vec::new(),
+        },
+    };
     words.sort();
     words.dedup();
+    words
+}
+
+fn refused(job: &[u8], refusal: Refusal) -> Vec<String> {
+    let mut words = vec![format!("refused {}", refusal.number)];
+    // Jobs that are full of expressions are long.
+    let byte = job.get(refusal.place as usize);
+    if refusal.number != 5 || byte.is_none_or(|&byte| byte <= 0x30) {
+        // How it stands to threads would bring in too many.
+        let at = refused_at(job, refusal).into_iter();
+        words.extend(at.filter(|word| !word.ends_with("side Spawn")));
+    }
+    words
+}
+
+/// The same of an accepted job.
+fn runs(mut machine: Machine, job: &Job, accepted: &Accepted) -> Vec<String> {
+    let (outcome, _) = machine.run(STEPS);
+    let mut words = vec![outcome.words().to_string()];
+    words.push(format!("accepted as {}", accepted.kind.word()));
+    if let (Outcome::Done, Some(value)) = (outcome, machine.result()) {
+        words.push(format!("done with {}", value.kind().word()));
+    }
+    if outcome == Outcome::NoRoom
+        && let [room] = machine.rooms().full()[..]
+    {
+        words.push(format!("no room in {room}"));
+    }
+    let pure = if accepted.effect == 0 { "no" } else { "an" };
+    let with = |expr: &Expr| format!("accepted with {}, {pure} effect", expr.label());
+    words.extend(job.exprs.iter().map(with));
+    let (acts, turns) = (acts(job, STEPS), turns(job, &[STEPS]));
+    words.extend(acts.iter().chain(&turns).map(|act| format!("accepted, {act}")));
     words
 }
 
@@ -93,23 +119,41 @@ fn jobs() -> Vec<Shown> {
     jobs.into_iter().map(shown).collect()
 }
 
+/// What must come up.
+fn must() -> Vec<String> {
+    let refused = (2..=14).chain([16]);
+    let mut must: Vec<String> = refused.map(|number| format!("refused {number}")).collect();
+    must.extend(["done", "spent", "no room"].map(str::to_string));
+    must.extend(ROOMS.map(|room| format!("no room in {room}")));
+    let looks = ["first", "second"].map(|branch| format!("look takes its {branch} branch"));
+    let reckoned = ["sum above 4294967295", "difference below 0"];
+    let divided = ["by 0", "by a higher number", "with a rest", "without a rest", "has no room"];
+    let divided = divided.map(|act| format!("divide {act}"));
+    let acts = reckoned.into_iter().chain(THREADS).map(str::to_string);
+    let acts = acts.chain(looks).chain(divided);
+    must.extend(acts.map(|act| format!("accepted, {act}")));
+    must
+}
+
 /// The cases that were chosen, and how often each word came up.
 struct Chosen {
     out: Vec<u8>,
     cases: usize,
     shown: HashMap<String, usize>,
+    must: Vec<String>,
 }
 
 impl Chosen {
     /// The printed example, with the right that it needs and without.
     fn new() -> Self {
         let out = [4, 0].into_iter().filter_map(|rights| case(&example(rights))).flatten();
-        Chosen { out: out.collect(), cases: 2, shown: HashMap::new() }
+        Chosen { out: out.collect(), cases: 2, shown: HashMap::new(), must: must() }
     }
 
-    /// Whether a word may bring in one more case in a round.
-    fn few(&self, word: &str, round: usize) -> bool {
-        self.shown.get(word).copied().unwrap_or(0) < most(word, round)
+    /// Whether a word may bring in one more case in a round; in the first, only one that must.
+    fn few(&self, word: &String, round: usize) -> bool {
+        let most = if round == 0 { self.must.contains(word) as usize } else { most(word, round) };
+        self.shown.get(word).copied().unwrap_or(0) < most
     }
 
     /// Takes a job in if it shows something that came up seldom; whether it is to be tried again.
@@ -133,23 +177,14 @@ impl Chosen {
     }
 
     /// Prints what came up; the words that must have, and have not.
-    fn report(&self) -> Vec<String> {
+    fn report(&self) -> Vec<&String> {
         let mut report: Vec<_> = self.shown.iter().collect();
         report.sort();
         for (word, times) in &report {
             println!("{times:5} {word}");
         }
         println!("{} cases, {} bytes", self.cases, self.out.len());
-        let mut must: Vec<String> = (2..=14).map(|number| format!("refused {number}")).collect();
-        must.extend(["done", "spent", "no room"].map(str::to_string));
-        must.extend(["first", "second"].map(|b| format!("accepted, look takes its {b} branch")));
-        let reckoned = ["sum above 4294967295", "difference below 0"];
-        let divided = ["by 0", "by a higher number", "with a rest", "without a rest"];
-        must.extend(reckoned.map(|act| format!("accepted, {act}")));
-        must.extend(divided.map(|act| format!("accepted, divide {act}")));
-        must.push("accepted, divide has no room".to_string());
-        must.retain(|word| !self.shown.contains_key(word));
-        must
+        self.must.iter().filter(|word| !self.shown.contains_key(*word)).collect()
     }
 }
 
@@ -160,8 +195,8 @@ fn main() -> ExitCode {
     };
     let mut jobs = jobs();
     let mut chosen = Chosen::new();
-    // In each round every word may come up some times more.
-    for round in 1..=20 {
+    // After the first one every word may come up some times more in each round.
+    for round in 0..=20 {
         jobs.retain(|job| chosen.consider(job, round));
     }
     chosen.out.extend(END.to_le_bytes());

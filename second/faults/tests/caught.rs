@@ -12,7 +12,7 @@ fn told(by: Told) -> impl Iterator<Item = &'static Fault> {
 
 #[test]
 fn every_fault_is_caught() {
-    let steps = [0, 40, 40, 2_000, 100_000, 3];
+    let steps = [0, 40, 0, 41, 2_000, 100_000, 3];
     let cases: Vec<_> = (1..12_000).map(|seed| job(seed).1).collect();
     let seen: Vec<_> = cases.iter().map(|job| observe(job, &steps)).collect();
     for fault in told(Told::Jobs) {
@@ -45,5 +45,5 @@ fn every_fault_of_the_sheet_is_caught() {
 #[test]
 fn faults_have_numbers_of_their_own() {
     assert!(ALL.is_sorted_by(|a, b| a.number < b.number));
-    assert_eq!(ALL.len(), 540);
+    assert_eq!(ALL.len(), 705);
 }

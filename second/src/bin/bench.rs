@@ -4,7 +4,7 @@
 use std::hint::black_box;
 use std::time::Instant;
 
-use second::generate::{Rng, heavy, job, ladder, looped, tower, typed};
+use second::generate::{Rng, heavy, heavy_threads, job, ladder, looped, tower, typed};
 use second::{Machine, bytes_of, check};
 
 /// The least time of several tries, in nanoseconds for each of `count`.
@@ -20,16 +20,19 @@ fn time(count: u64, mut work: impl FnMut()) -> f64 {
 /// The steps of a run.
 const STEPS: u64 = 100_000;
 
-/// Times a step of a run of sums, and the start of that job.
-fn sums() {
+/// Times a step of a run of differences, by one thread and by eight, and the start of that job.
+fn differences() {
     let heavy = bytes_of(&heavy(40));
-    let fresh = Machine::start(&heavy).expect("a job that starts");
-    let mut machine = fresh.clone();
-    let step = time(STEPS, || {
-        machine.clone_from(&fresh);
-        black_box(machine.run(black_box(STEPS)));
-    });
-    println!("step of a run of sums:    {step:8.2} ns");
+    for (what, job) in [("run", heavy.clone()), ("eight threads", bytes_of(&heavy_threads(40, 8)))]
+    {
+        let fresh = Machine::start(&job).expect("a job that starts");
+        let mut machine = fresh.clone();
+        let step = time(STEPS, || {
+            machine.clone_from(&fresh);
+            black_box(machine.run(black_box(STEPS)));
+        });
+        println!("step of {what:18}{step:8.2} ns");
+    }
     let start = time(100, || {
         for _ in 0..100 {
             black_box(Machine::start(black_box(&heavy)).is_ok());
@@ -64,7 +67,7 @@ fn checks(what: &str, jobs: &[Vec<u8>]) {
 }
 
 fn main() {
-    sums();
+    differences();
     mixed();
     let mut rng = Rng::new(8);
     let large: Vec<Vec<u8>> = std::iter::repeat_with(|| bytes_of(&typed(&mut rng)))

@@ -1,10 +1,11 @@
 //! Compares the desk, the check, the machine, writing and the sheet with files of cases.
 //!
 //! `cases desk FILE`: job in hexadecimal, tab, the desk's lines joined by ` | `.
-//! `cases machine FILE`: job, tab, steps asked for, tab, the run's words and the rooms in use.
+//! `cases machine FILE`: job, tab, steps asked for, tab, the run's words and the rooms in use, and, if
+//! they are there, the count of threads and the steps of each.
 //! `cases queries FILE`: job, tab, query, tab, answer. A query is `desk`, `machine STEPS`,
 //! `sheet`; `dump`: the type table, and each expression's entry and effect; `calls CALL...`, a call
-//! being `s` for a step or `rSTEPS` for a run: the answers, the value at the end and the cells; or
+//! being `s` for a turn or `rSTEPS` for a run: the answers, the value at the end and the cells; or
 //! `back` or `back ROOM`: the job read and written back, with room enough or for so many bytes, is
 //! the same or refused. Other queries are passed over.
 #![forbid(unsafe_code)]
@@ -30,11 +31,14 @@ fn joined(printed: &str) -> String {
     printed.lines().collect::<Vec<_>>().join(" | ")
 }
 
+/// What parts the rooms in use from the threads.
+const THREADS: &str = " threads ";
+
 fn machine_answer(job: &[u8], steps: u64) -> String {
     match Machine::start(job) {
         Ok(mut machine) => {
-            let (outcome, steps) = machine.run(steps);
-            Ran { outcome, steps, rooms: machine.rooms(), result: machine.result() }.to_string()
+            let (outcome, counts) = machine.run_threads(steps);
+            Ran { outcome, counts, rooms: machine.rooms(), result: machine.result() }.to_string()
         }
         Err(refusal) => refused(refusal),
     }
@@ -133,7 +137,10 @@ fn case(kind: &str, line: &str) -> Line {
         _ => return Line::NoCase,
     };
     match from_hex(job).map(|job| answer(&job, &query)) {
-        Some(Some(got)) => Line::Case(expected.to_string(), got),
+        Some(Some(got)) => {
+            let rooms = got.split(THREADS).next().filter(|_| !expected.contains(THREADS));
+            Line::Case(expected.to_string(), rooms.unwrap_or(&got).to_string())
+        }
         Some(None) if kind == "queries" => Line::PassedOver,
         _ => Line::NoCase,
     }

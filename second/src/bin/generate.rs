@@ -10,8 +10,8 @@ use std::collections::{BTreeMap, BTreeSet};
 use std::process::ExitCode;
 
 use second::generate::{job, tables};
-use second::observe::{acts, made, observe, refused_at, wanted_of_acts};
-use second::{Expr, Outcome, desk, read, shown, to_hex, tree, write, written};
+use second::observe::{acts, made, observe, refused_at, wanted_of_acts, wanted_of_threads};
+use second::{Expr, Outcome, desk, read, shown, to_hex, tree, turns, write, written};
 
 /// How often each thing was reached.
 type Reached = BTreeMap<String, u64>;
@@ -40,7 +40,8 @@ fn reach(seed: u64, reached: &mut Reached) {
         let kinds: BTreeSet<&str> = job.types.iter().map(|ty| ty.kind().word()).collect();
         kinds.into_iter().for_each(|kind| reach(format!("accepted with type {kind}")));
     }
-    reach_acts(&job, seen.verdict.is_ok(), &mut reach);
+    let taken = seen.runs.as_ref().map_or(0, |runs| runs[0].steps());
+    reach_acts(&job, seen.verdict.is_ok(), taken, &mut reach);
     shown::words(&job).into_iter().for_each(&mut reach);
     for run in seen.runs.iter().flatten() {
         let accepted = if seen.verdict.is_ok() { "accepted" } else { "refused" };
@@ -53,10 +54,13 @@ fn reach(seed: u64, reached: &mut Reached) {
     }
 }
 
-/// Counts what the looks, sums, differences and divisions of a job come to, if it starts.
-fn reach_acts(job: &[u8], accepted: bool, mut reach: impl FnMut(String)) {
-    let formed = read(job).and_then(|job| tree(&job).map(|()| job));
-    for act in formed.iter().flat_map(|job| acts(job, 100_000)) {
+/// Counts what the looks, sums, differences, divisions and threads of a job come to that takes so many
+/// steps, if it starts.
+fn reach_acts(job: &[u8], accepted: bool, taken: u64, mut reach: impl FnMut(String)) {
+    let Ok(job) = read(job).and_then(|job| tree(&job).map(|()| job)) else { return };
+    let half = taken / 2;
+    let calls = [half, 1, taken - half, 1, 3];
+    for act in acts(&job, 100_000).into_iter().chain(turns::turns(&job, &calls)) {
         reach(act.to_string());
         if accepted {
             reach(format!("accepted, {act}"));
@@ -73,14 +77,17 @@ fn reach_writing(seed: u64, reached: &mut Reached) {
 
 /// What must be reached.
 fn wanted() -> Vec<String> {
-    let mut wanted: Vec<String> = (2..=14).map(|n| format!("verdict refused {n:2}")).collect();
+    let refused = (2..=14).chain([16]);
+    let mut wanted: Vec<String> = refused.map(|n| format!("verdict refused {n:2}")).collect();
     wanted.extend(["done", "spent", "no room"].map(|w| format!("outcome of accepted {w}")));
     wanted.extend(["stuck", "denied"].map(|w| format!("outcome of refused {w}")));
     wanted.extend(
-        ["cells", "keys", "pairs", "functions", "frames", "bindings"]
+        ["cells", "keys", "pairs", "functions", "frames", "bindings", "threads"]
             .map(|room| format!("no room in {room} alone")),
     );
     wanted.extend(wanted_of_acts());
+    wanted.extend(wanted_of_threads());
+    wanted.extend(turns::wanted());
     wanted.extend(shown::wanted());
     wanted.extend(written::wanted(|_, _| true, true));
     wanted

@@ -284,6 +284,7 @@ impl<'r> Builder<'r> {
                 }
                 (ty, self.touched(a) | self.touched(b))
             }
+            Expr::Spawn(body) if self.of(body).effect == 0 => (self.number(), 0),
             _ => return self.typed_by_keys(expr),
         })
     }
@@ -547,7 +548,7 @@ impl<'r> Builder<'r> {
         if self.nodes.len() > 700 {
             return None;
         }
-        match self.rng.below(20) {
+        match self.rng.below(21) {
             0 => self.pair(fuel),
             1 => {
                 let pair = self.of_kind(Kind::Pair, fuel)?;
@@ -567,6 +568,7 @@ impl<'r> Builder<'r> {
                 self.reckoned(a, b)
             }
             19 => self.divided(fuel),
+            20 => self.spawn(fuel),
             14..17 => self.new_key(fuel),
             around => {
                 let keyed = matches!(around, 12 | 13 | 18);
@@ -590,6 +592,21 @@ impl<'r> Builder<'r> {
     fn divided(&mut self, fuel: usize) -> Option<Node> {
         let (a, b) = (self.of_kind(Kind::Number, fuel)?, self.of_kind(Kind::Number, fuel)?);
         self.add(Expr::Divide(a, b))
+    }
+
+    /// A thread whose body mostly has no effect.
+    fn spawn(&mut self, fuel: usize) -> Option<Node> {
+        let mut body = self.any(fuel);
+        if self.of(body).effect != 0 && self.rng.chance(60) {
+            body = self.grant(body)?;
+        }
+        let expr = Expr::Spawn(body);
+        if self.of(body).effect != 0 && self.rng.chance(30) {
+            let ty = self.number();
+            self.nodes.push(Made { expr, ty, effect: 0 });
+            return Some(self.nodes.len() as Node - 1);
+        }
+        self.add(expr)
     }
 
     fn applied(&mut self, fuel: usize) -> Option<Node> {
@@ -999,7 +1016,7 @@ impl<'r> Builder<'r> {
     /// A number worked out in each turn of a loop; it mostly uses up one kind of room.
     fn load(&mut self) -> Option<Node> {
         let number = self.number();
-        match self.rng.below(9) {
+        match self.rng.below(10) {
             0 => Some(self.some_number()),
             1 => {
                 let value = self.some_number();
@@ -1015,6 +1032,7 @@ impl<'r> Builder<'r> {
                 self.add(Expr::Part(pair, 1))
             }
             3 => self.function_load(),
+            9 => self.spawn(2),
             4 | 5 => self.key_load(),
             6 => {
                 let mut sum = self.some_number();

@@ -162,8 +162,10 @@ fn swap_operands(rng: &mut Rng, job: &mut Job) {
 fn other_command(rng: &mut Rng, mut expr: Expr) -> Expr {
     match expr {
         Expr::Part(a, _) => Expr::Read(a),
-        Expr::Read(a) => match rng.below(2) {
+        Expr::Read(a) | Expr::Spawn(a) => match rng.below(4) {
             0 => Expr::Part(a, 1),
+            1 => Expr::Read(a),
+            2 => Expr::Spawn(a),
             _ => Expr::Limit(0, [UNUSED; 4], a),
         },
         Expr::Limit(count, mut keys, body) if count > 0 => {

@@ -8,7 +8,7 @@ use crate::write::bytes_of;
 /// A job at a limit, or one past it, or near a condition of the reader or of scopes.
 pub fn job(rng: &mut Rng) -> Vec<u8> {
     let past = rng.below(2);
-    match rng.below(30) {
+    match rng.below(33) {
         0 => repeated(rng, &[], &[0x01, 1], &[0x01, 0], 62 + past),
         1 => repeated(rng, &[], &[0x10, 0], &[0x10, 77], 256 + past),
         2 => {
@@ -16,7 +16,7 @@ pub fn job(rng: &mut Rng) -> Vec<u8> {
             let (good, bad) = ([0x20, 1, 0, 7, 0, 0, 0], [0x20, 2, 0, 7, 0, 0, 0]);
             repeated(rng, &cell, &good, &bad, 64 + past)
         }
-        3 => towering(rng, 511 + past),
+        3 | 30 => towering(rng, 511 + past),
         4 => bytes_of(&tower(240 + rng.below(40))),
         5 => {
             let depth = 15 + rng.below(3);
@@ -28,8 +28,9 @@ pub fn job(rng: &mut Rng) -> Vec<u8> {
         10 => host_values(rng),
         11 => full(rng),
         12..18 => bytes_of(&brink(rng)),
-        18 | 19 => misplaced(rng),
-        20..28 => edited(rng),
+        18..21 => misplaced(rng),
+        21..28 => edited(rng),
+        28 | 29 => bytes_of(&compared(rng)),
         _ => bytes_of(&scopes(rng)),
     }
 }
@@ -94,9 +95,10 @@ pub fn tower(count: usize) -> Job {
 fn towering(rng: &mut Rng, count: usize) -> Vec<u8> {
     let mut bytes = bytes_of(&tower(count));
     if rng.chance(70) {
-        let more: &[u8] = match rng.below(3) {
+        let more: &[u8] = match rng.below(4) {
             0 => &[0x39, 0xFF, 0x7F, 0xFF],
             1 => &[0x41, 0, 0, 0xFF, 0x7F, 0xFF],
+            2 => &[0x42, 0xFF, 0x7F, 0xFF],
             _ => &[0x40, 0, 0, 1, 0, 0xFF, 0x7F, 0, 0, 0xFF],
         };
         let kept = if rng.chance(50) { more.len() } else { 1 + rng.below(more.len()) };
@@ -155,6 +157,54 @@ pub fn ladder(depth: usize, applies: usize, shape: usize) -> Job {
     Job { types, exprs: exprs.0, ..Job::default() }
 }
 
+/// A type that must be a subtype of another, mostly much like it.
+fn compared(rng: &mut Rng) -> Job {
+    let mut names = Names::default();
+    names.declare(1, true);
+    names.declare(2, true);
+    let mut types = Vec::new();
+    let (own, wanted) = twins(rng, &mut types, 3);
+    let mut e = Exprs(Vec::new());
+    let result = e.number(1);
+    let function = e.add(Expr::Function(1, wanted, result));
+    let argument = e.variable(0);
+    let apply = e.add(Expr::Apply(function, argument));
+    e.add(Expr::Function(0, own, apply));
+    Job { names, types, exprs: e.0, ..Job::default() }
+}
+
+/// Two types of one make whose keys, names and effects may differ; the first is mostly a subtype.
+fn twins(rng: &mut Rng, types: &mut Vec<Type>, depth: usize) -> (u16, u16) {
+    let sort = if depth == 0 { rng.below(2) } else { rng.below(6) };
+    let keys = rng.pick(&[(0, 0), (0, 0), (0, 0), (2, 2), (0, 2), (3, 2), (3, 1), (2, 3), (2, 0)]);
+    let name = 1 + rng.below(3) as u8;
+    let (own, wanted) = match sort {
+        0 => (Shape::Number, Shape::Number),
+        1 => {
+            let other = if rng.chance(85) { name } else { 2 };
+            let limits = (Shape::Limit(name), Shape::Limit(other));
+            if rng.chance(50) { limits } else { (Shape::Grant(name), Shape::Grant(other)) }
+        }
+        2 | 3 => {
+            let (a, b) = twins(rng, types, depth - 1);
+            (Shape::Cell(a), Shape::Cell(b))
+        }
+        4 => {
+            let (a, b) = (twins(rng, types, depth - 1), twins(rng, types, depth - 1));
+            (Shape::Pair(a.0, b.0), Shape::Pair(a.1, b.1))
+        }
+        _ => {
+            // The argument the other way round.
+            let (a, b) = (twins(rng, types, depth - 1), twins(rng, types, depth - 1));
+            let effects = rng.pick(&[(0, 0), (0, 4), (8, 4), (8, 2), (4, 8), (4, 0)]);
+            (Shape::Function(a.1, b.0, effects.0), Shape::Function(a.0, b.1, effects.1))
+        }
+    };
+    types.push(Type { key: keys.0, shape: own });
+    types.push(Type { key: keys.1, shape: wanted });
+    (types.len() as u16 - 2, types.len() as u16 - 1)
+}
+
 /// The variables of a loop: its counter, the cell that holds it, and one more.
 const COUNTER: u8 = 1;
 const HOLDER: u8 = 2;
@@ -168,6 +218,14 @@ fn loop_types() -> Vec<Type> {
 /// A cell holds a function that reads the cell and calls what it finds there, some turns long. The
 /// expression `load`, a number, is worked out in each turn.
 fn looped(e: &mut Exprs, load: u16, turns: u32) -> u16 {
+    let assigned = assigned(e, load);
+    let turns = e.number(turns);
+    let run = e.add(Expr::Apply(assigned, turns));
+    held(e, run)
+}
+
+/// The function of a loop, put into its cell.
+fn assigned(e: &mut Exprs, load: u16) -> u16 {
     let (one, also_one) = (e.number(1), e.number(1));
     let step = e.add(Expr::Test(load, one, also_one, 0));
     let counter = e.variable(COUNTER);
@@ -179,9 +237,11 @@ fn looped(e: &mut Exprs, load: u16, turns: u32) -> u16 {
     let body = e.add(Expr::Test(tested, again, base, 0));
     let function = e.add(Expr::Function(COUNTER, 0, body));
     let held = e.variable(HOLDER);
-    let assigned = e.add(Expr::Assign(held, function));
-    let turns = e.number(turns);
-    let run = e.add(Expr::Apply(assigned, turns));
+    e.add(Expr::Assign(held, function))
+}
+
+/// A run with the cell of its loop, in which there is a function that does nothing.
+fn held(e: &mut Exprs, run: u16) -> u16 {
     let outer = e.add(Expr::Function(HOLDER, 2, run));
     let nothing = e.number(0);
     let first = e.add(Expr::Function(OTHER, 0, nothing));
@@ -192,13 +252,43 @@ fn looped(e: &mut Exprs, load: u16, turns: u32) -> u16 {
 /// A loop that works out a number of differences in each turn.
 pub fn heavy(differences: usize) -> Job {
     let mut e = Exprs(Vec::new());
+    let load = reckoning(&mut e, differences);
+    looped(&mut e, load, 5000);
+    Job { types: loop_types(), exprs: e.0, ..Job::default() }
+}
+
+/// The same loop, run by so many threads at once.
+pub fn heavy_threads(differences: usize, threads: usize) -> Job {
+    let mut e = Exprs(Vec::new());
+    let load = reckoning(&mut e, differences);
+    let assigned = assigned(&mut e, load);
+    let mut run = called(&mut e, 5000);
+    for _ in 1..threads {
+        let body = called(&mut e, 5000);
+        let thread = e.add(Expr::Spawn(body));
+        run = e.add(Expr::Sum(thread, run));
+    }
+    let pair = e.add(Expr::Pair(assigned, run));
+    let last = e.add(Expr::Part(pair, 2));
+    held(&mut e, last);
+    Job { types: loop_types(), exprs: e.0, ..Job::default() }
+}
+
+/// A number of differences.
+fn reckoning(e: &mut Exprs, differences: usize) -> u16 {
     let mut load = e.number(7);
     for _ in 0..differences {
         let other = e.variable(COUNTER);
         load = e.add(Expr::Difference(load, other));
     }
-    looped(&mut e, load, 5000);
-    Job { types: loop_types(), exprs: e.0, ..Job::default() }
+    load
+}
+
+/// A call of a loop's function, some turns long.
+fn called(e: &mut Exprs, turns: u32) -> u16 {
+    let held = e.variable(HOLDER);
+    let (itself, turns) = (e.add(Expr::Read(held)), e.number(turns));
+    e.add(Expr::Apply(itself, turns))
 }
 
 /// A loop that leaves one kind of room nearly or just full, and then an act that needs room or a
@@ -218,6 +308,11 @@ fn brink(rng: &mut Rng) -> Job {
     if rng.chance(60) {
         let part = dividing(rng, &mut e);
         run = e.add(Expr::Sum(run, part));
+    }
+    if rng.chance(25) {
+        let body = e.number(1);
+        let thread = e.add(Expr::Spawn(body));
+        run = e.add(Expr::Sum(run, thread));
     }
     let needed = if rng.chance(60) { room } else { rng.below(5) };
     let act = needing(rng, &mut e, needed);
@@ -308,8 +403,12 @@ fn dividing(rng: &mut Rng, e: &mut Exprs) -> u16 {
 fn sets(rng: &mut Rng) -> Vec<u8> {
     let mut bytes = vec![0x01, 1, 0x01, 2, 0x01, 2, 0x02, 2, 0x10, 0, 0x13, 0, 0, 0, 0, 0];
     let mut set = |bits: u32| (0..bits).fold(0u8, |set, bit| set | (rng.chance(20) as u8) << bit);
-    bytes.extend([set(7), 0, 0, 0, 0, 0, 0, 0]);
-    bytes.extend([0x21, set(7), 0, 0, 0, 0, 0, 0, 0]);
+    let (effect, mut rights) = (set(7), set(7));
+    if rng.chance(40) {
+        rights = 1 << rng.below(7);
+    }
+    bytes.extend([effect, 0, 0, 0, 0, 0, 0, 0]);
+    bytes.extend([0x21, rights, 0, 0, 0, 0, 0, 0, 0]);
     bytes.extend(&END[9..]);
     bytes
 }
@@ -400,7 +499,7 @@ fn full_of_uses(rng: &mut Rng, types: &[Type], hosts: &[HostValue]) -> Vec<Expr>
 }
 
 /// A job of most commands.
-const MOST: [&[u8]; 33] = [
+const MOST: [&[u8]; 34] = [
     &[0x01, 1],
     &[0x02, 2],
     &[0x10, 0],
@@ -432,13 +531,14 @@ const MOST: [&[u8]; 33] = [
     &[0x30, 8, 0, 0, 0],
     &[0x36, 15, 0, 16, 0],
     &[0x30, 9, 0, 0, 0],
-    &[0x41, 17, 0, 18, 0],
+    &[0x42, 18, 0],
+    &[0x41, 17, 0, 19, 0],
     &[0xFF],
 ];
 
 /// Bytes of it on the edge of a condition: command, byte, value.
 #[rustfmt::skip]
-const EDGES: [(usize, usize, u8); 114] = [
+const EDGES: [(usize, usize, u8); 124] = [
     (0, 1, 0), (0, 1, 2), (1, 1, 0), (1, 1, 3), (1, 0, 1), (2, 1, 4), (2, 1, 3), (3, 1, 0),
     (3, 1, 3), (3, 2, 1), (4, 2, 0), (4, 2, 3), (4, 2, 4), (5, 2, 0), (5, 2, 1), (6, 2, 4),
     (6, 3, 1), (7, 4, 5), (7, 6, 1), (7, 6, 2), (7, 6, 6), (7, 6, 12), (7, 6, 8), (7, 6, 16),
@@ -448,14 +548,15 @@ const EDGES: [(usize, usize, u8); 114] = [
     (14, 1, 63), (14, 1, 64), (14, 2, 2), (14, 2, 1), (14, 2, 4), (14, 3, 2), (14, 7, 6),
     (17, 1, 0), (17, 1, 1), (17, 1, 3), (17, 1, 4), (17, 1, 5), (17, 2, 5), (17, 6, 0),
     (17, 7, 0), (17, 9, 0xFE), (19, 1, 1), (19, 1, 2), (19, 2, 7), (22, 3, 0), (22, 3, 2),
-    (22, 3, 3), (23, 1, 2), (23, 1, 10), (23, 1, 64), (23, 2, 1), (32, 0, 0xFE),
-    (27, 0, 0x3B), (27, 0, 0x41), (27, 0, 0x42), (27, 1, 15), (27, 2, 1), (27, 1, 13),
+    (22, 3, 3), (23, 1, 2), (23, 1, 10), (23, 1, 64), (23, 2, 1), (33, 0, 0xFE),
+    (27, 0, 0x3B), (27, 0, 0x41), (27, 0, 0x43), (27, 1, 15), (27, 2, 1), (27, 1, 13),
     (27, 1, 14), (27, 3, 15), (27, 4, 1), (27, 3, 12), (27, 3, 10), (27, 5, 15), (27, 5, 16),
     (27, 6, 1), (27, 5, 11), (27, 7, 6), (27, 7, 0), (27, 7, 2), (27, 7, 4), (27, 8, 1),
     (24, 1, 2), (24, 1, 0), (26, 2, 4), (26, 1, 11), (29, 1, 16), (29, 3, 15),
-    (27, 3, 14), (27, 0, 0x42), (31, 0, 0x41), (31, 0, 0x42), (31, 0, 0x33), (31, 0, 0x40),
-    (31, 1, 18), (31, 1, 19), (31, 2, 1), (31, 3, 17), (31, 3, 19), (31, 3, 20), (31, 4, 1),
-    (30, 0, 0x31), (27, 7, 6), (27, 8, 1),
+    (27, 3, 14), (27, 0, 0x43), (32, 0, 0x41), (32, 0, 0x43), (32, 0, 0x33), (32, 0, 0x40),
+    (32, 1, 18), (32, 1, 20), (32, 2, 1), (32, 3, 17), (32, 3, 20), (32, 3, 21), (32, 4, 1),
+    (30, 0, 0x31), (27, 7, 6), (27, 8, 1), (31, 0, 0x39), (31, 0, 0x42), (31, 0, 0x43),
+    (31, 0, 0x44), (31, 0, 0x41), (31, 1, 17), (31, 1, 19), (31, 1, 20), (31, 2, 1), (32, 0, 0x42),
 ];
 
 /// A job of most commands with one byte on the edge of a condition, or a command more.
@@ -482,7 +583,7 @@ fn edited(rng: &mut Rng) -> Vec<u8> {
 
 /// A job cut off within or after a command that may stand out of its section.
 fn misplaced(rng: &mut Rng) -> Vec<u8> {
-    let commands: [&[u8]; 8] = [
+    let commands: [&[u8]; 9] = [
         &[0x01, 1],
         &[0x10, 0],
         &[0x20, 1, 0, 7, 0, 0, 0],
@@ -491,6 +592,7 @@ fn misplaced(rng: &mut Rng) -> Vec<u8> {
         &END[14..],
         &[0x40, 0, 0, 1, 0, 2, 0, 0, 0],
         &[0x41, 0, 0, 1, 0],
+        &[0x42, 0, 0],
     ];
     let mut bytes = vec![0x01, 1, 0x10, 0, 0x12, 2, 0, 0];
     for command in &commands[2..2 + rng.below(4)] {

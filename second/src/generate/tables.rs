@@ -147,9 +147,10 @@ fn litter(rng: &mut Rng, fields: &mut Fields) {
 
 /// Every command.
 #[rustfmt::skip]
-pub const COMMANDS: [u8; 29] = [
+pub const COMMANDS: [u8; 30] = [
     0x01, 0x02, 0x10, 0x11, 0x12, 0x13, 0x14, 0x15, 0x20, 0x21, 0x30, 0x31, 0x32, 0x33, 0x34,
-    0x35, 0x36, 0x37, 0x38, 0x39, 0x3A, 0x3B, 0x3C, 0x3D, 0x3E, 0x3F, 0x40, 0x41, 0xFF,
+    0x35, 0x36, 0x37, 0x38, 0x39, 0x3A, 0x3B, 0x3C, 0x3D, 0x3E, 0x3F, 0x40, 0x41, 0x42,
+    0xFF,
 ];
 
 /// A command of a table.
@@ -197,10 +198,11 @@ fn damage(rng: &mut Rng, fields: &mut Fields) {
     }
 }
 
-/// A used entry of a table that is not empty, each command as often as another.
+/// A used entry of a table that is not empty, each command as often as it has operands.
 fn some_entry(rng: &mut Rng, fields: &Fields, table: usize) -> usize {
     let used = used(fields, table).min(fields.lengths()[table]);
-    let wanted = of_table(rng, table);
+    let often = |byte| std::iter::repeat_n(byte, operands(byte).len().max(1));
+    let wanted = rng.pick(&commands(TABLES[table]).flat_map(often).collect::<Vec<u8>>());
     let entries: Vec<usize> =
         (0..used).filter(|&number| fields.entry(table, number).0 == wanted.into()).collect();
     if entries.is_empty() { rng.below(used) } else { rng.pick(&entries) }
@@ -208,7 +210,7 @@ fn some_entry(rng: &mut Rng, fields: &Fields, table: usize) -> usize {
 
 /// Something that is no command, near a command or wider than a byte.
 fn no_command(rng: &mut Rng, command: u64) -> u64 {
-    let bytes = [0, 3, 0x0F, 0x16, 0x1F, 0x22, 0x2F, 0x42, 0x43, 0xFE];
+    let bytes = [0, 3, 0x0F, 0x16, 0x1F, 0x22, 0x2F, 0x43, 0x44, 0xFE];
     match rng.below(3) {
         0 => command | 1 << (8 + rng.below(56)),
         1 => rng.pick(&[0x100, 0x1FF, u64::MAX]),

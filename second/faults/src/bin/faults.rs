@@ -22,11 +22,11 @@ struct Case {
 }
 
 impl Case {
-    /// A job, run from its start in two parts that meet its end, and then some steps more.
+    /// A job, run from its start in two parts that meet its end, and then twice some steps more.
     fn new(job: Vec<u8>) -> Self {
         let whole = observe(&job, &[100_000]);
-        let taken = whole.runs.map_or(0, |runs| runs[0].steps);
-        let steps = vec![0, taken / 2, taken - taken / 2, 0, 3];
+        let taken = whole.runs.map_or(0, |runs| runs[0].steps());
+        let steps = vec![0, taken / 2, taken - taken / 2, 0, 3, 2];
         let (seen, sheet) = (observe(&job, &steps), sheet(&job));
         Case { job, steps, seen, sheet }
     }
