@@ -9,7 +9,8 @@
  *   - no slice that is written to overlaps another one of the same call.
  * Nothing else is asked: any bytes may be given as a job, tables may hold anything before a call,
  * and a slice may be longer than it needs to be. The functions keep nothing between calls, so
- * several threads may call them at once, each with slices of its own. They allocate nothing; a call
+ * several threads of a program may call them at once, each with slices of its own. (The threads of a job
+ * are none of these: a call takes their steps one after another.) The functions allocate nothing; a call
  * takes up to about 300 KB of stack.
  */
 #ifndef JOBDESK_H
@@ -32,11 +33,15 @@ extern "C" {
 #define JOBDESK_ENTRIES 512
 #define JOBDESK_EFFECTS 512
 
-/* How many words there are of what is told of a verdict, of a job that is read, of room in use, of the
- * answer to each call, of a value, and of what the cells hold: a value for each of 256 cells. */
+/* The most threads that a job can have, with thread 0: a command 42 (hexadecimal) starts one more. */
+#define JOBDESK_THREADS 8
+
+/* How many words there are of what is told of a verdict, of a job that is read, of room in use (seven
+ * kinds of it, then the last call's steps of each of JOBDESK_THREADS threads), of the answer to each call,
+ * of a value, and of what the cells hold: a value for each of 256 cells. */
 #define JOBDESK_OUT 2
 #define JOBDESK_COUNTS 5
-#define JOBDESK_ROOMS 6
+#define JOBDESK_ROOMS 15
 #define JOBDESK_ANSWER 2
 #define JOBDESK_VALUE 2
 #define JOBDESK_CELLS 512
@@ -46,7 +51,7 @@ extern "C" {
 #define JOBDESK_SHEET_BYTES 868
 
 /* What a function returns: 0, or the number of a refusal. The place of 1 and of 15 is 0, that of 2 to 7
- * an offset in the job's bytes, that of 8 to 14 the number of an expression. */
+ * an offset in the job's bytes, that of 8 to 14 and of 16 the number of an expression. */
 #define JOBDESK_OK 0
 #define JOBDESK_SHORT_TABLE 1       /* a lent work table, or the text of a sheet, is too short */
 #define JOBDESK_NO_COMMAND 2        /* a byte is no command */
@@ -63,15 +68,22 @@ extern "C" {
 #define JOBDESK_BEYOND_LIMIT 13     /* a limit's body uses keys outside the limit */
 #define JOBDESK_BEYOND_RIGHTS 14    /* the job uses keys beyond its rights */
 #define JOBDESK_SHORT_BUFFER 15     /* the buffer is too short for the job's bytes */
+#define JOBDESK_SPAWN_EFFECT 16     /* a thread's body has an effect */
 
-/* Calls: a step, or a run of up to n steps, n below 2^64 - 1. */
+/* Calls: one turn, or a run of up to n steps, those of all threads counted together, n below 2^64 - 1.
+ *
+ * A turn is a step of the thread whose turn it is. In a round each thread that was there when the round
+ * began and has not ended takes one step, by ascending number; a thread that is started has its first turn
+ * in the next round. Each call goes on where the last one left the round. A job without threads has one,
+ * thread 0, and a turn is a step of it. */
 #define JOBDESK_STEP UINT64_C(0)
 #define JOBDESK_RUN(n) ((uint64_t)(n) + 1)
 
-/* Answers to calls. */
+/* Answers to calls. The next step is that of the thread whose turn it is: where it cannot be taken, no
+ * other thread steps in its place, and the next call asks the same thread again. */
 #define JOBDESK_TAKEN 0     /* the step is taken */
-#define JOBDESK_DONE 1      /* the job has ended with a value */
-#define JOBDESK_SPENT 2     /* the run has taken all its steps, and the job has not ended */
+#define JOBDESK_DONE 1      /* every thread has ended; the job's value is that of thread 0 */
+#define JOBDESK_SPENT 2     /* the run has taken all its steps, and a thread has not ended */
 #define JOBDESK_NO_ROOM 3   /* the next step needs a place that is not there */
 #define JOBDESK_STUCK 4     /* an operand is of a kind that the next step cannot use */
 #define JOBDESK_DENIED 5    /* the next step needs a key that is not enabled */
@@ -104,8 +116,8 @@ extern "C" {
  *   types    holds the type table: the declared types, for each new key the types of its limit key,
  *            its grant key and their pair, then the types that expressions make: at most one each, but
  *            of a command 41 (hexadecimal) two, a number and then the pair whose parts are both that
- *            number; in an entry the command byte, from bit 8 on the name of the key, from bit 16 and
- *            bit 32 on the parts,
+ *            number, and of a command 42 a number, whatever its thread comes to; in an entry the command
+ *            byte, from bit 8 on the name of the key, from bit 16 and bit 32 on the parts,
  *   sets     holds for each entry the effect of a function, or 0,
  *   values   holds for each host value 20 (hexadecimal), from bit 8 on its type, from bit 24 on its
  *            number,
@@ -120,7 +132,7 @@ extern "C" {
  * Returns 1 if a table is shorter than its least length. Then out[0] and out[1] are 0, and no table
  * is written to.
  *
- * Returns 2 to 14, the number of the refusal, if the job is refused. Then out[0] is its place,
+ * Returns 2 to 14 or 16, the number of the refusal, if the job is refused. Then out[0] is its place,
  * out[1] is 0, and all tables are zero to their ends.
  *
  * Where `out` has fewer than JOBDESK_OUT entries, it gets those that it has.
@@ -142,13 +154,14 @@ uint64_t jobdesk_check(
  *
  * Returns 0 if the job is accepted. Then `out` and the tables are as after jobdesk_check, and of
  * call i (from 0)
- *   answers[2 * i]      is the answer, never JOBDESK_STUCK or JOBDESK_DENIED,
- *   answers[2 * i + 1]  is how many steps it took.
- * `value` is the job's value where it has ended, and JOBDESK_NO_VALUE and 0 where it has not;
- * cells[2 * i] and cells[2 * i + 1] are the value that cell i holds, and JOBDESK_NO_VALUE and 0 where
- * there is no cell i. The host values that are cells have the first numbers, in their order.
+ *   answers[2 * i]      is the answer, never JOBDESK_STUCK or JOBDESK_DENIED, in whichever thread,
+ *   answers[2 * i + 1]  is how many steps all threads took in it.
+ * `value` is the job's value, that of thread 0, where every thread has ended, and JOBDESK_NO_VALUE and 0
+ * where one has not; cells[2 * i] and cells[2 * i + 1] are the value that cell i holds, and
+ * JOBDESK_NO_VALUE and 0 where there is no cell i. The host values that are cells have the first numbers,
+ * in their order.
  *
- * Returns 1 to 14, the number of the refusal, if the job is refused. Then `out` and the tables are as
+ * Returns 1 to 14 or 16, the number of the refusal, if the job is refused. Then `out` and the tables are as
  * after jobdesk_check, no answer is written, and `value` and `cells` are zero.
  *
  * Returns 1 too where there are not JOBDESK_ANSWER answers for each call, or `value`, `cells` or `out`
@@ -173,15 +186,21 @@ uint64_t jobdesk_session(
 /* Starts a job without a check and makes calls on it, each on the machine that the last one left.
  *
  * 0 IS NO VERDICT: every job that is free of 1 to 10 is started, also one that the check refuses
- * with 11 to 14. Only of a job that jobdesk_check accepts is it proved that no answer is
+ * with 11 to 14 or 16. Only of a job that jobdesk_check accepts is it proved that no answer is
  * JOBDESK_STUCK or JOBDESK_DENIED. So check first, and run only what is accepted.
  *
  * Returns 0 if the job is started. Then of call i (from 0)
  *   answers[2 * i]      is the answer,
- *   answers[2 * i + 1]  is how many steps it took;
- * rooms[0] to rooms[5] are the cells, keys, pairs, functions, frames and bindings in use after the
- * last call, and the six tables hold the job as after a check, `types` and `sets` the declared types
- * alone.
+ *   answers[2 * i + 1]  is how many steps all threads took in it;
+ * of what is in use after the last call
+ *   rooms[0] to rooms[3]  are the cells (of 256), keys (of 128, with 0 and 1), pairs (of 512) and
+ *                         functions (of 512), which all threads share,
+ *   rooms[4]              is the frames of all threads together, of 256 for each,
+ *   rooms[5]              is the bindings (of 1,024), which are shared too,
+ *   rooms[6]              is the threads, of JOBDESK_THREADS: thread 0, and each that was started, also
+ *                         one that has ended;
+ * rooms[7 + i] is how many steps thread i took in the last call, 0 where there was no call or no such
+ * thread; and the six tables hold the job as after a check, `types` and `sets` the declared types alone.
  *
  * Returns 1 to 10, the number of the refusal, if it is not started. Then rooms[0] is its place and
  * no answer is written; after 1 no table is written to, after 2 to 10 the six tables are zero to
@@ -206,7 +225,7 @@ uint64_t jobdesk_run(
 
 /* Reads a job into tables: refusals 1 to 7 alone.
  *
- * 0 IS NO VERDICT: a job that the check refuses with 8 to 14 is read too.
+ * 0 IS NO VERDICT: a job that the check refuses with 8 to 14 or 16 is read too.
  *
  * Returns 0 if the job is read. Then
  *   counts[0]   is how many names it declares (0 and 1 are not among them),
@@ -239,7 +258,7 @@ uint64_t jobdesk_read(
  * in the tables, so that the counts of jobdesk_read of the same job still hold. What is written of a job
  * that was read is that job, byte for byte.
  *
- * 0 IS NO VERDICT: a job that the check refuses with 8 to 14 is written too.
+ * 0 IS NO VERDICT: a job that the check refuses with 8 to 14 or 16 is written too.
  *
  * The fields (numbers of commands are hexadecimal), each from its bit to the next field or the end of
  * the word:
@@ -248,7 +267,7 @@ uint64_t jobdesk_read(
  *                 11, 12 and 13 a type, of 14 and 15 a name; from bit 32 on the second part, of 11 and 13;
  *   sets[i]       the set of 13;
  *   values[i]     the command, 20; from bit 8 on the type; from bit 24 on the number;
- *   heads[i]      the command, 30 to 41; from bit 8 on the number of 30, the variable of 32 and 35, the
+ *   heads[i]      the command, 30 to 42; from bit 8 on the number of 30, the variable of 32 and 35, the
  *                 part of 34, the operation of 3A, the count of keys of 3C; of 3E the variable and, from
  *                 bit 16 on, the local name;
  *   slots[5 * i]  and the four after it: the operands of two bytes, expressions in their order, then the
@@ -306,7 +325,7 @@ uint64_t jobdesk_write(
  * grant key among the host values, or a command 40 (hexadecimal) with a key that the rights lend, can
  * open the cell all the same.
  *
- * Returns 2 to 14, the number of the refusal, if the job is refused. Then `text` begins with the desk
+ * Returns 2 to 14 or 16, the number of the refusal, if the job is refused. Then `text` begins with the desk
  * program's line, "refused N at P" and byte 0A; out[0] is how many bytes the line has, and out[1] is the
  * place P.
  *

@@ -86,7 +86,8 @@ static void runs(void)
 {
     const uint64_t calls[] = { JOBDESK_STEP, JOBDESK_RUN(0), JOBDESK_RUN(100000), JOBDESK_STEP };
     const uint64_t wanted[] = { JOBDESK_TAKEN, 1, JOBDESK_SPENT, 0, JOBDESK_DONE, 2, JOBDESK_DONE, 0 };
-    const uint64_t in_use[JOBDESK_ROOMS] = { 1, 3, 0, 0, 0, 2 };
+    /* One cell, three keys, two bindings, one thread; and no step in the last call. */
+    const uint64_t in_use[JOBDESK_ROOMS] = { 1, 3, 0, 0, 0, 2, 1 };
     uint64_t answers[8], rooms[JOBDESK_ROOMS];
     soil();
     same("run", jobdesk_run_in(&tables, example, sizeof example, calls, 4, answers, rooms), JOBDESK_OK);
@@ -266,6 +267,60 @@ static void divides(void)
     same("division, no more types", tables.types[4], 0);
 }
 
+/* A thread for the sum of 5 and 6, while thread 0 adds its number, which is 0, to 7. */
+static const uint8_t threads[] = {
+    0x21, 0, 0, 0, 0, 0, 0, 0, 0,    /* no rights */
+    0x30, 5, 0, 0, 0,                /* expression 0: 5 */
+    0x30, 6, 0, 0, 0,                /* expression 1: 6 */
+    0x3A, 0, 0, 0, 1, 0,             /* expression 2: their sum */
+    0x42, 2, 0,                      /* expression 3: 0, and a thread for expression 2 */
+    0x30, 7, 0, 0, 0,                /* expression 4: 7 */
+    0x3A, 0, 3, 0, 4, 0, 0xFF,       /* expression 5: the sum of 3 and 4 */
+};
+
+/* Thread 1 has its first turn in the fourth step; each call goes on where the last one left off. */
+static void spawns(void)
+{
+    const uint64_t calls[] = { JOBDESK_RUN(3), JOBDESK_STEP, JOBDESK_RUN(2), JOBDESK_RUN(100), JOBDESK_RUN(9) };
+    const uint64_t wanted[] = { JOBDESK_SPENT, 3, JOBDESK_TAKEN, 1, JOBDESK_SPENT, 2, JOBDESK_DONE, 4,
+                                JOBDESK_DONE, 0 };
+    /* For each count of calls: frames, threads, and the steps of the last call in threads 0 and 1. */
+    const uint64_t after[6][4] = { { 0, 1, 0, 0 }, { 1, 2, 3, 0 }, { 2, 2, 0, 1 }, { 2, 2, 1, 1 },
+                                   { 0, 2, 1, 3 }, { 0, 2, 0, 0 } };
+    uint64_t answers[10], rooms[JOBDESK_ROOMS];
+    for (size_t made = 0; made <= 5; made++) {
+        same("threads", jobdesk_run_in(&tables, threads, sizeof threads, calls, made, answers, rooms), JOBDESK_OK);
+        for (size_t i = 0; i < 2 * made; i++)
+            same("threads, answers", answers[i], wanted[i]);
+        same("threads, frames", rooms[4], after[made][0]);
+        same("threads started", rooms[6], after[made][1]);
+        same("steps of thread 0", rooms[7], after[made][2]);
+        same("steps of thread 1", rooms[8], after[made][3]);
+        for (size_t i = 2; i < JOBDESK_THREADS; i++)
+            same("steps of no thread", rooms[7 + i], 0);
+    }
+}
+
+/* A thread has no keys: its body must need none, whatever the rights; where it is run all the same, it is
+ * denied, and asked again. */
+static void spawns_refused(void)
+{
+    uint8_t job[sizeof example + 3];
+    const uint64_t calls[] = { JOBDESK_RUN(100), JOBDESK_STEP };
+    uint64_t answers[4], rooms[JOBDESK_ROOMS], out[JOBDESK_OUT];
+    memcpy(job, example, sizeof example - 1);
+    memcpy(job + sizeof example - 1, (const uint8_t[]){ 0x42, 1, 0, 0xFF }, 4);
+    soil();
+    same("effect of a thread", jobdesk_check_in(&tables, job, sizeof job, out), JOBDESK_SPAWN_EFFECT);
+    same("effect of a thread, place", out[0], 2);
+    same("effect of a thread, tables zero", (uint64_t)all_bytes(0), 1);
+    same("effect of a thread, run", jobdesk_run_in(&tables, job, sizeof job, calls, 2, answers, rooms), JOBDESK_OK);
+    same("thread denied", answers[0], JOBDESK_DENIED);
+    same("thread denied, steps", answers[1], 3);
+    same("thread denied again", answers[2], JOBDESK_DENIED);
+    same("thread denied again, steps", answers[3] | rooms[7] | rooms[8], 0);
+}
+
 /* A refused job is not run. */
 static void sessions_refused(void)
 {
@@ -319,7 +374,8 @@ static void short_sessions(void)
 static void short_answers(void)
 {
     const uint64_t calls[] = { JOBDESK_STEP, JOBDESK_STEP };
-    uint64_t answers[3] = { 99, 99, 99 }, rooms[JOBDESK_ROOMS] = { 99, 99, 99, 99, 99, 99 };
+    uint64_t answers[3] = { 99, 99, 99 }, rooms[JOBDESK_ROOMS];
+    memset(rooms, 0xA5, sizeof rooms);
     soil();
     same("short answers", jobdesk_run(example, sizeof example, tables.names, JOBDESK_NAMES, tables.types,
                                       JOBDESK_TYPES, tables.sets, JOBDESK_SETS, tables.values,
@@ -327,8 +383,26 @@ static void short_answers(void)
                                       JOBDESK_SLOTS, calls, 2, answers, 3, rooms, JOBDESK_ROOMS),
          JOBDESK_SHORT_TABLE);
     same("short answers, place", rooms[0], 0);
+    for (size_t i = 1; i < JOBDESK_ROOMS; i++)
+        same("short answers, other rooms", rooms[i], UINT64_C(0xA5A5A5A5A5A5A5A5));
     same("short answers, no answer", answers[0] & answers[1] & answers[2], 99);
     same("short answers, nothing written", (uint64_t)all_bytes(0xA5), 1);
+}
+
+/* A run of a job of two threads with so many words of `rooms`. */
+static void short_rooms(size_t length)
+{
+    const uint64_t calls[] = { JOBDESK_RUN(5) };
+    const uint64_t in_use[JOBDESK_ROOMS] = { 0, 2, 0, 0, 2, 0, 2, 4, 1 };
+    uint64_t answers[2], rooms[JOBDESK_ROOMS];
+    memset(rooms, 0xA5, sizeof rooms);
+    same("short rooms", jobdesk_run(threads, sizeof threads, tables.names, JOBDESK_NAMES, tables.types,
+                                    JOBDESK_TYPES, tables.sets, JOBDESK_SETS, tables.values,
+                                    JOBDESK_VALUES, tables.heads, JOBDESK_HEADS, tables.slots,
+                                    JOBDESK_SLOTS, calls, 1, answers, 2, rooms, length), JOBDESK_OK);
+    same("short rooms, answer", answers[0], JOBDESK_SPENT);
+    for (size_t i = 0; i < JOBDESK_ROOMS; i++)
+        same("short rooms, words", rooms[i], i < length ? in_use[i] : UINT64_C(0xA5A5A5A5A5A5A5A5));
 }
 
 /* `out` and `rooms` get no more entries than they have. */
@@ -342,6 +416,8 @@ static void short_results(void)
                                     JOBDESK_EFFECTS, out, 1), JOBDESK_OK);
     same("short out, first word", out[0], 0);
     same("short out, second word", out[1], 99);
+    for (size_t length = 0; length <= JOBDESK_ROOMS; length++)
+        short_rooms(length);
 }
 
 static const uint64_t example_counts[JOBDESK_COUNTS] = { 1, 2, 1, 2, 1u << 2 };
@@ -576,6 +652,8 @@ int main(void)
     asks();
     stops();
     divides();
+    spawns();
+    spawns_refused();
     sessions_refused();
     short_sessions();
     short_answers();

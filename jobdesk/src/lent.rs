@@ -115,8 +115,8 @@ fn part<T>(slice: &mut [T]) -> (*mut T, usize) {
     (slice.as_mut_ptr(), slice.len())
 }
 
-/// Checks a job. 0: it is accepted, and `out` has the entry of its type and its effect. 1 to 14: it
-/// is refused, and `out` has the place and 0.
+/// Checks a job. 0: it is accepted, and `out` has the entry of its type and its effect. 1 to 14 or 16:
+/// it is refused, and `out` has the place and 0.
 pub fn check(
     job: &[u8],
     lent: Lent,
@@ -128,14 +128,10 @@ pub fn check(
 }
 
 /// Starts a job and makes the calls. 0: it is started, `answers` has two words for each call, and
-/// `rooms` what is in use at the end. 1 to 10: it is not started, and `rooms[0]` has the place.
-pub fn run(
-    job: &[u8],
-    lent: Lent,
-    calls: &[u64],
-    answers: &mut [u64],
-    rooms: &mut [u64; 6],
-) -> u64 {
+/// `rooms` what is in use at the end, in seven words, then the steps that each of eight threads took in
+/// the last call. 1 to 10: it is not started, and `rooms[0]` has the place. Where `rooms` has fewer than
+/// fifteen words, it gets those that it has.
+pub fn run(job: &[u8], lent: Lent, calls: &[u64], answers: &mut [u64], rooms: &mut [u64]) -> u64 {
     let made = (calls.as_ptr(), calls.len());
     call!(jobdesk_run, job, lent, made, part(answers), part(rooms))
 }
@@ -154,7 +150,7 @@ pub struct Results<'a> {
 }
 
 /// Checks a job and, where it is accepted, starts it and makes the calls. 0: it is accepted. 1 to
-/// 14: it is refused; where 1 is for a slice of the results, nothing is written.
+/// 14 or 16: it is refused; where 1 is for a slice of the results, nothing is written.
 pub fn session(
     job: &[u8],
     lent: Lent,
@@ -202,9 +198,9 @@ pub fn write(held: Held, counts: &[u64], buffer: &mut [u8], out: &mut [u64; 1]) 
 }
 
 /// The sheet of a job, written to the start of `text`. 0: it is accepted, and `out` has how many bytes
-/// the sheet has, and 0. 2 to 14: it is refused, `text` has the desk program's line, and `out` how many
-/// bytes that has, and the place. 1: `text` has fewer than 868 bytes, no byte is written, and `out` has
-/// two zeros. Where `out` has fewer than two words, it gets those that it has.
+/// the sheet has, and 0. 2 to 14 or 16: it is refused, `text` has the desk program's line, and `out` how
+/// many bytes that has, and the place. 1: `text` has fewer than 868 bytes, no byte is written, and `out`
+/// has two zeros. Where `out` has fewer than two words, it gets those that it has.
 pub fn sheet(job: &[u8], text: &mut [u8], out: &mut [u64]) -> u64 {
     // SAFETY: every pointer goes with the length of the slice that it was taken from. The two that
     // are written to come from `&mut`, so they overlap nothing else.

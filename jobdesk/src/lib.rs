@@ -51,7 +51,7 @@ mod refusal;
 mod sheet;
 mod tables;
 
-pub use calls::{Answer, Answered, Call, Ran, Rooms};
+pub use calls::{Answer, Answered, Call, Ran, Rooms, THREADS};
 pub use counts::Counts;
 pub use refusal::{Place, Refusal};
 pub use sheet::{SHEET_BYTES, Sheet, sheet};

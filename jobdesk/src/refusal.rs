@@ -7,8 +7,8 @@ use std::fmt;
 /// Why and where a job is refused, or tables that are to be written as one.
 #[derive(Clone, Copy, Debug, PartialEq, Eq, Hash)]
 pub struct Refusal {
-    /// 1 to 15. A start gives only 1 to 10, reading 1 to 7, writing 1, 2, 3, 5, 6 and 15, and a sheet
-    /// 2 to 14.
+    /// 1 to 16. A check gives 1 to 14 and 16, a start only 1 to 10, reading 1 to 7, writing 1, 2, 3, 5,
+    /// 6 and 15, and a sheet 2 to 14 and 16.
     pub number: u8,
     /// What it means is told by [`Refusal::at`].
     pub place: usize,
@@ -58,6 +58,7 @@ impl Refusal {
             13 => "a limit's body uses keys outside the limit",
             14 => "the job uses keys beyond its rights",
             15 => "the buffer is too short",
+            16 => "a thread's body has an effect",
             _ => "no refusal has this number",
         }
     }

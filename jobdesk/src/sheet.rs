@@ -53,7 +53,7 @@ impl Sheet {
         &self.text
     }
 
-    /// The refusal, of 2 to 14, or none if the job is accepted.
+    /// The refusal, of 2 to 14 or 16, or none if the job is accepted.
     pub fn refusal(&self) -> Option<Refusal> {
         self.refusal
     }

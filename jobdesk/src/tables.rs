@@ -1,7 +1,7 @@
 //! Work tables, and the calls that lend them.
 #![forbid(unsafe_code)]
 
-use crate::calls::{Answered, Call, Ran, Rooms};
+use crate::calls::{self, Answered, Call, ROOMS, Ran, Rooms, THREADS};
 use crate::counts::Counts;
 use crate::lent::{self, Held, Lent, Results};
 use crate::refusal::Refusal;
@@ -59,7 +59,7 @@ impl Tables {
     /// ```
     ///
     /// # Errors
-    /// The job's refusal, of 2 to 14.
+    /// The job's refusal, of 2 to 14 or 16.
     pub fn check(&mut self, job: &[u8]) -> Result<Accepted<'_>, Refusal> {
         let mut out = [0; 2];
         let Tables { names, types, sets, values, heads, slots, entries, effects } = self;
@@ -71,7 +71,7 @@ impl Tables {
     }
 
     /// Checks a job and, where it is accepted, starts it and makes the calls. It is proved that no
-    /// call of a session is stuck or denied.
+    /// call of a session is stuck or denied, in whichever thread.
     ///
     /// ```
     /// use jobdesk::{Answer, Call, Kind, Tables, Value};
@@ -89,7 +89,7 @@ impl Tables {
     /// ```
     ///
     /// # Errors
-    /// The job's refusal, of 2 to 14. No call is made then.
+    /// The job's refusal, of 2 to 14 or 16. No call is made then.
     pub fn session(&mut self, job: &[u8], calls: &[Call]) -> Result<Session<'_>, Refusal> {
         let words: Vec<u64> = calls.iter().map(|call| call.word()).collect();
         let mut answers = vec![0; 2 * words.len()];
@@ -109,9 +109,9 @@ impl Tables {
         }
     }
 
-    /// Starts a job and makes the calls, without a check. Every job that is free of 1 to 10 is started, also one
-    /// that the check refuses with 11 to 14: that it is started is no verdict. Only of a job that
-    /// the check accepts is it proved that no call is stuck or denied.
+    /// Starts a job and makes the calls, without a check. Every job that is free of 1 to 10 is started,
+    /// also one that the check refuses with 11 to 14 or 16: that it is started is no verdict. Only of a
+    /// job that the check accepts is it proved that no call is stuck or denied.
     ///
     /// ```
     /// use jobdesk::{Answer, Call};
@@ -126,17 +126,34 @@ impl Tables {
     /// # Ok::<(), jobdesk::Refusal>(())
     /// ```
     ///
+    /// The threads of a job take turns:
+    ///
+    /// ```
+    /// use jobdesk::{Answer, Call};
+    ///
+    /// let mut tables = jobdesk::Tables::new();
+    /// // A thread for the sum of 5 and 6; thread 0 adds its number, which is 0, to 7.
+    /// let job = b"\x21\0\0\0\0\0\0\0\0\x30\x05\0\0\0\x30\x06\0\0\0\x3A\0\0\0\x01\0\x42\x02\0\
+    ///     \x30\x07\0\0\0\x3A\0\x03\0\x04\0\xFF";
+    /// let ran = tables.run(job, &[Call::Step, Call::Run(100)])?;
+    /// assert_eq!((ran.answers[1].answer, ran.answers[1].steps), (Answer::Done, 9));
+    /// assert_eq!(ran.rooms.threads, 2);
+    /// assert_eq!(ran.steps[..2], [4, 5]);
+    /// # Ok::<(), jobdesk::Refusal>(())
+    /// ```
+    ///
     /// # Errors
     /// The job's refusal, of 2 to 10. No call is made then.
     pub fn run(&mut self, job: &[u8], calls: &[Call]) -> Result<Ran, Refusal> {
         let words: Vec<u64> = calls.iter().map(|call| call.word()).collect();
         let mut answers = vec![0; 2 * words.len()];
-        let rooms = self.run_words(job, &words, &mut answers)?;
-        Ok(Ran { answers: Answered::all(&answers), rooms })
+        let (rooms, steps) = self.run_words(job, &words, &mut answers)?;
+        Ok(Ran { answers: Answered::all(&answers), rooms, steps })
     }
 
-    /// The same with calls and answers as words: 0 is a step, n + 1 a run of n; of each call the
-    /// number of its answer and the steps taken.
+    /// The same with calls and answers as words: 0 is a turn, n + 1 a run of n; of each call the number
+    /// of its answer and the steps taken. It gives the room in use and the steps that each thread took
+    /// in the last call.
     ///
     /// # Errors
     /// The job's refusal, of 2 to 10; 1 if there are not two answers for each call. No call is made
@@ -146,12 +163,12 @@ impl Tables {
         job: &[u8],
         calls: &[u64],
         answers: &mut [u64],
-    ) -> Result<Rooms, Refusal> {
-        let mut rooms = [0; 6];
+    ) -> Result<(Rooms, [u64; THREADS]), Refusal> {
+        let mut rooms = [0; ROOMS];
         let Tables { names, types, sets, values, heads, slots, .. } = self;
         let lent = Lent { names, types, sets, values, heads, slots };
         match lent::run(job, lent, calls, answers, &mut rooms) {
-            0 => Ok(rooms.into()),
+            0 => Ok(calls::told(rooms)),
             number => Err(Refusal::of(number, rooms[0])),
         }
     }
@@ -194,8 +211,8 @@ impl Tables {
     /// # Ok::<(), jobdesk::Refusal>(())
     /// ```
     ///
-    /// That a job is written is no verdict: one that the check refuses with 8 to 14 is written too. But
-    /// such a check clears the tables; so read the job after it.
+    /// That a job is written is no verdict: one that the check refuses with 8 to 14 or 16 is written too.
+    /// But such a check clears the tables; so read the job after it.
     ///
     /// # Errors
     /// 15 if the buffer is too short. 2, 3, 5 or 6 if no job has these tables and counts, as after a
@@ -274,7 +291,8 @@ impl<'a> Accepted<'a> {
     /// The type table. An entry has the type's command byte in its low byte, then its key, and from
     /// bit 16 and from bit 32 its parts; a function's effect stands in [`Accepted::sets`]. An
     /// expression makes at most one entry, but a division (command 0x41) two: a number, then the pair
-    /// whose parts are both that number.
+    /// whose parts are both that number. A command 0x42 makes one, a number, whatever its thread comes
+    /// to.
     pub fn types(&self) -> &'a [u64] {
         // No entry that is in use is zero.
         let used = self.tables.types.iter().take_while(|&&word| word != 0).count();
@@ -322,7 +340,7 @@ pub struct Session<'a> {
     pub accepted: Accepted<'a>,
     /// The answer to each call.
     pub answers: Vec<Answered>,
-    /// The job's value, where it has ended.
+    /// The job's value, that of thread 0, where every thread has ended.
     pub value: Option<Value>,
     /// What each cell holds after the last call. The host values that are cells come first, in
     /// their order.

@@ -3,7 +3,7 @@
 use std::error::Error;
 
 use jobdesk::{Answer, Answered, BYTES, Call, Counts, Kind, LENGTHS};
-use jobdesk::{Place, Refusal, Rooms, SHEET_BYTES, Tables, Value};
+use jobdesk::{Place, Refusal, Rooms, SHEET_BYTES, THREADS, Tables, Value, lent};
 
 /// The read of a host cell that holds 7 and whose key is name 2, with some rights.
 fn example(rights: u8) -> Vec<u8> {
@@ -44,7 +44,8 @@ fn runs() {
     let (taken, spent) = (answered(Answer::Taken, 1), answered(Answer::Spent, 0));
     let (done, again) = (answered(Answer::Done, 2), answered(Answer::Done, 0));
     assert_eq!(ran.answers, [taken, spent, done, again]);
-    assert_eq!(ran.rooms, Rooms { cells: 1, keys: 3, bindings: 2, ..Rooms::default() });
+    let rooms = Rooms { cells: 1, keys: 3, bindings: 2, threads: 1, ..Rooms::default() };
+    assert_eq!((ran.rooms, ran.steps), (rooms, [0; THREADS]));
     // The check refuses this one, and it starts all the same.
     let denied = tables.run(&example(0), &[Call::Run(9)]).expect("a job that starts");
     assert_eq!(denied.answers, [answered(Answer::Denied, 2)]);
@@ -150,7 +151,8 @@ fn divisions() {
         }
     }
     let ran = tables.run(&part(1, 1979, 7), &[Call::Run(100)]).expect("a job that starts");
-    assert_eq!(ran.rooms, Rooms { keys: 2, pairs: 1, ..Rooms::default() });
+    assert_eq!(ran.rooms, Rooms { keys: 2, pairs: 1, threads: 1, ..Rooms::default() });
+    assert_eq!(ran.steps, [7, 0, 0, 0, 0, 0, 0, 0]);
 }
 
 /// A division makes two entries of the type table: a number, and the pair of it and itself.
@@ -165,6 +167,116 @@ fn types_of_a_division() {
     // The pair is no number.
     let twice = of_two(1979, 7, &[0x41, 0, 0, 1, 0, 0x30, 2, 0, 0, 0, 0x41, 2, 0, 3, 0]);
     assert_eq!(tables.check(&twice), Err(Refusal { number: 11, place: 4 }));
+}
+
+/// A thread for the sum of two numbers, while thread 0 adds its number, which is 0, to 7.
+fn spawning() -> Vec<u8> {
+    let sum = [0x3A, 0, 0, 0, 1, 0, 0x42, 2, 0];
+    of_two(5, 6, &[&sum[..], &[0x30, 7, 0, 0, 0, 0x3A, 0, 3, 0, 4, 0]].concat())
+}
+
+#[test]
+fn threads_take_turns() {
+    let mut tables = Tables::new();
+    let calls = [Call::Run(3), Call::Step, Call::Run(2), Call::Run(100), Call::Step];
+    let answered = |answer, steps| Answered { answer, steps };
+    let answers = [
+        answered(Answer::Spent, 3),
+        answered(Answer::Taken, 1),
+        answered(Answer::Spent, 2),
+        answered(Answer::Done, 4),
+        answered(Answer::Done, 0),
+    ];
+    // After so many calls: frames, threads, and the steps of threads 0 and 1 in the last one.
+    let after = [(0, 1, [0, 0]), (1, 2, [3, 0]), (2, 2, [0, 1]), (2, 2, [1, 1]), (0, 2, [1, 3])];
+    for (made, (frames, threads, steps)) in after.into_iter().enumerate() {
+        let ran = tables.run(&spawning(), &calls[..made]).expect("a job that starts");
+        assert_eq!(ran.answers, answers[..made]);
+        assert_eq!(ran.rooms, Rooms { keys: 2, frames, threads, ..Rooms::default() });
+        assert_eq!((&ran.steps[..2], &ran.steps[2..]), (&steps[..], &[0; 6][..]));
+    }
+    let session = tables.session(&spawning(), &calls).expect("a session");
+    assert_eq!(session.answers, answers);
+    assert_eq!(session.value, Some(Value { kind: Kind::Number, data: 7 }));
+    // Thread 0 has ended, thread 1 has not.
+    let session = tables.session(&spawning(), &[Call::Run(7)]).expect("a session");
+    assert_eq!((session.answers, session.value), (vec![answered(Answer::Spent, 7)], None));
+}
+
+/// The number of a 42 has an entry of its own.
+#[test]
+fn type_of_a_thread() {
+    let mut tables = Tables::new();
+    let job = of_two(5, 6, &[0x33, 0, 0, 1, 0, 0x42, 2, 0]);
+    let accepted = tables.check(&job).expect("an accepted job");
+    assert_eq!((accepted.entry(), accepted.effect(), accepted.kind()), (3, 0, Kind::Number));
+    assert_eq!(accepted.types(), [0x10, 0x10, 0x11 | 1 << 32, 0x10]);
+}
+
+/// A thread has no keys, so its body must need none. Run all the same, it is denied, and asked again.
+#[test]
+fn a_thread_without_its_key() {
+    let mut tables = Tables::new();
+    let mut job = example(4);
+    job.pop();
+    job.extend([0x42, 1, 0, 0xFF]);
+    let refusal = tables.check(&job).unwrap_err();
+    assert_eq!((refusal, refusal.at()), (Refusal { number: 16, place: 2 }, Place::Expression(2)));
+    let said = "refused 16 at expression 2: a thread's body has an effect";
+    assert_eq!(refusal.to_string(), said);
+    assert_eq!(tables.session(&job, &[]), Err(refusal));
+    let ran = tables.run(&job, &[Call::Run(100)]).expect("a job that starts");
+    assert_eq!(ran.answers, [Answered { answer: Answer::Denied, steps: 3 }]);
+    assert_eq!(ran.steps[..2], [1, 2]);
+    let ran = tables.run(&job, &[Call::Run(100), Call::Step]).expect("a job that starts");
+    assert_eq!(ran.answers[1], Answered { answer: Answer::Denied, steps: 0 });
+    assert_eq!(ran.steps, [0; THREADS]);
+}
+
+/// So many threads, one in another.
+fn nested(threads: u16) -> Vec<u8> {
+    let mut job = vec![0x21, 0, 0, 0, 0, 0, 0, 0, 0, 0x31];
+    for body in 0..threads {
+        job.push(0x42);
+        job.extend(body.to_le_bytes());
+    }
+    job.push(0xFF);
+    job
+}
+
+#[test]
+fn a_ninth_thread() {
+    let mut tables = Tables::new();
+    for (spawns, answer, steps) in [(7, Answer::Done, 8), (8, Answer::NoRoom, 7)] {
+        let session = tables.session(&nested(spawns), &[Call::Run(100)]).expect("a session");
+        assert_eq!(session.answers, [Answered { answer, steps }]);
+        let ran = tables.run(&nested(spawns), &[Call::Run(100)]).expect("a job that starts");
+        assert_eq!(ran.rooms.threads, 8);
+        assert_eq!(ran.steps.iter().sum::<u64>(), steps);
+    }
+}
+
+/// `rooms` gets no more words than it has.
+#[test]
+fn short_rooms() {
+    let [names, types, sets, values, heads, slots, ..] = LENGTHS;
+    for length in 0..=16 {
+        let (mut rooms, mut answers) = ([99; 17], [0; 2]);
+        let lent = lent::Lent {
+            names: &mut vec![0; names],
+            types: &mut vec![0; types],
+            sets: &mut vec![0; sets],
+            values: &mut vec![0; values],
+            heads: &mut vec![0; heads],
+            slots: &mut vec![0; slots],
+        };
+        let number = lent::run(&spawning(), lent, &[6], &mut answers, &mut rooms[..length]);
+        assert_eq!((number, answers), (0, [Answer::Spent.number(), 5]));
+        let told = [0, 2, 0, 0, 2, 0, 2, 4, 1, 0, 0, 0, 0, 0, 0];
+        let written = length.min(told.len());
+        assert_eq!(rooms[..written], told[..written]);
+        assert!(rooms[written..].iter().all(|&word| word == 99));
+    }
 }
 
 #[test]
@@ -230,11 +342,11 @@ fn short_buffer() {
 #[test]
 fn every_refusal_has_words() {
     let reason = |number| Refusal { number, place: 0 }.reason();
-    let mut reasons: Vec<_> = (1..=15).map(reason).collect();
-    assert!(!reasons.contains(&reason(16)));
+    let mut reasons: Vec<_> = (1..=16).map(reason).collect();
+    assert!(!reasons.contains(&reason(17)));
     reasons.sort();
     reasons.dedup();
-    assert_eq!(reasons.len(), 15);
+    assert_eq!(reasons.len(), 16);
 }
 
 /// The number of a constant of `jobdesk.h`.
@@ -252,8 +364,12 @@ fn numbers_of_the_header() {
     assert_eq!(tables.map(defined), LENGTHS);
     let answers = ["TAKEN", "DONE", "SPENT", "NO_ROOM", "STUCK", "DENIED"];
     assert_eq!(answers.map(defined), Answer::ALL.map(|answer| answer.number() as usize));
-    assert_eq!(["OUT", "ROOMS", "ANSWER", "VALUE", "CELLS"].map(defined), [2, 6, 2, 2, 512]);
-    assert_eq!(["COUNTS", "BYTES", "SHORT_BUFFER"].map(defined), [5, BYTES, 15]);
+    assert_eq!(["OUT", "ANSWER", "VALUE", "CELLS"].map(defined), [2, 2, 2, 512]);
+    assert_eq!(["THREADS", "ROOMS"].map(defined), [THREADS, 7 + THREADS]);
+    assert_eq!(
+        ["COUNTS", "BYTES", "SHORT_BUFFER", "SPAWN_EFFECT"].map(defined),
+        [5, BYTES, 15, 16]
+    );
     assert_eq!(defined("SHEET_BYTES"), SHEET_BYTES);
     let kinds = ["NUMBER", "PAIR", "CELL", "FUNCTION", "LIMIT", "GRANT"];
     assert_eq!(kinds.map(defined), Kind::ALL.map(|kind| kind as usize + 1));

@@ -4,7 +4,7 @@ use jobdesk::lent::{self, Held, Lent};
 use jobdesk::{BYTES, LENGTHS};
 
 /// A job with every command but the end, each at its offset. The reader takes it; the check does not.
-const COMMANDS: [&[u8]; 30] = [
+const COMMANDS: [&[u8]; 31] = [
     &[0x01, 1],                                        // 0: name 2, below the top
     &[0x01, 2],                                        // 2: name 3, below name 2
     &[0x02, 1],                                        // 4: name 4, a local one
@@ -35,10 +35,11 @@ const COMMANDS: [&[u8]; 30] = [
     &[0x3F, 0, 0, 1, 0],                               // 143: expression 15
     &[0x40, 1, 0, 14, 0, 15, 0, 0, 0],                 // 148: expression 16
     &[0x41, 16, 0, 0, 0],                              // 157: expression 17
+    &[0x42, 17, 0],                                    // 162: expression 18
 ];
 
 /// How many expressions it has.
-const EXPRESSIONS: usize = 18;
+const EXPRESSIONS: usize = 19;
 
 /// The same with so many of its expressions, and the end.
 fn job(expressions: usize) -> Vec<u8> {
@@ -48,7 +49,7 @@ fn job(expressions: usize) -> Vec<u8> {
 }
 
 /// How many operands of two bytes each of its expressions has.
-const PLACES: [usize; EXPRESSIONS] = [0, 0, 0, 2, 1, 2, 2, 2, 2, 1, 2, 4, 5, 2, 3, 2, 4, 2];
+const PLACES: [usize; EXPRESSIONS] = [0, 0, 0, 2, 1, 2, 2, 2, 2, 1, 2, 4, 5, 2, 3, 2, 4, 2, 1];
 
 /// Every bit from this one on.
 const fn from_bit(bit: u32) -> u64 {
@@ -131,7 +132,7 @@ fn damaged(damage: impl FnOnce(&mut Own)) -> Own {
 fn comes_back() {
     let job = job(EXPRESSIONS);
     let own = Own::of(&job);
-    assert_eq!(own.counts, [3, 6, 2, 18, 4]);
+    assert_eq!(own.counts, [3, 6, 2, 19, 4]);
     assert_eq!((own.names[4], own.names[5], own.types[6]), (0x0201, 0, 0));
     own.written(&job);
 }
@@ -206,6 +207,7 @@ fn no_command() {
     damaged(|own| own.values[1] = 0).refused(2, 45);
     damaged(|own| own.heads[16] = 0x7F).refused(2, 148);
     damaged(|own| own.heads[17] = 0x7F).refused(2, 157);
+    damaged(|own| own.heads[18] = 0x43).refused(2, 162);
 }
 
 #[test]
@@ -216,6 +218,7 @@ fn foreign_command() {
     damaged(|own| own.heads[1] = 0x20).refused(3, 66);
     damaged(|own| own.heads[16] = 0xFF).refused(3, 148);
     damaged(|own| own.heads[17] = 0x11).refused(3, 157);
+    damaged(|own| own.heads[18] = 0x15).refused(3, 162);
     // Also where a field is too wide for its operand.
     damaged(|own| own.types[2] = 0x31 | from_bit(8)).refused(3, 14);
     damaged(|own| own.heads[4] = 0x11 | from_bit(8)).refused(3, 74);
@@ -296,6 +299,8 @@ fn operands_that_break_a_condition() {
     // Dividend and divisor.
     damaged(|own| own.slots[85] = 17).refused(6, 157);
     damaged(|own| own.slots[86] = 17).refused(6, 157);
+    // The body of a thread.
+    damaged(|own| own.slots[90] = 18).refused(6, 162);
 }
 
 #[test]
@@ -327,7 +332,7 @@ fn what_is_not_looked_at() {
             own.types[no_second] |= from_bit(32);
         }
         (0..own.sets.len()).filter(|&i| i != 3).for_each(|i| own.sets[i] = u64::MAX);
-        for bare in [1, 3, 6, 7, 8, 9, 11, 13, 15, 16, 17] {
+        for bare in [1, 3, 6, 7, 8, 9, 11, 13, 15, 16, 17, 18] {
             own.heads[bare] |= from_bit(8);
         }
         for (i, places) in PLACES.into_iter().enumerate() {

@@ -92,6 +92,8 @@ pub enum Effect {
     Drop(usize, usize),
     /// In the body's effect the local name becomes its upper name: name, body.
     Raise(usize, usize),
+    /// The body runs in a thread, with no key enabled, so its effect must be empty (refusal 16).
+    Thread(usize),
 }
 
 /// The type that an expression has. Numbers are operands.
@@ -394,6 +396,13 @@ pub static ROWS: &[Row] = &[
         word: "divide",
         operands: &[Expr("dividend"), Expr("divisor")],
         rule: Rule { touch: &[(0, NUMBER), (1, NUMBER)], gives: Gives::TwoNumbers, ..JOINED },
+        ..EXPRESSION
+    },
+    Row {
+        byte: 0x42,
+        word: "spawn",
+        operands: &[Expr("body")],
+        rule: Rule { effect: Effect::Thread(0), ..JOINED },
         ..EXPRESSION
     },
     declared(0xFF, "end", Section::End, &[]),

@@ -5,6 +5,7 @@ mod refused;
 use second::names::bits;
 use second::{Refusal, Typed};
 
+use crate::commands::Effect;
 use crate::decode::{Command, Listing, decode};
 use crate::dump::Tree;
 use crate::opens::Reach;
@@ -38,6 +39,7 @@ pub fn title(number: u32) -> &'static str {
         12 => "An operand's type is not a subtype of the one needed.",
         13 => "A limit's body uses keys outside the limit.",
         14 => "The job uses keys beyond its rights.",
+        16 => "A thread's body has an effect.",
         _ => "The job is refused.",
     }
 }
@@ -92,7 +94,7 @@ impl View<'_> {
         self.line(title(refusal.number));
     }
 
-    /// The verdict of typing: 11 to 14, or accepted.
+    /// The verdict of typing: 11 to 14 or 16, or accepted.
     fn typing(&mut self, typing: &Typing) {
         match &typing.fault {
             Some((number, fault)) => {
@@ -105,13 +107,18 @@ impl View<'_> {
 
     /// An expression with its number, and its place in a text.
     fn expr(&mut self, number: usize) {
-        let place = match self.symbols.places.get(&(number as u16)) {
-            Some(span) => format!(" (line {}, column {})", span.line, span.column),
-            None => String::new(),
-        };
+        let place = self.place(number);
         let word = self.exprs[number].row.word;
         let text = self.tree.node(number, SHOWN).lines(4, 4);
         self.line(format!("expression {number}, `{word}`{place}:\n    {text}"));
+    }
+
+    /// Where an expression stands in a text.
+    fn place(&self, number: usize) -> String {
+        match self.symbols.places.get(&(number as u16)) {
+            Some(span) => format!(" (line {}, column {})", span.line, span.column),
+            None => String::new(),
+        }
     }
 
     /// An expression in a sentence.
@@ -138,7 +145,31 @@ impl View<'_> {
         }
         let reach = Reach::new(&self.listing.job, &self.exprs, typing);
         self.out.push_str(&reach.asked(self.symbols));
+        self.threads(&reach);
         self.out.push_str(&reach.cells(self.symbols));
+    }
+
+    /// The places that start threads, and what grant keys open to a thread.
+    fn threads(&mut self, reach: &Reach) {
+        let starts = |expr: &Command| matches!(expr.row.rule.effect, Effect::Thread(_));
+        let all = 0..self.exprs.len();
+        let places: Vec<usize> = all.filter(|&number| starts(&self.exprs[number])).collect();
+        self.line(match places.len() {
+            0 => return,
+            1 => "threads: 1 place starts one".to_string(),
+            several => format!("threads: {several} places start one"),
+        });
+        for number in places {
+            let (place, text) = (self.place(number), self.tree.node(number, 3).flat());
+            self.line(format!("    expression {number}{place}, {text}"));
+        }
+        let open = match reach.granted_names() {
+            0 => ", and no grant key is lent".to_string(),
+            names => {
+                format!("; grant keys lent open to it what is below {}", self.symbols.list(names))
+            }
+        };
+        self.line(format!("    a new thread has no key enabled{open}"));
     }
 
     /// Each expression's type and effect, as far as they were worked out.

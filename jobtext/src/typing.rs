@@ -1,4 +1,4 @@
-//! Types and effects by the rules of the rows, with the reason of a refusal (11 to 14).
+//! Types and effects by the rules of the rows, with the reason of a refusal (11 to 14 and 16).
 
 use second::job::VARIABLES;
 use second::names::Names;
@@ -21,6 +21,8 @@ pub enum Fault {
     Within(u16, u64),
     /// 14
     Rights,
+    /// 16: the body.
+    Thread(u16),
 }
 
 impl Fault {
@@ -30,6 +32,7 @@ impl Fault {
             Fault::Subtype(..) => 12,
             Fault::Within(..) => 13,
             Fault::Rights => 14,
+            Fault::Thread(..) => 16,
         }
     }
 }
@@ -170,7 +173,7 @@ impl<'a> Worker<'a> {
         }
     }
 
-    /// The effect beside what is touched, or 13.
+    /// The effect beside what is touched, or 13 or 16.
     fn effect(&self, expr: &Command) -> Result<u64, Fault> {
         let at = |place: usize| expr.args[place].one() as u16;
         let all = expr.exprs();
@@ -202,6 +205,10 @@ impl<'a> Worker<'a> {
                 let raised = self.names.raise(self.typing.effect_of(at(body)), at(name) as u8);
                 raised | join(&mut but(at(body)))
             }
+            Effect::Thread(body) => match self.typing.effect_of(at(body)) {
+                0 => 0,
+                _ => return Err(Fault::Thread(at(body))),
+            },
         })
     }
 

@@ -1,5 +1,5 @@
 //! The sample jobs: each text gives the recorded bytes, lines and verdict in words; together they
-//! use every command and meet every refusal from 2 to 14.
+//! use every command and meet every refusal from 2 to 14 and 16.
 
 use std::collections::BTreeSet;
 use std::fs;
@@ -56,7 +56,7 @@ fn every_command_and_refusal() {
     }
     let all: BTreeSet<_> = ROWS.iter().map(|row| (row.byte, row.word)).collect();
     assert_eq!(words, all);
-    assert_eq!(refusals, (2..=14).collect());
+    assert_eq!(refusals, (2..=14).chain([16]).collect());
 }
 
 /// The bytes of a sample job, a line a command.
@@ -83,15 +83,22 @@ fn one_job_for_two() {
     apart_in("20 03 00 ", "week_over_shifts", "week_without_shifts");
 }
 
+/// A sample job that was started.
+fn started(name: &str) -> Machine {
+    let bytes = hex::read(&lines(name).join("\n")).expect("hexadecimal digits");
+    Machine::start(&bytes).expect("a job that starts")
+}
+
+/// What the cells hold.
+fn held(machine: &Machine) -> Vec<u32> {
+    machine.cells().iter().map(|cell| cell.data()).collect()
+}
+
 /// What is paid for the shifts and what is kept are all the minutes that there were.
 #[test]
 fn a_week_over_the_shifts() {
     for (name, shifts) in [("week_over_shifts", 7), ("week_without_shifts", 0)] {
-        let bytes = hex::read(&lines(name).join("\n")).expect("hexadecimal digits");
-        let mut machine = Machine::start(&bytes).expect("a job that starts");
-        let held = |machine: &Machine| -> Vec<u32> {
-            machine.cells().iter().map(|cell| cell.data()).collect()
-        };
+        let mut machine = started(name);
         let before = held(&machine);
         assert_eq!((machine.run(100_000).0, before[6]), (Outcome::Done, shifts), "{name}");
         let (share, after) = (machine.result().expect("a share").data(), held(&machine));
@@ -100,6 +107,21 @@ fn a_week_over_the_shifts() {
         assert!(kept < shifts || shifts == 0, "{name}");
         assert_eq!((&after[..5], after[6]), (&before[..5], shifts), "{name}");
     }
+}
+
+/// Each of four threads leaves a driver's sum, and thread 0 adds them up.
+#[test]
+fn four_drivers_at_a_time() {
+    let mut machine = started("four_drivers");
+    let before = held(&machine);
+    let (outcome, counts) = machine.run_threads(100_000);
+    assert_eq!((outcome, machine.rooms().threads), (Outcome::Done, 5));
+    assert!(counts[1..5].iter().all(|&steps| steps == counts[1]), "{counts:?}");
+    let after = held(&machine);
+    assert_eq!(after[..8], before[..8]);
+    let sums: Vec<u32> = before[..8].chunks(2).map(|days| days.iter().sum()).collect();
+    assert_eq!(after[8..12], sums);
+    assert_eq!(machine.result().map(|value| value.data()), Some(sums.iter().sum()));
 }
 
 /// The table of commands in the guide has every row.
@@ -131,10 +153,12 @@ fn the_pages_show_what_is_recorded() {
         ("docs/JOBS.md", "payroll_week.out"),
         ("docs/JOBS.md", "rest_over.out"),
         ("docs/JOBS.md", "week_over_shifts.out"),
+        ("docs/JOBS.md", "four_drivers.out"),
         ("docs/VERDICTS.md", "two_agencies.explain"),
         ("docs/VERDICTS.md", "two_agencies.out"),
         ("docs/VERDICTS.md", "agency_bill_lent.explain"),
         ("docs/VERDICTS.md", "agency_bill_closed.explain"),
+        ("docs/VERDICTS.md", "four_drivers.explain"),
         ("docs/VERDICTS.md", "refused/13_limit.explain"),
     ];
     for (page, file) in shown {

@@ -91,7 +91,7 @@ fn tangled(rng: &mut Rng) -> Vec<u8> {
             }
             9 => bytes.extend([0x3D, a[0], a[1], b[0], b[1]]),
             10 => bytes.extend([0x3E, rng.below(64) as u8, 2, a[0], a[1], b[0], b[1], 0, 0]),
-            _ => bytes.extend([0x39, a[0], a[1]]),
+            _ => bytes.extend([rng.pick(&[0x39, 0x42]), a[0], a[1]]),
         }
     }
     bytes.push(0xFF);

@@ -53,7 +53,7 @@ fn no_false_reason(bytes: &[u8]) {
 
 #[test]
 fn generated_jobs() {
-    let mut seen = [0; 15];
+    let mut seen = [0; 17];
     for seed in 100_000..100_000 + SEEDS {
         let (_, bytes) = job(seed);
         seen[holds(&bytes) as usize] += 1;

@@ -1,4 +1,4 @@
-//! Refusals in words, 2 to 14: the command or expression, what was wanted, what was found.
+//! Refusals in words, 2 to 14 and 16: the command or expression, what was wanted, what was found.
 
 use second::Refusal;
 use second::names::bits;
@@ -135,7 +135,7 @@ impl View<'_> {
         }
     }
 
-    /// Refusals 11 to 14.
+    /// Refusals 11 to 14, and 16.
     pub(super) fn fault(&mut self, typing: &Typing, number: usize, fault: &Fault) {
         self.expr(number);
         match fault {
@@ -162,6 +162,10 @@ impl View<'_> {
                 let set = self.symbols.set(rights);
                 self.line(format!("wanted: an effect below the rights, {set}"));
                 self.beyond(typing, number, typing.typed[number].effect, rights);
+            }
+            Fault::Thread(body) => {
+                self.line("wanted: an effect below {}, since a new thread has no key enabled");
+                self.beyond(typing, *body as usize, typing.effect_of(*body), 0);
             }
         }
     }
