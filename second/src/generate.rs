@@ -6,6 +6,7 @@ mod divisions;
 mod hosts;
 mod limits;
 mod looks;
+mod setting;
 mod tables;
 mod threads;
 

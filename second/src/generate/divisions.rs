@@ -2,9 +2,9 @@
 //! and something that uses the parts.
 
 use super::Rng;
+use super::setting::{self, RIGHTS};
 use crate::check::check;
 use crate::job::*;
-use crate::names::Names;
 use crate::write::bytes_of;
 
 /// The types of unkeyed numbers, of those with key 3, and of pairs of either in each order.
@@ -26,14 +26,10 @@ struct Divisions<'r> {
 
 /// A job; the rights are often those it needs.
 pub fn job(rng: &mut Rng) -> Job {
-    let mut names = Names::default();
-    for upper in [1, 2, 2] {
-        names.declare(upper, true);
-    }
+    let names = setting::names(0);
     let types = types(rng);
-    let first = types.len() as u16 - HOSTS as u16;
-    let mut number = |v: u8| if v < LIMITS { some_word(rng) } else { 0 };
-    let hosts = (0..HOSTS).map(|v| HostValue { ty: first + v as u16, number: number(v) }).collect();
+    let number = |v: u8| if v < LIMITS { some_word(rng) } else { 0 };
+    let hosts = setting::hosts(&types, HOSTS, number);
     let mut divisions = Divisions { rng, exprs: Vec::new(), variable: HOSTS };
     if divisions.rng.chance(4) {
         // One that nothing uses.
@@ -43,10 +39,9 @@ pub fn job(rng: &mut Rng) -> Job {
     divisions.whole(depth);
     let exprs = divisions.exprs;
     let mut job = Job { names, types, hosts, rights: 2, exprs, ..Job::default() };
-    let all = [0, 0b10, 0b100, 0b1000, 0b10000, 0b11000];
     job.rights = match check(&bytes_of(&job)) {
         Ok(accepted) if rng.chance(70) => accepted.effect,
-        _ => rng.pick(&all),
+        _ => rng.pick(&RIGHTS),
     };
     job
 }
@@ -58,8 +53,7 @@ fn types(rng: &mut Rng) -> Vec<Type> {
         types.push(Type { key: rng.pick(&[0, 0, 0, 2]), shape: Shape::Pair(parts.0, parts.1) });
     }
     types.extend([0, 2, 3, 4].map(|key| Type { key, shape: Shape::Cell(PLAIN) }));
-    let shapes = (1..=4).map(Shape::Limit).chain((1..=4).map(Shape::Grant));
-    types.extend(shapes.map(|shape| Type { key: rng.pick(&[0, 0, 0, 1, 2, 3, 4]), shape }));
+    types.extend(setting::keys(rng, &[0, 0, 0, 1, 2, 3, 4]));
     types
 }
 

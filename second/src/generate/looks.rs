@@ -2,9 +2,9 @@
 //! branches that needs what was looked at.
 
 use super::Rng;
+use super::setting::{self, RIGHTS};
 use crate::check::check;
 use crate::job::*;
-use crate::names::Names;
 use crate::write::bytes_of;
 
 /// The type of unkeyed numbers, and of those with key 3.
@@ -32,16 +32,10 @@ struct Looks<'r> {
 
 /// A job; the rights are often those it needs.
 pub fn job(rng: &mut Rng) -> Job {
-    let mut names = Names::default();
-    for upper in [1, 2, 2] {
-        names.declare(upper, true);
-    }
-    for _ in 0..LOCALS {
-        names.declare(2, false);
-    }
+    let names = setting::names(LOCALS);
     let types = types(rng);
-    let number = |v: u16| if v < LIMITS as u16 { 6 + v as u32 } else { 0 };
-    let hosts = (0..HOSTS as u16).map(|v| HostValue { ty: 2 + v, number: number(v) }).collect();
+    let number = |v: u8| if v < LIMITS { 6 + v as u32 } else { 0 };
+    let hosts = setting::hosts(&types, HOSTS, number);
     let (exprs, variable) = (Vec::new(), HOSTS);
     let (numbers, pairs) = (Vec::new(), Vec::new());
     let mut looks = Looks { rng, exprs, variable, name: LOCAL, numbers, pairs };
@@ -57,11 +51,10 @@ pub fn job(rng: &mut Rng) -> Job {
     };
     let exprs = looks.exprs;
     let mut job = Job { names, types, hosts, rights: 2, exprs, ..Job::default() };
-    let all = [0, 0b10, 0b100, 0b1000, 0b10000, 0b11000];
     job.rights = match check(&bytes_of(&job)) {
         Ok(accepted) if rng.chance(50) => accepted.effect,
-        Ok(accepted) if rng.chance(50) => job.names.reduce(accepted.effect | rng.pick(&all)),
-        _ => rng.pick(&all),
+        Ok(accepted) if rng.chance(50) => job.names.reduce(accepted.effect | rng.pick(&RIGHTS)),
+        _ => rng.pick(&RIGHTS),
     };
     job
 }
@@ -70,8 +63,7 @@ pub fn job(rng: &mut Rng) -> Job {
 fn types(rng: &mut Rng) -> Vec<Type> {
     let mut types = vec![Type::unkeyed(Shape::Number), Type { key: 3, shape: Shape::Number }];
     types.extend([2, 3, 4].map(|key| Type { key, shape: Shape::Cell(PLAIN) }));
-    let shapes = (1..=4).map(Shape::Limit).chain((1..=4).map(Shape::Grant));
-    types.extend(shapes.map(|shape| Type { key: rng.pick(&[0, 0, 0, 1, 2, 3, 4]), shape }));
+    types.extend(setting::keys(rng, &[0, 0, 0, 1, 2, 3, 4]));
     types
 }
 

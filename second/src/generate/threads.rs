@@ -2,9 +2,9 @@
 //! grants, new keys, functions and loops; with what a thread has no key for.
 
 use super::Rng;
+use super::setting::{self, RIGHTS};
 use crate::check::check;
 use crate::job::*;
-use crate::names::Names;
 use crate::write::bytes_of;
 
 /// The types of unkeyed numbers, of functions of them without effect, and of cells of such.
@@ -35,24 +35,16 @@ struct Threads<'r> {
 
 /// A job; the rights are often those it needs.
 pub fn job(rng: &mut Rng) -> Job {
-    let mut names = Names::default();
-    for upper in [1, 2, 2] {
-        names.declare(upper, true);
-    }
-    for _ in 0..LOCALS {
-        names.declare(2, false);
-    }
+    let names = setting::names(LOCALS);
     let types = types(rng);
-    let first = types.len() as u16 - HOSTS as u16;
     let number = |v: u8| if v < LIMITS { v as u32 } else { 0 };
-    let hosts = (0..HOSTS).map(|v| HostValue { ty: first + v as u16, number: number(v) }).collect();
+    let hosts = setting::hosts(&types, HOSTS, number);
     let exprs = exprs(rng);
     let mut job = Job { names, types, hosts, rights: 2, exprs, ..Job::default() };
-    let all = [0, 0b10, 0b100, 0b1000, 0b10000, 0b11000];
     job.rights = match check(&bytes_of(&job)) {
         Ok(accepted) if rng.chance(40) => accepted.effect,
-        Ok(accepted) => job.names.reduce(accepted.effect | rng.pick(&all)),
-        _ => rng.pick(&all),
+        Ok(accepted) => job.names.reduce(accepted.effect | rng.pick(&RIGHTS)),
+        _ => rng.pick(&RIGHTS),
     };
     job
 }
@@ -63,8 +55,7 @@ fn types(rng: &mut Rng) -> Vec<Type> {
     types.push(Type::unkeyed(Shape::Function(PLAIN, PLAIN, 0)));
     types.push(Type::unkeyed(Shape::Cell(FUNCTION)));
     types.extend([0, 0, 2, 3].map(|key| Type { key, shape: Shape::Cell(PLAIN) }));
-    let shapes = (1..=4).map(Shape::Limit).chain((1..=4).map(Shape::Grant));
-    types.extend(shapes.map(|shape| Type { key: rng.pick(&[0, 0, 0, 0, 2, 3]), shape }));
+    types.extend(setting::keys(rng, &[0, 0, 0, 0, 2, 3]));
     types
 }
 
