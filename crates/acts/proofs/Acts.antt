@@ -26,7 +26,7 @@ use Rattle.acts.specs.declared.State.{State}
 use Rattle.acts.specs.declared.Acted.{Acted}
 use Rattle.acts.specs.declared.Answer.the-variants.{Finished, NoRoom, Stuck, Denied}
 use Rattle.acts.specs.View.{Tables, view}
-use Rattle.acts.specs.Inner.{settled, acted, give, go, stopOf, giveOf, goOf, unkeyedOf, unkeyedNumber, putCells, putKeys, putPairs, putBindings, Went}
+use Rattle.acts.specs.Inner.{settled, acted, give, go, stopOf, goOf, unkeyedOf, unkeyedNumber, putCells, putKeys, putPairs, putBindings, Gave, Went}
 
 -- a step that is not taken
 module _ (self : State) (w : Tables) (o : Out) where
@@ -44,13 +44,12 @@ module _ (self : State) (w : Tables) (o : Out) where
 
 -- a step that is taken
 module _ (m : Clean) (t : State) (w : Tables) (o : Out) where
-  pub gave : (v : Value) {r : Acted} → r ≡ giveOf t v → o ≡ give (valueIn v) (view t w) → acted r w ≡ settled m o
+  pub gave : (v : SValue) {r : Acted} → Gave t v r → o ≡ give v (view t w) → acted r w ≡ settled m o
   unfolding view
-  gave v e f = simp (e, f)
+  gave v e f = simp (e .gives, e .means, f)
 
-  pub gave-new : (k : Kind) (n : ℕ) {v : Value} {r : Acted} → v ≡ unkeyedOf k n → r ≡ giveOf t v → o ≡ give (unkeyed (kindIn k n)) (view t w) → acted r w ≡ settled m o
-  unfolding view
-  gave-new k n h e f = simp (e, h, f)
+  pub gave-new : (k : Kind) (n : ℕ) {v : Value} {r : Acted} → v ≡ unkeyedOf k n → Gave t (valueIn v) r → o ≡ give (unkeyed (kindIn k n)) (view t w) → acted r w ≡ settled m o
+  gave-new k n {v} h e f = gave (valueIn v) e (simp h f)
 
   pub goes : (e : Expr) (env : ℕ) (on : Keys) {r : Acted} → r ≡ goOf t e env on → o ≡ go (e .0) env (keysIn on) (view t w) → acted r w ≡ settled m o
   unfolding view

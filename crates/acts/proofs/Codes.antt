@@ -145,10 +145,10 @@ module _ (heads slots : List ℕ) (i head : ℕ) (e : head ≡ getD heads i 0) w
       simp (ne-eqb _ _ h0, ne-eqb _ _ h1, ne-eqb _ _ e2) (code-three p q r (v ∷ []) m hc)
 
   pub code-limit :
-      (n : ℕ) (p q r v : Value) (m : Machine) {body : ℕ} {a b c : Value} → head % 256 ≡ 0x3C → body ≡ getD slots (i * 5 + 4) 0 →
-      a ≡ cond (ltb 0 n) p v → b ≡ cond (ltb 1 n) q v → c ≡ cond (ltb 2 n) r v → settle (act (codeIn heads slots i) (handOf n p q r ++ (v ∷ [])) m) ≡ settle (actLim body (a ∷ b ∷ c ∷ v ∷ []) m)
+      (n : ℕ) (p q r v : Value) (m : Machine) {body : ℕ} {a b c d : Value} → head % 256 ≡ 0x3C → body ≡ getD slots (i * 5 + 4) 0 →
+      a ≡ cond (ltb 0 n) p v → b ≡ cond (ltb 1 n) q v → c ≡ cond (ltb 2 n) r v → d ≡ v → settle (act (codeIn heads slots i) (handOf n p q r ++ (v ∷ [])) m) ≡ settle (actLim body (a ∷ b ∷ c ∷ d ∷ []) m)
   unfolding codeIn decode act
-  code-limit n p q r v m h hb ha hq hc = simp (← e, h, ← hb) (padded n _ p q r v m ∙ simp (← ha, ← hq, ← hc))
+  code-limit n p q r v m h hb ha hq hc hd = simp (← e, h, ← hb) (padded n _ p q r v m ∙ simp (← ha, ← hq, ← hc, hd))
 
   pub code-test :
       (v : Value) (m : Machine) {b c : ℕ} → head % 256 ≡ 0x3B → b ≡ getD slots (i * 5 + 1) 0 → c ≡ getD slots (i * 5 + 2) 0 → act (codeIn heads slots i) (v ∷ []) m ≡ actTest b c v m

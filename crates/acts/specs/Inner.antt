@@ -8,6 +8,7 @@ use Rattle.store.specs.declared.Keys.{Keys}
 use Rattle.store.specs.declared.Kind.{Kind}
 use Rattle.store.specs.declared.Value.{Value}
 use Rattle.store.specs.Meaning.{ownIn}
+use Rattle.store.specs.Words.{wordIn}
 use Rattle.acts.specs.declared.Answer.{Answer}
 use Rattle.acts.specs.declared.Answer.the-variants.{Taken}
 use Rattle.acts.specs.declared.Control.the-variants.{Enter, Hand}
@@ -75,8 +76,14 @@ stopOf t a = record { state = t; answer = a }
 abbrev pub withNow : State → Now → State
 withNow t n = record { now = n; frames = t .frames; cells = t .cells; keys = t .keys; pairs = t .pairs; functions = t .functions; bindings = t .bindings }
 
-abbrev pub giveOf : State → Value → Acted
-giveOf t v = record { state = withNow t (record { control = Hand v; env = t .now .env; on = t .now .on }); answer = Taken }
+abbrev pub giveOf : State → ℕ → Acted
+giveOf t w = record { state = withNow t (record { control = Hand w; env = t .now .env; on = t .now .on }); answer = Taken }
+
+-- v is handed on, as a word that stands for it
+pub record Gave (t : State) (v : SValue) (r : Acted) : Type 0 where
+  pub word : ℕ
+  pub means : wordIn word ≡ v
+  pub gives : r ≡ giveOf t word
 
 abbrev pub goOf : State → Expr → ℕ → Keys → Acted
 goOf t e env on = record { state = withNow t (record { control = Enter e; env = env; on = on }); answer = Taken }

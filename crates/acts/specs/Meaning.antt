@@ -1,6 +1,6 @@
 -- What control and answers stand for.
 use Rattle.semantics.specs.Machine.{Control as SControl, enter, hand}
-use Rattle.store.specs.Meaning.{valueIn}
+use Rattle.store.specs.Words.{wordIn}
 use Rattle.acts.specs.declared.Control.{Control}
 use Rattle.acts.specs.declared.Control.the-variants.{Enter, Hand}
 use Rattle.acts.specs.declared.Answer.{Answer}
@@ -8,7 +8,7 @@ use Rattle.acts.specs.declared.Answer.the-variants.{Taken, Finished, NoR
 
 abbrev pub controlIn : Control → SControl
 controlIn (Enter e) = enter (e .0)
-controlIn (Hand v) = hand (valueIn v)
+controlIn (Hand w) = hand (wordIn w)
 
 -- the answers of a thread's step: those of `Out`, and that it is to start a thread
 pub data StepAnswer : Type 0 where

@@ -9,7 +9,7 @@ use Rattle.store.specs.Tables.{capped, listOf, stackOf}
 use Rattle.acts.specs.declared.State.{State}
 use Rattle.acts.specs.Meaning.{controlIn}
 
--- the tables' words, and the threads that there are, which no table holds
+-- the tables' words, and the threads that there are, as a step sees them
 pub record Tables : Type 0 where
   pub threads : List SThread
   pub frames : List ℕ

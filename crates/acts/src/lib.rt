@@ -12,15 +12,15 @@ use table::Key;
 ghost use mathlib.Core.Path.{_≡_};
 ghost use Rattle.semantics.specs.Machine.{most-keys};
 ghost use Rattle.semantics.specs.Keys.{enabled};
-ghost use Rattle.store.specs.Meaning.{keysIn};
+ghost use Rattle.store.specs.Meaning.{keysIn, valueIn};
 ghost use Rattle.store.specs.Words.{upIn};
 ghost use Rattle.store.specs.Tables.{capped, listOf};
-ghost use Rattle.acts.specs.Inner.{stopOf, giveOf, goOf, resumeOf, unkeyedOf};
+ghost use Rattle.acts.specs.Inner.{stopOf, goOf, resumeOf, unkeyedOf, Gave};
 
-// An expression to enter or a value to hand on.
+// An expression to enter or the word of a value to hand on.
 pub enum Control {
     Enter(Expr),
-    Hand(Value),
+    Hand(u64),
 }
 
 // The answers of a thread's step. `Starts`: the expression to enter is a 0x42. To start a thread is for who holds all threads, and the step changes nothing.
@@ -46,8 +46,8 @@ pub struct Now {
     pub on: Keys,
 }
 
-// What changes at each step beside the tables: the thread, and how many entries of the store's tables are used. It is flat, since a struct in a struct is copied at each step. A count
-// has a word of its own: narrower ones would be packed and unpacked at each step.
+// What an act changes beside the tables: the thread, and how many entries of the store's tables are used. A count has a word of its own: narrower ones would be packed and unpacked at each
+// act.
 pub struct State {
     pub now: Now,
     pub frames: u64,
@@ -84,12 +84,13 @@ impl State {
     }
 
     pub fn give(mut self, v: Value) -> Acted
-        ensures { λ r. ⌜ r ≡ giveOf self v ⌝ }
+        ensures { λ r. ⌜ Gave self (valueIn v) r ⌝ }
     {
+        let w = store::pack(v);
         let now = self.now;
         let on = now.on;
         let n = Now {
-            control: Control::Hand(v),
+            control: Control::Hand(w),
             env: now.env,
             on: on,
         };

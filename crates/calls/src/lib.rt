@@ -2,8 +2,8 @@
 use machine::Answer;
 use machine::Machine;
 use machine::Outcome;
-use store::FRAMES_WORDS;
 use store::MOST_THREADS;
+use store::THREADS_WORDS;
 ghost use mathlib.Core.Path.{_≡_};
 ghost use Prim.Native.Nat.{_<_, _%_, _^_};
 ghost use Rattle.syntax.specs.Words.{codeIn};
@@ -52,7 +52,7 @@ pub fn make(
     m: Machine,
     heads: &[u64],
     slots: &[u16],
-    frames: &mut [u64; FRAMES_WORDS],
+    frames: &mut [u64; THREADS_WORDS],
     w: u64,
 ) -> Outcome
     ensures { λ r. ⌜
@@ -95,7 +95,7 @@ pub fn make_calls(
     m: Machine,
     heads: &[u64],
     slots: &[u16],
-    frames: &mut [u64; FRAMES_WORDS],
+    frames: &mut [u64; THREADS_WORDS],
     calls: &[u64],
     answers: &mut [u64],
 ) -> Last

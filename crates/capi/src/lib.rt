@@ -2,7 +2,7 @@
 use machine::Machine;
 use session::Held;
 use start::Told;
-use store::FRAMES_WORDS;
+use store::THREADS_WORDS;
 ghost use Rattle.syntax.specs.Words.{codeIn};
 ghost use Rattle.table.specs.Lent.{jobBefore, jobAfter};
 ghost use Rattle.semantics.specs.Threads.{stepsOf};
@@ -20,7 +20,7 @@ fn go(
     m: Machine,
     heads: &[u64],
     slots: &[u16],
-    frames: &mut [u64; FRAMES_WORDS],
+    frames: &mut [u64; THREADS_WORDS],
     calls: &[u64],
     answers: &mut [u64],
     rooms: &mut [u64],
@@ -67,7 +67,7 @@ pub extern "C" fn jobdesk_run(
     match told {
         Told::Started => {
             let m = o.machine;
-            let mut frames = [0u64; FRAMES_WORDS];
+            let mut frames = [0u64; THREADS_WORDS];
             go(m, heads, slots, &mut frames, calls, answers, rooms);
             0
         }
@@ -156,7 +156,7 @@ pub extern "C" fn jobdesk_session(
     if results::is_short(calls, answers, value, cells, out) {
         return 1;
     }
-    let mut frames = [0u64; FRAMES_WORDS];
+    let mut frames = [0u64; THREADS_WORDS];
     let h = session::session(
         job,
         names,

@@ -32,6 +32,7 @@ use Rattle.semantics.specs.Demand3.{exprOf, stepsIn, same-steps}
 use Rattle.store.specs.declared.Value.{Value as Held}
 use Rattle.table.specs.declared.Expr.{Expr}
 use Rattle.store.specs.Meaning.{valueIn, kindIn}
+use Rattle.store.specs.Words.{wordIn}
 use Rattle.machine.specs.declared.Machine.{Machine}
 use Rattle.machine.specs.declared.Outcome.{Outcome}
 use Rattle.machine.specs.declared.Answer.{Answer}
@@ -93,9 +94,9 @@ module _ (m : Machine) (fs : List ℕ) (some-thread : 0 < length (seen m fs .thr
   first-there : getElem? (seen m fs .threads) 0 ≡ some (threadAt (m .threads) fs 0)
   first-there = listed-get (threadAt (m .threads) fs) (capped (m .count) most-threads) 0 (omega (arith, some-thread, listed-length (threadAt (m .threads) fs) (capped (m .count) most-threads)))
 
-  seen-hand : (v : Held) → getD (m .threads) 0 idle .now .control ≡ Hand v → allDone (seen m fs .threads) ≡ true → valueOf (seen m fs) ≡ some (valueIn v)
+  seen-hand : (w : ℕ) → getD (m .threads) 0 idle .now .control ≡ Hand w → allDone (seen m fs .threads) ≡ true → valueOf (seen m fs) ≡ some (wordIn w)
   unfolding threadAt handedOn
-  seen-hand v e d = value-is (seen m fs) (threadAt (m .threads) fs 0) d first-there ∙ ap (λ c. handedOn (controlIn c)) e
+  seen-hand w e d = value-is (seen m fs) (threadAt (m .threads) fs 0) d first-there ∙ ap (λ c. handedOn (controlIn c)) e
 
   seen-enter : (e : Expr) → getD (m .threads) 0 idle .now .control ≡ Enter e → allDone (seen m fs .threads) ≡ false
   unfolding threadAt liveThread doneAt
@@ -108,12 +109,12 @@ module _ (m : Machine) (fs : List ℕ) (some-thread : 0 < length (seen m fs .thr
       at true d = absurd (false≢true (sym (done-live (seen m fs .threads) d 0) ∙ ap liveThread first-there ∙ busy))
       at false d = refl
 
-pub finished-hand : (T : Ty) (s : Effect) (o : Outcome) (fs : List ℕ) (v : Held) (first second both : List ℕ) (n : ℕ) (k : Sort) (x : ℕ) → first ≡ acceptedAs s (typeSort T) → total (o .counts) < 2 ^ 64
-    → 0 < length (seen (o .machine) fs .threads) → allDone (seen (o .machine) fs .threads) ≡ true → getD (o .machine .threads) 0 idle .now .control ≡ Hand v → n ≡ total (o .counts) % 2 ^ 64
+pub finished-hand : (T : Ty) (s : Effect) (o : Outcome) (fs : List ℕ) (w : ℕ) (v : Held) (first second both : List ℕ) (n : ℕ) (k : Sort) (x : ℕ) → first ≡ acceptedAs s (typeSort T) → total (o .counts) < 2 ^ 64
+    → 0 < length (seen (o .machine) fs .threads) → allDone (seen (o .machine) fs .threads) ≡ true → getD (o .machine .threads) 0 idle .now .control ≡ Hand w → valueIn v ≡ wordIn w → n ≡ total (o .counts) % 2 ^ 64
     → k ≡ kindSort (kindIn (v .kind) (v .payload)) → x ≡ kindNumber (kindIn (v .kind) (v .payload)) → second ≡ doneAs n k x → both ≡ joined first second
     → both ≡ acceptedLine T s ++ ranLine finished (total (o .counts)) (seen (o .machine) fs)
-finished-hand T s o fs v first second both n k x a small some-thread done c count d e f g =
-    rw (g, a, f, d, e, count ∙ mod-eq-of-lt small) (accepted-done T s (total (o .counts)) (seen (o .machine) fs) (valueIn v) (seen-hand (o .machine) fs some-thread v c done))
+finished-hand T s o fs w v first second both n k x a small some-thread done c u count d e f g =
+    rw (g, a, f, d, e, count ∙ mod-eq-of-lt small) (accepted-done T s (total (o .counts)) (seen (o .machine) fs) (valueIn v) (seen-hand (o .machine) fs some-thread w c done ∙ ap some (sym u)))
 
 pub finished-enter : {A : Type 0} (o : Outcome) (fs : List ℕ) (e : Expr) → getD (o .machine .threads) 0 idle .now .control ≡ Enter e → 0 < length (seen (o .machine) fs .threads)
     → allDone (seen (o .machine) fs .threads) ≡ true → A

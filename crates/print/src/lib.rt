@@ -6,8 +6,8 @@ use job::Shape;
 use machine::Answer;
 use machine::Control;
 use machine::Outcome;
-use store::FRAMES_WORDS;
 use store::Kind;
+use store::THREADS_WORDS;
 use table::MOST_BYTES;
 use table::MOST_EXPRESSIONS;
 use table::MOST_NAMES;
@@ -93,7 +93,8 @@ fn finished(first: Text, o: Outcome) -> Text
     let now = t.now;
     let control = now.control;
     match control {
-        Control::Hand(v) => {
+        Control::Hand(w) => {
+            let v = store::unpack(w);
             let k = v.kind;
             let sort = kind_sort(k);
             let x = kind_number(k, v.payload);
@@ -145,7 +146,7 @@ fn accepted(
     let sort = type_sort(w % 256);
     let first = format::accepted(s, sort);
     let m = start::built(g, names, types, values);
-    let mut frames = [0u64; FRAMES_WORDS];
+    let mut frames = [0u64; THREADS_WORDS];
     let o = m.run(MOST_STEPS, heads, slots, &mut frames);
     ended(first, o)
 }

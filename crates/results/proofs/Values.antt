@@ -14,7 +14,7 @@ use Rattle.store.specs.declared.Value.{Value as Held}
 use Rattle.table.specs.declared.Expr.{Expr}
 use Rattle.table.specs.Told.{TwoPut}
 use Rattle.store.specs.Meaning.{kindIn, valueIn}
-use Rattle.store.specs.Words.{cellIn}
+use Rattle.store.specs.Words.{wordIn, cellIn}
 use Rattle.store.specs.Tables.{listOf, capped}
 use Rattle.store.proofs.Laws.{list-get, list-beyond}
 use Rattle.thread.specs.declared.Thread.{Thread}
@@ -34,10 +34,10 @@ module _ (t : Thread) {s k : List ℕ} where
   unfolding valueAt firstWord secondWord handedOn
   put-enter e h z = z .same ∙ sets-over s (0 ∷ 0 ∷ []) ∙ sym (ap (λ c. over s (valueAt (handedOn (controlIn c)))) h)
 
-  pub put-hand : (v : Held) (x y : ℕ) → t .now .control ≡ Hand v → x ≡ kindNo (kindIn (v .kind) (v .payload)) → y ≡ payloadOf (kindIn (v .kind) (v .payload)) → TwoPut s k 0 x y
+  pub put-hand : (w : ℕ) (v : Held) (x y : ℕ) → t .now .control ≡ Hand w → valueIn v ≡ wordIn w → x ≡ kindNo (kindIn (v .kind) (v .payload)) → y ≡ payloadOf (kindIn (v .kind) (v .payload)) → TwoPut s k 0 x y
       → k ≡ over s (valueAt (handedOn (controlIn (t .now .control))))
   unfolding valueAt firstWord secondWord handedOn
-  put-hand v x y h p q z = z .same ∙ sets-over s (x ∷ y ∷ []) ∙ (λ i. over s (p i ∷ q i ∷ [])) ∙ sym (ap (λ c. over s (valueAt (handedOn (controlIn c)))) h)
+  put-hand w v x y h e p q z = z .same ∙ sets-over s (x ∷ y ∷ []) ∙ (λ i. over s (p i ∷ q i ∷ [])) ∙ ap (λ (u : Value). over s (valueAt (some u))) e ∙ sym (ap (λ c. over s (valueAt (handedOn (controlIn c)))) h)
 
 -- the value of so many threads
 first-listed : (f : ℕ → SThread) (n : ℕ) → 0 < n → firstValue (listed f n) ≡ handedOn (f 0 .control)

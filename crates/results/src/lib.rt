@@ -172,10 +172,11 @@ fn put_handed(t: Thread, value: &mut [u64])
 {
     let n = t.now;
     let c = n.control;
-    let Control::Hand(v) = c else {
+    let Control::Hand(w) = c else {
         put_two(value, 0, 0, 0);
         return;
     };
+    let v = store::unpack(w);
     let k = v.kind;
     put_two(value, 0, kind_word(k), payload_word(k, v.payload));
 }

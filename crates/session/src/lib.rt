@@ -3,7 +3,7 @@ use calls::Last;
 use checker::Verdict;
 use job::Shape;
 use machine::Machine;
-use store::FRAMES_WORDS;
+use store::THREADS_WORDS;
 ghost use Rattle.syntax.specs.Words.{codeIn};
 ghost use Rattle.semantics.specs.Threads.{stepsOf};
 ghost use Rattle.machine.specs.View.{seen};
@@ -27,7 +27,7 @@ fn answer(
     values: &[u64],
     heads: &[u64],
     slots: &[u16],
-    frames: &mut [u64; FRAMES_WORDS],
+    frames: &mut [u64; THREADS_WORDS],
     calls: &[u64],
     answers: &mut [u64],
 ) -> Last
@@ -66,7 +66,7 @@ pub fn session(
     slots: &mut [u16],
     entries: &mut [u16],
     effects: &mut [u64],
-    frames: &mut [u64; FRAMES_WORDS],
+    frames: &mut [u64; THREADS_WORDS],
     calls: &[u64],
     answers: &mut [u64],
 ) -> Held

@@ -9,14 +9,14 @@ ghost use mathlib.Core.Path.{_≡_};
 ghost use mathlib.Core.Bool.{cond, true};
 ghost use Prim.Native.Nat.{ℕ, _<_, _≤_, _+_, _*_, _%_, _^_};
 ghost use lib.Dec.{eqb, ltb};
-ghost use lib.ListN.{length};
+ghost use lib.ListN.{length, getD};
 ghost use lib.Bits.{bitOr};
 ghost use Rattle.order.specs.Sets.{bit, some-of};
 ghost use Rattle.semantics.specs.Machine.{most-frames, most-cells, most-keys, most-pairs, most-functions, most-bindings};
 ghost use Rattle.semantics.specs.Keys.{enabled, narrow};
 ghost use Rattle.store.specs.Meaning.{word-keys, keysIn, kindIn, valueIn, twoIn, closureIn, bindingIn, variableIn, nameIn, ownIn};
 ghost use Rattle.store.specs.Words.{kindAt, wordIn, cellIn, pairIn, functionIn, linkIn, upIn};
-ghost use Rattle.store.specs.Frames.{frame-words, headAt, heldIn, freshOf, frameIn, Held};
+ghost use Rattle.store.specs.Frames.{frame-words, thread-words, headAt, heldIn, freshOf, frameIn, Held};
 ghost use Rattle.store.specs.Tables.{Put, capped, listOf};
 ghost use Rattle.store.specs.Walk.{walk, bothOf, bitsOf, span};
 
@@ -35,10 +35,10 @@ pub const MOST_FUNCTIONS: u64 = 512;
 
 pub const MOST_BINDINGS: u64 = 1024;
 
-// The lengths of their tables: six words a frame, two a pair and two a binding. A thread's frames are a part of the table of all threads' frames.
-pub const FRAME_WORDS: usize = MOST_FRAMES as usize * 6;
+// The lengths of their tables: six words a frame, two a pair and two a binding. A thread has its frames, and after them six words of its own, in a part of the table of all threads.
+pub const THREAD_WORDS: usize = MOST_FRAMES as usize * 6 + 6;
 
-pub const FRAMES_WORDS: usize = MOST_THREADS * FRAME_WORDS;
+pub const THREADS_WORDS: usize = MOST_THREADS * THREAD_WORDS;
 
 pub const CELL_WORDS: usize = MOST_CELLS as usize;
 
@@ -101,8 +101,9 @@ pub struct Closure {
     pub env: u16,
 }
 
+// A variable with the word of its value, or a name with its key.
 pub enum Bound {
-    Variable(u8, Value),
+    Variable(u8, u64),
     Name(u8, Key),
 }
 
@@ -277,7 +278,7 @@ pub fn binding_at(t: &[u64; BINDING_WORDS], i: u16) -> Binding
     let next = (w / 256 % 65536) as u16;
     if w / 16777216 % 65536 == 0 {
         Binding {
-            bound: Bound::Variable(x, unpack(v)),
+            bound: Bound::Variable(x, v),
             next: next,
         }
     } else {
@@ -323,17 +324,18 @@ pub fn head_at(t: &[u64], i: u16) -> Head
     }
 }
 
-// The value in hand at place j of frame i.
-pub fn held_at(t: &[u64], i: u16, j: u8) -> Value
-    ensures { λ r. ⌜ valueIn r ≡ heldIn (now (t .entry)) i j ⌝ }
+// The word of the value in hand at place j of frame i.
+pub fn held_at(t: &[u64], i: u16, j: u8) -> u64
+    ensures { λ r. ⌜ wordIn r ≡ heldIn (now (t .entry)) i j ⌝ }
 {
-    unpack(at64(t, (i as usize) * 6 + 3 + (j as usize)))
+    at64(t, (i as usize) * 6 + 3 + (j as usize))
 }
 
-// A frame with nothing in hand.
+// A frame with nothing in hand. The words after the frames stay.
 pub fn put_fresh(t: &mut [u64], i: u16, at: Expr, env: u16, on: Keys)
-    requires { ⌜ length (now t) ≡ frame-words ⌝ }
-    ensures { λ _. ⌜ Put frameIn most-frames (now (t .entry)) (now (t .exit)) i (freshOf at env on) ⌝ }
+    requires { ⌜ (length (now t) ≡ thread-words) × (i < most-frames) ⌝ }
+    ensures put { λ _. ⌜ Put frameIn most-frames (now (t .entry)) (now (t .exit)) i (freshOf at env on) ⌝ }
+    ensures own { λ _. ⌜ ((j : ℕ) → frame-words ≤ j → getD (now (t .exit)) j 0 ≡ getD (now (t .entry)) j 0) ⌝ }
 {
     let w = triple(0, at.0, env);
     let j = i as usize;
@@ -342,19 +344,16 @@ pub fn put_fresh(t: &mut [u64], i: u16, at: Expr, env: u16, on: Keys)
     put64(t, j * 6 + 2, on.1);
 }
 
-// Frame i with one value more in hand; a frame with three is left as it is.
-pub fn put_held(t: &mut [u64], i: u16, v: Value)
-    requires { ⌜ length (now t) ≡ frame-words ⌝ }
-    ensures { λ _. ⌜ Held (now (t .entry)) (now (t .exit)) i (valueIn v) ⌝ }
+// Frame i with one value more in hand, whose word is w; so many are held. The words after the frames stay.
+pub fn put_held(t: &mut [u64], i: u16, held: u8, w: u64)
+    requires { ⌜ (length (now t) ≡ thread-words) × (i < most-frames) × (held ≡ headAt (now t) i .held) × (held < 3) ⌝ }
+    ensures put { λ _. ⌜ Held (now (t .entry)) (now (t .exit)) i (wordIn w) ⌝ }
+    ensures own { λ _. ⌜ ((j : ℕ) → frame-words ≤ j → getD (now (t .exit)) j 0 ≡ getD (now (t .entry)) j 0) ⌝ }
 {
     let j = i as usize;
-    let w = at64(t, j * 6);
-    let n = w % 4;
-    if n < 3 {
-        let x = pack(v);
-        put64(t, j * 6, w + 1);
-        put64(t, j * 6 + 3 + (n as usize), x);
-    }
+    let head = at64(t, j * 6);
+    put64(t, j * 6, head + 1);
+    put64(t, j * 6 + 3 + (held as usize), w);
 }
 
 // Is k in the set?

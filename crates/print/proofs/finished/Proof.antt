@@ -19,6 +19,9 @@ array-copy-out-t c = search needs
 enum-known-control : tie.Need-enum-known-control
 enum-known-control c = search needs
 
+unpack-requires : tie.Need-unpack-requires
+unpack-requires c κs = search needs
+
 kind-sort-requires : tie.Need-kind-sort-requires
 kind-sort-requires c κs = search needs
 
@@ -35,7 +38,7 @@ enum-told : tie.Need-enum-told
 enum-told c = search needs
 
 returns : tie.Need-returns
-returns c = λ T s fs f small some-thread done. finished-hand T s (c .before .before .before .before .before .before .before .before .before .before .before .before .before .args .o) fs _ _ _ _ _ _ _ f small some-thread done (c .before .before .before .before .before .control .given .1) (c .before .before .before .before .before .before .before .before .before .before .before .steps .ensures) (c .before .before .before .kind-sort .ensures _) (c .before .before .kind-number .ensures) (c .before .done .ensures) (c .both .ensures)
+returns c = λ T s fs f small some-thread done. finished-hand T s (c .before .before .before .before .before .before .before .before .before .before .before .before .before .before .args .o) fs _ (c .before .before .before .before .unpack .result) _ _ _ _ _ _ f small some-thread done (c .before .before .before .before .before .before .control .given .1) (c .before .before .before .before .unpack .ensures) (c .before .before .before .before .before .before .before .before .before .before .before .before .steps .ensures) (c .before .before .before .kind-sort .ensures _) (c .before .before .kind-number .ensures) (c .before .done .ensures) (c .both .ensures)
 
 returns-2 : tie.Need-returns-2
 returns-2 c = λ T s fs f small some-thread done. finished-enter (c .before .before .before .before .before .before .before .before .args .o) fs _ (c .enum-told .given .1) some-thread done
@@ -47,6 +50,7 @@ finished-spec =
     steps-requires
     array-copy-out-t
     enum-known-control
+    unpack-requires
     kind-sort-requires
     kind-number-requires
     done-requires

@@ -23,6 +23,9 @@ same-length c = search needs
 returns : tie.Need-returns
 returns c = put-enter (c .before .before .before .before .before .before .before .before .args .t) _ (c .before .before .before .before .enum-told .given .1) (c .before .before .put-two .ensures)
 
+unpack-requires : tie.Need-unpack-requires
+unpack-requires c κs = search needs
+
 kind-word-requires : tie.Need-kind-word-requires
 kind-word-requires c κs = search needs
 
@@ -36,7 +39,7 @@ same-length-2 : tie.Need-same-length-2
 same-length-2 c = search needs
 
 returns-2 : tie.Need-returns-2
-returns-2 c = put-hand (c .before .before .before .before .before .before .before .before .before .before .before .args .t) _ _ _ (c .before .before .before .before .before .before .before .c .given .1) (c .before .before .before .before .kind-word .ensures _) (c .before .before .before .payload-word .ensures) (c .before .before .put-two2 .ensures)
+returns-2 c = put-hand (c .before .before .before .before .before .before .before .before .before .before .before .before .args .t) _ (c .before .before .before .before .before .before .unpack .result) _ _ (c .before .before .before .before .before .before .before .before .c .given .1) (c .before .before .before .before .before .before .unpack .ensures) (c .before .before .before .before .kind-word .ensures _) (c .before .before .before .payload-word .ensures) (c .before .before .put-two2 .ensures)
 
 pub put-handed-spec : {M : Type 1} → statement M
 put-handed-spec =
@@ -47,6 +50,7 @@ put-handed-spec =
     put-two-requires
     same-length
     returns
+    unpack-requires
     kind-word-requires
     payload-word-requires
     put-two-requires-2

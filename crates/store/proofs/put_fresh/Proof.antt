@@ -1,4 +1,4 @@
-use Rattle.store.proofs.Writes.{fresh-put}
+use Rattle.store.proofs.Writes.{stored, fresh-put, fresh-own}
 use borrow.Author.Needs.{needs}
 use Rattle.store.proofs.put_fresh.Statement.{statement}
 use Rattle.store.proofs.put_fresh.Tie as tie
@@ -34,7 +34,13 @@ same-length : tie.Need-same-length
 same-length c = search needs
 
 returns : tie.Need-returns
-returns c = fresh-put _ _ _ _ _ _ 256 _ _ _ (search needs) (c .before .before .before .before .before .before .before .before .before .before .before .before .triple .ensures) (search needs) (search needs) (record { same = c .before .before .before .before .before .before .before .before .before .before .put64 .ensures }) (record { same = c .before .before .before .before .before .before .put642 .ensures }) (record { same = c .before .before .put643 .ensures })
+returns c =
+    let p = stored (c .before .before .before .before .before .before .before .before .before .before .put64 .ensures) in
+    let q = stored (c .before .before .before .before .before .before .put642 .ensures) in
+    let r = stored (c .before .before .put643 .ensures) in (
+      fresh-put _ _ _ _ _ _ 256 _ _ _ (search needs) (search needs) (c .before .before .before .before .before .before .before .before .before .before .before .before .triple .ensures) (search needs) (search needs) p q r,
+      fresh-own 256 (search needs) p q r,
+    )
 
 pub put-fresh-spec : {M : Type 1} → statement M
 put-fresh-spec =
