@@ -17,8 +17,8 @@ use Rattle.semantics.specs.SpawnLaws.{isSpawn}
 use Rattle.semantics.specs.Room.{isDone, doneAt}
 use Rattle.table.specs.declared.Expr.{Expr}
 use Rattle.store.specs.declared.Head.{Head}
-use Rattle.store.specs.declared.Value.{Value}
-use Rattle.store.specs.Meaning.{keysIn, valueIn}
+use Rattle.store.specs.Meaning.{keysIn}
+use Rattle.store.specs.Words.{wordIn}
 use Rattle.store.specs.Frames.{headAt, heldIn, handOf, frameIn, holdOf, Held}
 use Rattle.store.specs.Tables.{Wrote, capped, stackOf}
 use Rattle.store.proofs.Laws.{stack-top, stack-none, stack-put, cap-below, cap-le}
@@ -167,14 +167,14 @@ module _ {T : Type 0} (code : ℕ → Cmd T) (self : State) (w : Tables) {r : St
       goes : step code (view self w) ≡ settle (enterCmd (e .0) (code (e .0)) (view self w))
       goes = simp h
 
-  pub by-hand : {v : Value} → self .now .control ≡ Hand v → r ≡ tried self self w (λ m. handTo code (valueIn v) (m .thread .frames) m) → r ≡ steppedBy code self w
+  pub by-hand : {v : ℕ} → self .now .control ≡ Hand v → r ≡ tried self self w (λ m. handTo code (wordIn v) (m .thread .frames) m) → r ≡ steppedBy code self w
   unfolding view step plan planOn spawning
   by-hand {v} h q = stepped-as at goes q
     where
       at : isSpawnAt code (view self w) ≡ false
       at = simp h
 
-      goes : step code (view self w) ≡ settle (handTo code (valueIn v) (view self w .thread .frames) (view self w))
+      goes : step code (view self w) ≡ settle (handTo code (wordIn v) (view self w .thread .frames) (view self w))
       goes = simp h
 
 cap-some : (n most : ℕ) → (n ≡ 0 → ⊥) → 0 < most → capped n most ≡ 0 → ⊥
@@ -212,4 +212,4 @@ done-hand self w = at (self .now .control)
   where
     at : (c : Control) → OneOf (1 ∷ []) (tagOf control-type c) → eqb (self .frames) 0 ≡ doneAt (controlIn c) (stackOf frameIn (w .frames) (capped (self .frames) 256))
     at (Enter e) h = absurd (miss (1 ∷ []) 0 tt h)
-    at (Hand v) h = done-empty (valueIn v) (w .frames) (self .frames)
+    at (Hand v) h = done-empty (wordIn v) (w .frames) (self .frames)

@@ -1,5 +1,7 @@
 pub mod Sorts
 pub mod Hands
 pub mod Enters
+pub mod Owns
+pub mod InPlace
 pub mod Seeks
-pub mod Loops
+pub mod Mores

@@ -1,19 +1,26 @@
 -- What the contracts of steps say.
-use Prim.Native.Nat.{ℕ, zero, suc}
-use mathlib.Core.Bool.{Bool, true, false, cond}
+use mathlib.Core.Path.{_≡_}
+use Prim.Native.Nat.{ℕ, _+_}
+use mathlib.Core.List.{List}
+use mathlib.Core.Bool.{Bool, cond}
+use lib.Dec.{ltb}
 use mathlib.Core.Option.{Option, none, some}
 use Rattle.syntax.specs.Commands.{Cmd}
-use Rattle.semantics.specs.Machine.{enter, Machine as Clean}
-use Rattle.semantics.specs.Step.{enterCmd, step}
+use Rattle.semantics.specs.Machine.{Machine as Clean}
+use Rattle.semantics.specs.Step.{Plan, enterCmd, step}
 use Rattle.semantics.specs.SpawnLaws.{isSpawn}
 use Rattle.semantics.specs.OthersUnseen.{spawning}
 use Rattle.store.specs.declared.Used.{Used}
 use Rattle.thread.specs.declared.Thread.{Thread}
 use Rattle.acts.specs.declared.State.{State}
 use Rattle.thread.specs.declared.Ended.{Ended}
-use Rattle.acts.specs.Meaning.{StepAnswer, s-taken, s-finished, s-noroom, s-stuck, s-denied, s-starts, answerIn}
+use Rattle.acts.specs.declared.Acted.{Acted}
+use Rattle.acts.specs.declared.Answer.the-variants.{Taken}
+use Rattle.acts.specs.Meaning.{s-starts}
 use Rattle.acts.specs.View.{Tables, view}
-use Rattle.acts.specs.Inner.{Stepped, settled, tried}
+use Rattle.acts.specs.Inner.{Stepped, settled, tried, Works}
+use Rattle.thread.specs.View.{stateOf}
+use Rattle.thread.specs.Own.{ownIn, Owned}
 
 -- the thread of a state, and what its store uses
 abbrev pub threadOf : State → Thread
@@ -47,32 +54,27 @@ module _ {T : Type 0} where
   abbrev pub steppedBy : (ℕ → Cmd T) → State → Tables → Stepped
   steppedBy code s w = stepOf code (view s w)
 
-abbrev pub took : StepAnswer → Bool
-took s-taken = true
-took s-finished = false
-took s-noroom = false
-took s-stuck = false
-took s-denied = false
-took s-starts = false
+-- is an operand left after so many in hand and one more?
+pub record More (op x held : ℕ) (r : Bool) : Type 0 where
+  pub need : ℕ
+  pub works : Works op x need
+  pub is : r ≡ ltb (held + 1) need
 
--- steps one after another: the last one's answer, how many were taken, and the machine after them
-pub record Looped : Type 0 where
-  pub answer : StepAnswer
-  pub count : ℕ
-  pub machine : Clean
+-- the state that a thread's own words and the counts of the store stand for
+abbrev pub ownState : Used → List ℕ → State
+ownState u t = stateOf (ownIn t) u
 
-abbrev pub looped : StepAnswer → ℕ → Clean → Looped
-looped a c m = record { answer = a; count = c; machine = m }
+-- how a step ended, over the thread's words after it
+abbrev pub endedAs : Ended → List ℕ → Acted
+endedAs r t = record { state = ownState (r .used) t; answer = r .answer }
 
--- on from a step that was taken; any other ends the loop
-unfoldable pub goOn : Stepped → ℕ → (Clean → Looped) → Looped
-goOn r c f = cond (took (r .answer)) (f (r .machine)) (looped (r .answer) c (r .machine))
+-- what is tried on the state of a thread's own words
+abbrev pub triedBy : Used → List ℕ → Tables → (Clean → Plan) → Stepped
+triedBy u t w f = tried (ownState u t) (ownState u t) w f
 
-module _ {T : Type 0} (code : ℕ → Cmd T) where
-  -- up to n steps of one thread, c taken before
-  unfoldable pub loopOf : ℕ → ℕ → Clean → Looped
-  loopOf zero c m = looped s-taken c m
-  loopOf (suc n) c m = goOn (stepOf code m) c (λ t. loopOf n (suc c) t)
-
-abbrev pub ended : Ended → Tables → Looped
-ended r w = looped (answerIn (r .answer)) (r .taken) (view (r .state) w)
+-- an act's state, put into the thread's words where the step was taken; else these stay
+pub record Kept (s : Acted) (r : Ended) (a b : List ℕ) : Type 0 where
+  pub answer : r .answer ≡ s .answer
+  pub used : r .used ≡ usedOf (s .state)
+  pub taken : s .answer ≡ Taken → Owned a b (threadOf (s .state))
+  pub other : (s .answer ≡ Taken → ⊥) → b ≡ a

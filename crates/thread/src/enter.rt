@@ -1,8 +1,12 @@
 // Entering an expression: it gives its value, or a frame is pushed for its operands.
+use crate::Ended;
 use crate::Found;
-use acts::Acted;
+use crate::owned::own;
+use crate::owned::put_control;
+use crate::owned::put_count;
+use crate::owned::put_place;
 use acts::Answer;
-use acts::State;
+use acts::Control;
 use acts::unkeyed;
 use store::BINDING_WORDS;
 use store::Bound;
@@ -13,21 +17,23 @@ use store::Kind;
 use store::MOST_BINDINGS;
 use store::MOST_FRAMES;
 use store::MOST_FUNCTIONS;
+use store::Used;
 use table::Expr;
+ghost use Prim.Native.Nat.{_≤_};
 ghost use mathlib.Core.Path.{_≡_};
 ghost use mathlib.Core.Option.{Option};
 ghost use lib.ListN.{length};
-ghost use Rattle.semantics.specs.Machine.{most-bindings, Value as SValue};
+ghost use Rattle.semantics.specs.Machine.{most-bindings, Value as SValue, unkeyed};
 ghost use Rattle.semantics.specs.Step.{seekIn, seek, variable, actFn, push};
-ghost use Rattle.store.specs.Meaning.{boundIn};
+ghost use Rattle.store.specs.Meaning.{boundIn, kindIn};
 ghost use Rattle.store.specs.Words.{linkIn};
-ghost use Rattle.store.specs.Frames.{frame-words};
-ghost use Rattle.store.specs.Tables.{listOf};
+ghost use Rattle.store.specs.Frames.{thread-words};
+ghost use Rattle.store.specs.Tables.{capped, listOf};
 ghost use Rattle.thread.specs.Meaning.{foundIn};
-ghost use Rattle.acts.specs.View.{Tables};
-ghost use Rattle.acts.specs.Inner.{acted, tried, putFrames, putFunctions, putBindings};
-ghost use Rattle.thread.specs.Inner.{orElse, enteredBy};
-ghost use Rattle.acts.specs.Inner.{Works};
+ghost use Rattle.acts.specs.View.{Tables, view};
+ghost use Rattle.acts.specs.Inner.{acted, settled, give, go, putFrames, putFunctions, putBindings, Works};
+ghost use Rattle.thread.specs.Own.{ownIn};
+ghost use Rattle.thread.specs.Inner.{orElse, ownState, endedAs, triedBy, enteredBy, More};
 ghost use Rattle.acts.specs.Lent.{lentCode};
 ghost use Rattle.thread.specs.Lent.{beforeEnter, afterEnter};
 
@@ -36,7 +42,8 @@ const MOST_LINKS: u16 = MOST_BINDINGS as u16;
 
 // How many operands are evaluated before the act.
 pub(crate) fn need(op: u64, x: u64) -> u8
-    ensures { λ r. ⌜ Works op x r ⌝ }
+    ensures works { λ r. ⌜ Works op x r ⌝ }
+    ensures two { λ r. ⌜ ((op ≡ 60 → ⊥) → r ≤ 2) ⌝ }
 {
     match op {
         0x33 => 2,
@@ -57,19 +64,33 @@ pub(crate) fn need(op: u64, x: u64) -> u8
     }
 }
 
+// Is there an operand to evaluate after so many in hand and the one that is handed on?
+pub(crate) fn more(op: u64, x: u64, held: u8) -> bool
+    requires { ⌜ held ≤ 3 ⌝ }
+    ensures { λ r. ⌜ More op x held r ⌝ }
+{
+    if op == 0x3C {
+        return held + 1 < need(op, x);
+    }
+    if held == 0 {
+        return need(op, x) == 2;
+    }
+    false
+}
+
 // The value of variable x, if that is what is bound.
 fn bound_to(b: Bound, x: u8) -> Found
     ensures { λ r. ⌜ ((rest : Option SValue) → seekIn (boundIn b) x rest ≡ orElse (foundIn r) rest) ⌝ }
 {
     match b {
-        Bound::Variable(y, v) => { if x == y { Found::At(v) } else { Found::Nothing } }
+        Bound::Variable(y, w) => { if x == y { Found::At(w) } else { Found::Nothing } }
         Bound::Name(_, _) => Found::Nothing,
     }
 }
 
-// The newest binding of x from binding `from` on.
-fn lookup(bindings: &[u64; BINDING_WORDS], n: u16, x: u8, from: u16) -> Found
-    ensures { λ r. ⌜ foundIn r ≡ seek most-bindings (listOf linkIn (now (bindings .entry)) n) from x ⌝ }
+// The newest binding of x from binding `from` on, of n.
+fn lookup(bindings: &[u64; BINDING_WORDS], n: u64, x: u8, from: u16) -> Found
+    ensures { λ r. ⌜ foundIn r ≡ seek most-bindings (listOf linkIn (now (bindings .entry)) (capped n most-bindings)) from x ⌝ }
 {
     let mut p = from;
     let mut left: u16 = MOST_LINKS;
@@ -77,14 +98,17 @@ fn lookup(bindings: &[u64; BINDING_WORDS], n: u16, x: u8, from: u16) -> Found
         if p == 0 {
             return Found::Nothing;
         }
-        if n < p {
+        if n < p as u64 {
+            return Found::Nothing;
+        }
+        if MOST_LINKS < p {
             return Found::Nothing;
         }
         let b = store::binding_at(bindings, p - 1);
         let bound = b.bound;
         let f = bound_to(bound, x);
-        if let Found::At(v) = f {
-            return Found::At(v);
+        if let Found::At(w) = f {
+            return Found::At(w);
         }
         p = b.next;
         left = left - 1;
@@ -92,29 +116,48 @@ fn lookup(bindings: &[u64; BINDING_WORDS], n: u16, x: u8, from: u16) -> Found
     Found::Nothing
 }
 
-fn push(state: State, e: Expr, first: Expr, frames: &mut [u64]) -> Acted
-    requires { ⌜ length (now frames) ≡ frame-words ⌝ }
-    ensures { λ r. ⌜ ((w : Tables) → acted r (putFrames w (now (frames .exit))) ≡ tried state state (putFrames w (now (frames .entry))) (push (e .0) (first .0))) ⌝ }
+fn push(t: &mut [u64], used: Used, e: Expr, first: Expr) -> Ended
+    requires { ⌜ length (now t) ≡ thread-words ⌝ }
+    ensures { λ r. ⌜ ((w : Tables) → acted (endedAs r (now (t .exit))) (putFrames w (now (t .exit))) ≡ triedBy used (now (t .entry)) (putFrames w (now (t .entry))) (push (e .0) (first .0))) ⌝ }
 {
-    let n = state.frames;
+    let x = own(t);
+    let n = x.frames;
     if n < MOST_FRAMES {
-        let now = state.now;
+        let now = x.now;
         let on = now.on;
-        store::put_fresh(frames, n as u16, e, now.env, on);
-        let mut next = state;
-        next.frames = n + 1;
-        next.go(first, now.env, on)
+        store::put_fresh(t, n as u16, e, now.env, on);
+        put_control(t, Control::Enter(first));
+        put_count(t, n + 1);
+        Ended {
+            used: used,
+            answer: Answer::Taken,
+        }
     } else {
-        state.stop(Answer::NoRoom)
+        Ended {
+            used: used,
+            answer: Answer::NoRoom,
+        }
     }
 }
 
-fn function(state: State, x: u8, body: Expr, functions: &mut [u64; FUNCTION_WORDS]) -> Acted
-    ensures { λ r. ⌜ ((w : Tables) → acted r (putFunctions w (now (functions .exit))) ≡ tried state state (putFunctions w (now (functions .entry))) (actFn x (body .0))) ⌝ }
+fn function(
+    t: &mut [u64],
+    used: Used,
+    x: u8,
+    body: Expr,
+    functions: &mut [u64; FUNCTION_WORDS],
+) -> Ended
+    requires { ⌜ length (now t) ≡ thread-words ⌝ }
+    ensures { λ r. ⌜
+        ((w : Tables) →
+        acted (endedAs r (now (t .exit))) (putFunctions (putFrames w (now (t .exit))) (now (functions .exit))) ≡
+        triedBy used (now (t .entry)) (putFunctions (putFrames w (now (t .entry))) (now (functions .entry))) (actFn x (body .0)))
+        ⌝ }
 {
-    let n = state.functions;
+    let n = used.functions;
     if n < MOST_FUNCTIONS {
-        let now = state.now;
+        let o = own(t);
+        let now = o.now;
         store::put_closure(
             functions,
             n as u16,
@@ -124,41 +167,92 @@ fn function(state: State, x: u8, body: Expr, functions: &mut [u64; FUNCTION_WORD
                 env: now.env,
             },
         );
-        let mut next = state;
+        let mut next = used;
         next.functions = n + 1;
         let v = unkeyed(Kind::Function, n as u32);
-        next.give(v)
+        let w = store::pack(v);
+        put_control(t, Control::Hand(w));
+        Ended {
+            used: next,
+            answer: Answer::Taken,
+        }
     } else {
-        state.stop(Answer::NoRoom)
+        Ended {
+            used: used,
+            answer: Answer::NoRoom,
+        }
     }
 }
 
-fn variable(state: State, x: u8, bindings: &[u64; BINDING_WORDS]) -> Acted
-    ensures { λ r. ⌜ ((w : Tables) → acted r (putBindings w (now (bindings .entry))) ≡ tried state state (putBindings w (now (bindings .entry))) (variable x)) ⌝ }
+fn variable(t: &mut [u64], used: Used, x: u8, bindings: &[u64; BINDING_WORDS]) -> Ended
+    requires { ⌜ length (now t) ≡ thread-words ⌝ }
+    ensures { λ r. ⌜
+        ((w : Tables) →
+        acted (endedAs r (now (t .exit))) (putBindings (putFrames w (now (t .exit))) (now (bindings .entry))) ≡
+        triedBy used (now (t .entry)) (putBindings (putFrames w (now (t .entry))) (now (bindings .entry))) (variable x))
+        ⌝ }
 {
-    let now = state.now;
-    let n = store::cap(state.bindings, MOST_BINDINGS) as u16;
-    let found = lookup(bindings, n, x, now.env);
+    let o = own(t);
+    let now = o.now;
+    let found = lookup(bindings, used.bindings, x, now.env);
     match found {
-        Found::At(v) => state.give(v),
-        Found::Nothing => state.stop(Answer::Stuck),
+        Found::At(w) => {
+            put_control(t, Control::Hand(w));
+            Ended {
+                used: used,
+                answer: Answer::Taken,
+            }
+        }
+        Found::Nothing => Ended {
+            used: used,
+            answer: Answer::Stuck,
+        },
+    }
+}
+
+// The value that a command without operands gives by itself.
+fn constant(t: &mut [u64], used: Used, k: Kind, n: u32) -> Ended
+    requires { ⌜ length (now t) ≡ thread-words ⌝ }
+    ensures { λ r. ⌜ ((w : Tables) → acted (endedAs r (now (t .exit))) (putFrames w (now (t .exit))) ≡ settled (view (ownState used (now (t .entry))) (putFrames w (now (t .entry)))) (give (unkeyed (kindIn k n)) (view (ownState used (now (t .entry))) (putFrames w (now (t .entry)))))) ⌝ }
+{
+    let v = unkeyed(k, n);
+    let w = store::pack(v);
+    put_control(t, Control::Hand(w));
+    Ended {
+        used: used,
+        answer: Answer::Taken,
+    }
+}
+
+// The body of a limit without keys, with no enabled keys.
+fn closed(t: &mut [u64], used: Used, body: Expr) -> Ended
+    requires { ⌜ length (now t) ≡ thread-words ⌝ }
+    ensures { λ r. ⌜ ((w : Tables) → acted (endedAs r (now (t .exit))) (putFrames w (now (t .exit))) ≡ settled (view (ownState used (now (t .entry))) (putFrames w (now (t .entry)))) (go (body .0) (ownIn (now (t .entry)) .now .env) 0 (view (ownState used (now (t .entry))) (putFrames w (now (t .entry)))))) ⌝ }
+{
+    let o = own(t);
+    let now = o.now;
+    put_control(t, Control::Enter(body));
+    put_place(t, now.env, Keys(0, 0));
+    Ended {
+        used: used,
+        answer: Answer::Taken,
     }
 }
 
 pub(crate) fn enter(
-    state: State,
+    t: &mut [u64],
+    used: Used,
     e: Expr,
     heads: &[u64],
     slots: &[u16],
-    frames: &mut [u64],
     functions: &mut [u64; FUNCTION_WORDS],
     bindings: &[u64; BINDING_WORDS],
-) -> Acted
-    requires { ⌜ length (now frames) ≡ frame-words ⌝ }
+) -> Ended
+    requires { ⌜ length (now t) ≡ thread-words ⌝ }
     ensures { λ r. ⌜
         ((w : Tables) →
-        acted r (afterEnter w frames functions bindings) ≡
-        enteredBy (e .0) (lentCode heads slots (e .0)) state (beforeEnter w frames functions bindings))
+        acted (endedAs r (now (t .exit))) (afterEnter w t functions bindings) ≡
+        enteredBy (e .0) (lentCode heads slots (e .0)) (ownState used (now (t .entry))) (beforeEnter w t functions bindings))
         ⌝ }
 {
     let i = e.0 as usize;
@@ -167,26 +261,23 @@ pub(crate) fn enter(
     let x = head / 256 % 4294967296;
     if 0 < need(op, x) {
         let first = Expr(table::at16(slots, i * 5));
-        return push(state, e, first, frames);
+        return push(t, used, e, first);
     }
     match op {
-        0x31 => {
-            let v = unkeyed(Kind::Limit, 1);
-            state.give(v)
-        }
-        0x32 => variable(state, (x % 256) as u8, bindings),
+        0x31 => constant(t, used, Kind::Limit, 1),
+        0x32 => variable(t, used, (x % 256) as u8, bindings),
         0x35 => {
             let body = Expr(table::at16(slots, i * 5));
-            function(state, (x % 256) as u8, body, functions)
+            function(t, used, (x % 256) as u8, body, functions)
         }
         0x3C => {
-            let now = state.now;
-            state.go(Expr(table::at16(slots, i * 5 + 4)), now.env, Keys(0, 0))
+            let body = Expr(table::at16(slots, i * 5 + 4));
+            closed(t, used, body)
         }
-        0x42 => state.stop(Answer::Starts),
-        _ => {
-            let v = unkeyed(Kind::Number, x as u32);
-            state.give(v)
-        }
+        0x42 => Ended {
+            used: used,
+            answer: Answer::Starts,
+        },
+        _ => constant(t, used, Kind::Number, x as u32),
     }
 }

@@ -1,22 +1,20 @@
-// One thread: its steps, one after another, on the store that all threads share. The tables are lent to it.
+// One thread: its step, on its own words and on the store that all threads share. The tables are lent to it.
 mod enter;
-mod looping;
+mod owned;
 mod parts;
-mod step;
+mod stepping;
 
 pub use acts::Answer;
 pub use acts::Control;
 pub use acts::Now;
-use acts::State;
-pub use looping::steps;
-pub use parts::is_done;
-pub use parts::joined;
-pub use parts::thread_of;
-pub use parts::used_of;
-use store::Value;
+pub use owned::own;
+pub use owned::put_thread;
+pub use stepping::step;
+use store::Used;
 
+// The word of a value that was found, or nothing.
 pub enum Found {
-    At(Value),
+    At(u64),
     Nothing,
 }
 
@@ -26,9 +24,8 @@ pub struct Thread {
     pub frames: u64,
 }
 
-// Steps one after another: where they led, how many were taken, and why they ended.
+// How a step ended: what the store uses after it, and the answer.
 pub struct Ended {
-    pub state: State,
-    pub taken: u64,
+    pub used: Used,
     pub answer: Answer,
 }

@@ -1,28 +1,13 @@
-// A thread and what its store uses, as the state that a step works on.
+// A thread and what its store uses, as the state that an act works on.
 use crate::Thread;
-use acts::Control;
 use acts::State;
 use store::Used;
 ghost use mathlib.Core.Path.{_≡_};
-ghost use Rattle.semantics.specs.Room.{isDone};
-ghost use Rattle.acts.specs.View.{Tables, view};
 ghost use Rattle.thread.specs.View.{stateOf};
 ghost use Rattle.thread.specs.Inner.{threadOf, usedOf};
 
-// No frame left and a value.
-pub fn is_done(state: State) -> bool
-    ensures { λ r. ⌜ ((w : Tables) → r ≡ isDone (view state w)) ⌝ }
-{
-    let now = state.now;
-    let control = now.control;
-    match control {
-        Control::Enter(_) => false,
-        Control::Hand(_) => state.frames == 0,
-    }
-}
-
 // The state of a thread over a store that uses so much.
-pub fn joined(thread: Thread, used: Used) -> State
+pub(crate) fn joined(thread: Thread, used: Used) -> State
     ensures { λ r. ⌜ r ≡ stateOf thread used ⌝ }
 {
     let now = thread.now;
@@ -38,7 +23,7 @@ pub fn joined(thread: Thread, used: Used) -> State
 }
 
 // The thread of a state, and what its store uses.
-pub fn thread_of(s: State) -> Thread
+pub(crate) fn thread_of(s: State) -> Thread
     ensures { λ r. ⌜ r ≡ threadOf s ⌝ }
 {
     let now = s.now;
@@ -48,7 +33,7 @@ pub fn thread_of(s: State) -> Thread
     }
 }
 
-pub fn used_of(s: State) -> Used
+pub(crate) fn used_of(s: State) -> Used
     ensures { λ r. ⌜ r ≡ usedOf s ⌝ }
 {
     Used {
