@@ -2,57 +2,51 @@
 use mathlib.Core.Path.{_≡_, refl, sym, ap, ap₂, _∙_, subst, subst⁻¹}
 use Prim.Native.Nat.{ℕ, zero, suc, _+_, _-_, _*_, _/_, _%_, _≤_, _<_}
 use native.Mathlib.Omega.{arith}
-use mathlib.Core.Bool.{Bool, true, false, cond, false≢true}
+use mathlib.Core.Bool.{Bool, true, false, false≢true}
 use mathlib.Core.List.{List, [], _∷_}
 use mathlib.Core.Option.{none, some}
-use lib.Dec.{eqb}
+use lib.Dec.{eqb, ltb}
 use lib.ListN.{length, getD, set}
 use lib.Seq.{getD-set-same, getD-set-other}
-use borrow.Author.Tests.{eqb-true, eqb-false}
-use Rattle.order.specs.Bools.{_and_}
+use borrow.Author.Tests.{eqb-true, eqb-false, ltb-true, ltb-false}
 use types.Run.{OneOf, miss}
 use denote.Enum.Declared.{tagOf}
-use Rattle.syntax.specs.Commands.{Cmd, c-spawn}
-use Rattle.syntax.specs.Commands.{form, row}
+use Rattle.syntax.specs.Commands.{Cmd, c-spawn, form, row}
 use Rattle.syntax.specs.Operands.{plain}
 use Rattle.syntax.specs.DecodeLaws.{decode-cases}
 use Rattle.syntax.specs.Words.{codeIn}
-use Rattle.semantics.specs.Machine.{enter, Thread as SThread, Machine as Clean, System, most-threads}
-use Rattle.semantics.specs.Step.{fresh}
+use Rattle.semantics.specs.Machine.{System, most-threads}
 use Rattle.semantics.specs.SpawnLaws.{isSpawn}
-use Rattle.semantics.specs.Room.{isDone}
-use Rattle.semantics.specs.Threads.{stepsOf, alone, liveThread, live, firstFrom, inRound, next}
-use Rattle.semantics.specs.Calls.{no-steps}
+use Rattle.semantics.specs.Threads.{stepsOf, liveThread, live}
+use Rattle.semantics.specs.Calls.{no-steps, total}
 use Rattle.store.specs.declared.Used.{Used}
-use Rattle.store.specs.Frames.{frames-words}
+use Rattle.store.specs.Frames.{threads-words}
 use Rattle.acts.specs.declared.Answer.{Answer}
 use Rattle.acts.specs.declared.Answer.the-variants.{Taken}
 use Rattle.acts.specs.declared.Answer.the-variants as answers
 use Rattle.acts.proofs.Answer.{the-type as answer-type}
-use Rattle.acts.specs.declared.State.{State}
-use Rattle.acts.specs.Meaning.{StepAnswer, s-taken, s-finished, s-noroom, s-stuck, s-denied, s-starts, controlIn, answerIn}
-use Rattle.acts.specs.Inner.{giveOf, unkeyedOf}
-use Rattle.store.specs.declared.Kind.the-variants.{Number}
-use Rattle.acts.specs.View.{Tables, tables, view}
-use Rattle.thread.specs.declared.Thread.{Thread}
-use Rattle.thread.specs.View.{stateOf}
-use Rattle.thread.specs.Inner.{threadOf, usedOf, looped, loopOf}
+use Rattle.acts.specs.Meaning.{StepAnswer, s-taken, s-finished, s-noroom, s-starts, answerIn}
+use Rattle.acts.specs.View.{Tables}
+use Rattle.acts.specs.Inner.{putFrames}
 use Rattle.machine.specs.declared.Scheduler.{Scheduler}
+use Rattle.machine.specs.declared.Rounds.{Rounds}
 use Rattle.machine.specs.declared.Whose.{Whose}
 use Rattle.machine.specs.declared.Whose.the-variants as whose
 use Rattle.machine.proofs.Whose.{the-type as whose-type}
-use Rattle.machine.specs.Turns.{Turned, free, turned, turnsOf}
-use Rattle.machine.specs.Batch.{pickN, handed0, Ending, e-taken, e-finished, e-noroom, e-stuck, e-denied, e-starts, idle-turns}
-use Rattle.machine.specs.Scheduled.{threadIn, partOf, idle, threadAt, systemIn, marked, whoseIn}
-use Rattle.machine.proofs.Picked.{Held, next-in, among, round-few}
-use Rattle.machine.proofs.Moves.{after-steps, alone-after, held-done, held-live, steps-few, turns-are, taken-some, ending, moves, fails, AtSpawn, at-spawn, no-place, after-start, starts, held-started}
+use Rattle.machine.specs.Turns.{Turned, turned, turnsOf}
+use Rattle.machine.specs.Ahead.{nextIn, Held, Refused, rounded, Rounded}
+use Rattle.machine.specs.OneTurn.{idle-turns}
+use Rattle.machine.specs.Scheduled.{ownAt, systemIn, marked, whoseIn, Started}
+use Rattle.machine.specs.Listed.{listed-none}
+use Rattle.machine.proofs.Picked.{nobody-asked, marked-at, small}
+use Rattle.machine.proofs.Moves.{answer-no, fails, passes, held-passed, full, started, starts, held-started}
 
-abbrev pub sched : List Thread → List ℕ → List ℕ → ℕ → ℕ → ℕ → Used → Scheduler
-sched ts lv cs n r f u = record { threads = ts; live = lv; counts = cs; count = n; round = r; from = f; used = u }
+abbrev pub sched : List ℕ → List ℕ → ℕ → ℕ → ℕ → Used → Scheduler
+sched lv cs n r f u = record { live = lv; counts = cs; count = n; round = r; from = f; used = u }
 
 -- Answers by their tags
 
-is-taken : (a : Answer) → OneOf (0 ∷ []) (tagOf answer-type a) → answerIn a ≡ s-taken
+pub is-taken : (a : Answer) → OneOf (0 ∷ []) (tagOf answer-type a) → answerIn a ≡ s-taken
 is-taken answers.Taken t = refl
 is-taken answers.Finished t = absurd (miss (0 ∷ []) 1 tt t)
 is-taken answers.NoRoom t = absurd (miss (0 ∷ []) 2 tt t)
@@ -75,15 +69,6 @@ is-starting answers.NoRoom t = absurd (miss (5 ∷ []) 2 tt t)
 is-starting answers.Stuck t = absurd (miss (5 ∷ []) 3 tt t)
 is-starting answers.Denied t = absurd (miss (5 ∷ []) 4 tt t)
 is-starting answers.Starts t = refl
-
--- the number of an answer, so that two of them differ
-answer-no : StepAnswer → ℕ
-answer-no s-taken = 0
-answer-no s-finished = 1
-answer-no s-noroom = 2
-answer-no s-stuck = 3
-answer-no s-denied = 4
-answer-no s-starts = 5
 
 tag-no : (a : Answer) → OneOf (2 ∷ 3 ∷ 4 ∷ []) (tagOf answer-type a) → (2 ≤ answer-no (answerIn a)) × (answer-no (answerIn a) ≤ 4)
 unfolding answer-no
@@ -118,15 +103,15 @@ spawn-body heads slots e b = decode-cases (λ k. k ≡ c-spawn b → getD slots 
     no : (k : Cmd ℕ) → isSpawn k ≡ false → k ≡ c-spawn b → getD slots (e * 5) 0 ≡ b
     no k f q = absurd (false≢true (sym f ∙ ap isSpawn q))
 
--- so many turns were taken of n, and the others are still to be
-pub record Going (heads slots : List ℕ) (n : ℕ) (c₀ : Scheduler) (w₀ : Tables) (c : Scheduler) (w : Tables) (failed : ℕ) (answer : Answer) (taken : ℕ) : Type 0 where
+-- some turns of n are left, and lead to where all n lead
+pub record Going (heads slots : List ℕ) (n : ℕ) (c₀ : Scheduler) (w₀ : Tables) (c : Scheduler) (w : Tables) (failed : ℕ) (answer : Answer) (left : ℕ) : Type 0 where
   pub held : Held c w
-  pub room : length (w .frames) ≡ frames-words
-  pub few : taken ≤ n
-  pub counts-few : (j : ℕ) → getD (c .counts) j 0 ≤ taken
+  pub room : length (w .frames) ≡ threads-words
+  pub few : left ≤ n
+  pub counts-few : (j : ℕ) → getD (c .counts) j 0 + left ≤ n
   pub none-failed : failed ≡ 0
   pub goes-on : answer ≡ Taken
-  pub turns : turnsOf (stepsOf (codeIn heads slots)) n (c₀ .counts) (systemIn c₀ w₀) ≡ turnsOf (stepsOf (codeIn heads slots)) (n - taken) (c .counts) (systemIn c w)
+  pub turns : turnsOf (stepsOf (codeIn heads slots)) n (c₀ .counts) (systemIn c₀ w₀) ≡ turnsOf (stepsOf (codeIn heads slots)) left (c .counts) (systemIn c w)
 
 no-counts : (j : ℕ) → getD no-steps j 0 ≤ 0
 no-counts zero = omega arith
@@ -140,256 +125,152 @@ no-counts (suc (suc (suc (suc (suc (suc (suc zero))))))) = omega arith
 no-counts (suc (suc (suc (suc (suc (suc (suc (suc j)))))))) = omega arith
 
 -- before the first turn
-pub begin : (heads slots : List ℕ) (n : ℕ) (c : Scheduler) (w : Tables) → Held c w → length (w .frames) ≡ frames-words → c .counts ≡ no-steps → Going heads slots n c w c w 0 Taken 0
+pub begin : (heads slots : List ℕ) (n : ℕ) (c : Scheduler) (w : Tables) → Held c w → length (w .frames) ≡ threads-words → c .counts ≡ no-steps → Going heads slots n c w c w 0 Taken n
 begin heads slots n c w h r z = record {
   held = h;
   room = r;
   few = omega arith;
-  counts-few = λ j. subst⁻¹ (λ (l : List ℕ). getD l j 0 ≤ 0) z (no-counts j);
+  counts-few = λ j. let y = subst⁻¹ (λ (l : List ℕ). getD l j 0 ≤ 0) z (no-counts j) in omega (arith, y);
   none-failed = refl;
   goes-on = refl;
-  turns = ap (λ (k : ℕ). turnsOf (stepsOf (codeIn heads slots)) k (c .counts) (systemIn c w)) (let y : n ≡ n - 0 = omega arith in y);
+  turns = refl;
 }
 
-module _ {heads slots : List ℕ} {n : ℕ} {c₀ c : Scheduler} {w₀ w : Tables} {failed : ℕ} {answer : Answer} {taken : ℕ} (v : Going heads slots n c₀ w₀ c w failed answer taken) where
+-- a thread that is live is one of those that there are
+pub below-count : (c : Scheduler) (w : Tables) (j : ℕ) → live (systemIn c w) j ≡ true → j < c .count
+unfolding liveThread
+below-count c w j e = at (ltb j (c .count)) refl
+  where
+    at : (b : Bool) → ltb j (c .count) ≡ b → j < c .count
+    at true q = ltb-true j (c .count) q
+    at false q = absurd (false≢true (sym (ap liveThread (listed-none (ownAt (w .frames)) (c .count) j (ltb-false j (c .count) q))) ∙ e))
+
+-- What is left to do falls: two for each turn, one for each mark
+
+pub total-set : (l : List ℕ) (i x : ℕ) → i < length l → total (set l i x) + getD l i 0 ≡ total l + x
+unfolding total
+total-set [] i x h = absurd (omega arith)
+total-set (a ∷ l) zero x h = omega arith
+total-set (a ∷ l) (suc i) x h = let z = total-set l i x (omega arith) in omega (arith, z)
+
+marked-one : (l : List ℕ) (i : ℕ) → marked l i ≡ true → getD l i 0 ≡ 1
+unfolding marked
+marked-one l i h = eqb-true (getD l i 0) 1 h
+
+module _ {heads slots : List ℕ} {n : ℕ} {c₀ c : Scheduler} {w₀ w : Tables} {failed : ℕ} {answer : Answer} {left : ℕ} (v : Going heads slots n c₀ w₀ c w failed answer left) where
   abbrev code : ℕ → Cmd ℕ
   code = codeIn heads slots
 
   abbrev S : System
   S = systemIn c w
 
-  abbrev pub Nexts : Whose → Type 0
-  Nexts o = whoseIn o ≡ inRound (c .round) (firstFrom (marked (c .live)) (c .from) (c .round - c .from)) (inRound (c .count) (firstFrom (marked (c .live)) 0 (c .count)) none)
-
   -- the turns are taken
-  pub all-taken : n ≤ taken → turned (answerIn answer) (c .counts) failed S ≡ turnsOf (stepsOf code) n (c₀ .counts) (systemIn c₀ w₀)
+  pub all-taken : left ≤ 0 → turned (answerIn answer) (c .counts) failed S ≡ turnsOf (stepsOf code) n (c₀ .counts) (systemIn c₀ w₀)
   unfolding turnsOf
   all-taken h =
       ap₂ (λ (a : Answer) (i : ℕ). turned (answerIn a) (c .counts) i S) (v .goes-on) (v .none-failed)
-      ∙ ap (λ (k : ℕ). turnsOf (stepsOf code) k (c .counts) S) (let z : 0 ≡ n - taken = omega (arith, h) in z)
+      ∙ ap (λ (k : ℕ). turnsOf (stepsOf code) k (c .counts) S) (let z : 0 ≡ left = omega (arith, h) in z)
       ∙ sym (v .turns)
 
   -- no step was taken before
   pub from-none : {r : Turned} → c₀ .counts ≡ no-steps → r ≡ turnsOf (stepsOf code) n (c₀ .counts) (systemIn c₀ w₀) → r ≡ turnsOf (stepsOf code) n no-steps (systemIn c₀ w₀)
   from-none z h = h ∙ ap (λ (l : List ℕ). turnsOf (stepsOf code) n l (systemIn c₀ w₀)) z
 
-  some-left : taken < n → n - taken ≡ suc (n - taken - 1)
-  some-left h = omega arith
+  one-less : 0 < left → left ≡ suc (left - 1)
+  one-less h = omega (arith, h)
 
   -- nobody is left
-  pub nobody-next : taken < n → (o : Whose) → Nexts o → OneOf (1 ∷ []) (tagOf whose-type o) → turned s-finished (c .counts) failed S ≡ turnsOf (stepsOf code) n (c₀ .counts) (systemIn c₀ w₀)
+  pub nobody-next : 0 < left → (o : Whose) → whoseIn o ≡ nextIn (c .live) (c .from) (c .round) (c .count) → OneOf (1 ∷ []) (tagOf whose-type o)
+      → turned s-finished (c .counts) failed S ≡ turnsOf (stepsOf code) n (c₀ .counts) (systemIn c₀ w₀)
   nobody-next h o e t =
       ap (λ (i : ℕ). turned s-finished (c .counts) i S) (v .none-failed)
-      ∙ sym (v .turns ∙ ap (λ (k : ℕ). turnsOf (stepsOf code) k (c .counts) S) (some-left h) ∙ idle-turns code (next-in c w (v .held) none (at o t ∙ e)) (n - taken - 1) (c .counts))
+      ∙ sym (v .turns ∙ ap (λ (k : ℕ). turnsOf (stepsOf code) k (c .counts) S) (one-less h) ∙ idle-turns code (nobody-asked c w (v .held) (sym e ∙ sym (at o t))) (left - 1) (c .counts))
     where
       at : (o : Whose) → OneOf (1 ∷ []) (tagOf whose-type o) → none ≡ whoseIn o
       at (whose.Thread i r) t = absurd (miss (1 ∷ []) 0 tt t)
       at whose.Nobody t = refl
 
-  pub picked : (o : Whose) (i r : ℕ) → Nexts o → o ≡ whose.Thread i r → next (λ j. live S j and free j) S ≡ some (record { at = i; round = r })
-  picked o i r e g = next-in c w (v .held) (some (record { at = i; round = r })) (ap whoseIn (sym g) ∙ e)
+  -- turns that were known ahead led here
+  module _ {r q : ℕ} {res : Rounds} {counts : List ℕ} {x : Tables} (b : Rounded code c w r q res counts x) (few : q ≤ left) where
+    abbrev c₁ : Scheduler
+    c₁ = rounded c r q (res .left) (res .last) counts (b .used)
 
-  pub small : (o : Whose) (i r : ℕ) → Nexts o → o ≡ whose.Thread i r → i < most-threads
-  small o i r e g = let z = among c w (v .held) i r (picked o i r e g) in omega (arith, z, v .held .count)
+    pub going-on : Going heads slots n c₀ w₀ c₁ (b .w) failed answer (left - (q - res .left))
+    going-on = record {
+      held = b .held;
+      room = b .room;
+      few = omega (arith, v .few);
+      counts-few = λ j. let y = b .counted j in let z = v .counts-few j in omega (arith, y, z, b .few, few);
+      none-failed = v .none-failed;
+      goes-on = v .goes-on;
+      turns =
+          v .turns
+          ∙ ap (λ (k : ℕ). turnsOf (stepsOf code) k (c .counts) S) (let z : left ≡ q + (left - q) = omega (arith, few) in z)
+          ∙ b .turns (left - q)
+          ∙ ap (λ (k : ℕ). turnsOf (stepsOf code) k counts (systemIn c₁ (b .w))) (let z : res .left + (left - q) ≡ left - (q - res .left) = omega (arith, few, b .few) in z);
+    }
 
-  -- a thread was chosen, and took steps
-  pub record Visit : Type 0 where
-    pub more : taken < n
-    pub whose-turn : Whose
-    pub i : ℕ
-    pub r : ℕ
-    pub chosen : Nexts whose-turn
-    pub is-thread : whose-turn ≡ whose.Thread i r
-    pub q : ℕ
-    pub quota : q ≡ cond (eqb (i + 1) (c .from) and eqb (c .round) (c .count)) (n - taken) 1
-    pub m : State
-    pub k : ℕ
-    pub a : Answer
-    pub x : Tables
-    pub long : length (x .frames) ≡ frames-words
-    pub its : (ts : List SThread) →
-        looped (answerIn a) k (view m (tables ts (partOf (x .frames) i) (x .cells) (x .keys) (x .pairs) (x .functions) (x .bindings))) ≡
-        loopOf code q 0 (view (stateOf (getD (c .threads) i idle) (c .used)) (tables ts (partOf (w .frames) i) (w .cells) (w .keys) (w .pairs) (w .functions) (w .bindings)))
-    pub others : (j : ℕ) → (j ≡ i → ⊥) → partOf (x .frames) j ≡ partOf (w .frames) j
+  module _ {i r : ℕ} {u : Used} {o : Answer} {x : Tables} (more : 0 < left) (z : Refused code c w i r u o x) where
+    pub i-few : i < most-threads
+    i-few = small c w (v .held) i r (z .is)
 
-  module _ (z : Visit) where
-    pub next-here : next (λ j. live S j and free j) S ≡ some (record { at = z .i; round = z .r })
-    next-here = picked (z .whose-turn) (z .i) (z .r) (z .chosen) (z .is-thread)
+    abbrev a : StepAnswer
+    a = answerIn o
 
-    abbrev mine : Clean
-    mine = alone-after code c w (v .held) (z .i) (z .r) next-here (z .q) (n - taken) (z .quota) (z .m) (z .k) (answerIn (z .a)) (z .x) (z .others)
+    less : turnsOf (stepsOf code) n (c₀ .counts) (systemIn c₀ w₀) ≡ turnsOf (stepsOf code) (suc (left - 1)) (c .counts) S
+    less = v .turns ∙ ap (λ (k : ℕ). turnsOf (stepsOf code) k (c .counts) S) (one-less more)
 
-    abbrev pub stepped : List ℕ → Scheduler
-    stepped lv = after-steps code c w (v .held) (z .i) (z .r) next-here (z .q) (n - taken) (z .quota) (z .m) (z .k) (answerIn (z .a)) (z .x) (z .others) lv
-
-    pub loop-is : looped (answerIn (z .a)) (z .k) mine ≡ loopOf code (z .q) 0 (alone S (threadAt (c .threads) (w .frames) (z .i)))
-    unfolding view threadAt
-    loop-is = z .its (S .threads)
-
-    quota-some : 0 < z .q
-    quota-some = at (eqb (z .i + 1) (c .from) and eqb (c .round) (c .count)) (z .quota)
+    -- the step is taken
+    counts-stepped : (j : ℕ) → getD (set (c .counts) i (getD (c .counts) i 0 + 1)) j 0 + (left - 1) ≤ n
+    counts-stepped j = at (eqb j i) refl
       where
-        at : (b : Bool) → z .q ≡ cond b (n - taken) 1 → 0 < z .q
-        at true y = omega (arith, y, z .more)
-        at false y = omega (arith, y)
-
-    quota-few : z .q ≤ n - taken
-    quota-few = at (eqb (z .i + 1) (c .from) and eqb (c .round) (c .count)) (z .quota)
-      where
-        at : (b : Bool) → z .q ≡ cond b (n - taken) 1 → z .q ≤ n - taken
-        at true y = omega (arith, y)
-        at false y = omega (arith, y, z .more)
-
-    pub k-few : z .k ≤ n - taken
-    k-few =
-        let y = steps-few code c w (v .held) (z .i) (z .r) next-here (z .q) (n - taken) (z .quota) (z .m) (z .k) (answerIn (z .a)) (z .x) (z .others) loop-is in
-        omega (arith, y, quota-few)
-
-    pub i-few : z .i < most-threads
-    i-few = small (z .whose-turn) (z .i) (z .r) (z .chosen) (z .is-thread)
-
-    pub r-few : z .r ≤ most-threads
-    r-few = round-few c w (v .held) (z .i) (z .r) next-here
-
-    -- the marks after it
-    pub data Marks : List ℕ → Type 0 where
-      gone : isDone mine ≡ true → Marks (set (c .live) (z .i) 0)
-      kept : isDone mine ≡ false → Marks (c .live)
-
-    counts-after : (k : ℕ) (j : ℕ) → getD (set (c .counts) (z .i) (getD (c .counts) (z .i) 0 + k)) j 0 ≤ taken + k
-    counts-after k j = at (eqb j (z .i)) refl
-      where
-        at : (b : Bool) → eqb j (z .i) ≡ b → getD (set (c .counts) (z .i) (getD (c .counts) (z .i) 0 + k)) j 0 ≤ taken + k
+        at : (b : Bool) → eqb j i ≡ b → getD (set (c .counts) i (getD (c .counts) i 0 + 1)) j 0 + (left - 1) ≤ n
         at true y =
-            subst⁻¹ (λ (l : ℕ). getD (set (c .counts) (z .i) (getD (c .counts) (z .i) 0 + k)) l 0 ≤ taken + k) (eqb-true j (z .i) y)
-            (let g = getD-set-same (c .counts) (z .i) (getD (c .counts) (z .i) 0 + k) 0 (omega (arith, i-few, v .held .counts-long)) in
-            omega (arith, g, v .counts-few (z .i)))
-        at false y =
-            let g = getD-set-other (c .counts) (z .i) j (getD (c .counts) (z .i) 0 + k) 0 (eqb-false j (z .i) y) in
-            omega (arith, g, v .counts-few j)
+            subst⁻¹ (λ (l : ℕ). getD (set (c .counts) i (getD (c .counts) i 0 + 1)) l 0 + (left - 1) ≤ n) (eqb-true j i y)
+            (let q = getD-set-same (c .counts) i (getD (c .counts) i 0 + 1) 0 (omega (arith, i-few, v .held .counts-long)) in omega (arith, q, v .counts-few i, more))
+        at false y = let q = getD-set-other (c .counts) i j (getD (c .counts) i 0 + 1) 0 (eqb-false j i y) in omega (arith, q, v .counts-few j)
 
-    -- the scheduler's words after it, as they were worked out
-    pub settled-as : (lv : List ℕ) (th : Thread) (u : Used) (rd fr : ℕ) → th ≡ threadOf (z .m) → u ≡ usedOf (z .m) → rd ≡ pickN (z .k) (c .round) (z .r) → fr ≡ pickN (z .k) (c .from) (z .i + 1)
-        → sched (set (c .threads) (z .i) th) lv (set (c .counts) (z .i) (getD (c .counts) (z .i) 0 + z .k)) (c .count) rd fr u ≡ stepped lv
-    settled-as lv th u rd fr h1 h2 h3 h4 =
-        ap₂ (λ a b. sched (set (c .threads) (z .i) a) lv (set (c .counts) (z .i) (getD (c .counts) (z .i) 0 + z .k)) (c .count) rd fr b) h1 h2
-        ∙ ap₂ (λ (a b : ℕ). sched (set (c .threads) (z .i) (threadOf (z .m))) lv (set (c .counts) (z .i) (getD (c .counts) (z .i) 0 + z .k)) (c .count) a b (usedOf (z .m))) h3 h4
+    -- the thread is finished
+    pub going-passed : OneOf (1 ∷ []) (tagOf answer-type o)
+        → Going heads slots n c₀ w₀ (sched (set (c .live) i 0) (c .counts) (c .count) (c .round) (c .from) u) x failed answer left
+    going-passed t = record {
+      held = held-passed code c w (v .held) i r (z .is) u a x (z .its) (z .others) (is-finished o t);
+      room = z .long;
+      few = v .few;
+      counts-few = v .counts-few;
+      none-failed = v .none-failed;
+      goes-on = v .goes-on;
+      turns = v .turns ∙ ap (turnsOf (stepsOf code) left (c .counts)) (sym (passes code c w (v .held) i r (z .is) u a x (z .its) (z .others) (is-finished o t)));
+    }
 
-    module _ {lv : List ℕ} (marks : Marks lv) where
-      pub held-after : Held (stepped lv) (z .x)
-      held-after = at marks
-        where
-          at : {l : List ℕ} → Marks l → Held (stepped l) (z .x)
-          at (gone d) = held-done code c w (v .held) (z .i) (z .r) next-here (z .q) (n - taken) (z .quota) (z .m) (z .k) (answerIn (z .a)) (z .x) (z .others) d
-          at (kept d) = held-live code c w (v .held) (z .i) (z .r) next-here (z .q) (n - taken) (z .quota) (z .m) (z .k) (answerIn (z .a)) (z .x) (z .others) d
+    pub less-marks : total (set (c .live) i 0) < total (c .live)
+    less-marks =
+        let y = total-set (c .live) i 0 (omega (arith, i-few, v .held .live-long)) in
+        let q = marked-one (c .live) i (marked-at c w (v .held) i r (z .is)) in
+        omega (arith, y, q)
 
-      -- the loop goes on after it
-      pub going : Going heads slots n c₀ w₀ (stepped lv) (z .x) failed answer (taken + z .k)
-      going = record {
-        held = held-after;
-        room = z .long;
-        few = omega (arith, k-few, v .few);
-        counts-few = counts-after (z .k);
-        none-failed = v .none-failed;
-        goes-on = v .goes-on;
-        turns =
-            v .turns
-            ∙ turns-are code c w (v .held) (z .i) (z .r) next-here (z .q) (n - taken) (z .quota) (z .m) (z .k) (answerIn (z .a)) (z .x) (z .others) loop-is lv (n - taken) k-few
-            ∙ ap (λ (j : ℕ). turnsOf (stepsOf code) j (stepped lv .counts) (systemIn (stepped lv) (z .x))) (let y : n - taken - z .k ≡ n - (taken + z .k) = omega arith in y);
-      }
+    -- the step fails
+    pub failing : OneOf (2 ∷ 3 ∷ 4 ∷ []) (tagOf answer-type o)
+        → turned a (c .counts) i (systemIn (sched (c .live) (c .counts) (c .count) (c .round) (c .from) u) x) ≡ turnsOf (stepsOf code) n (c₀ .counts) (systemIn c₀ w₀)
+    failing t = sym (less ∙ fails code c w (v .held) i r (z .is) u a x (z .its) (z .others) (not-taken o t) (not-finished o t) (not-starting o t) (left - 1))
 
-      pub held-as : (d : Scheduler) → d ≡ stepped lv → Held d (z .x)
-      held-as d h = subst⁻¹ (λ y. Held y (z .x)) h held-after
+    -- a thread is to be started
+    module _ (t : OneOf (5 ∷ []) (tagOf answer-type o)) where
+      pub no-place : most-threads ≤ c .count
+          → turned s-noroom (c .counts) i (systemIn (sched (c .live) (c .counts) (c .count) (c .round) (c .from) u) x) ≡ turnsOf (stepsOf code) n (c₀ .counts) (systemIn c₀ w₀)
+      no-place h = sym (less ∙ full code c w (v .held) i r (z .is) u a x (z .its) (z .others) (is-starting o t) h (left - 1))
 
-      pub going-as : {d : Scheduler} → d ≡ stepped lv → Going heads slots n c₀ w₀ d (z .x) failed answer (taken + z .k)
-      going-as h = subst⁻¹ (λ d. Going heads slots n c₀ w₀ d (z .x) failed answer (taken + z .k)) h going
-
-      -- or ends with it
-      pub failing : OneOf (2 ∷ 3 ∷ 4 ∷ []) (tagOf answer-type (z .a))
-          → turned (answerIn (z .a)) (stepped lv .counts) (z .i) (systemIn (stepped lv) (z .x)) ≡ turnsOf (stepsOf code) n (c₀ .counts) (systemIn c₀ w₀)
-      failing t = sym (v .turns ∙ fails code c w (v .held) (z .i) (z .r) next-here (z .q) (n - taken) (z .quota) (z .m) (z .k) (answerIn (z .a)) (z .x) (z .others) loop-is
-          (λ y. not-taken (z .a) t y) (λ y. not-finished (z .a) t y) (λ y. not-starting (z .a) t y) lv (n - taken) quota-few)
-
-      pub failing-as : (d : Scheduler) → d ≡ stepped lv → OneOf (2 ∷ 3 ∷ 4 ∷ []) (tagOf answer-type (z .a))
-          → turned (answerIn (z .a)) (d .counts) (z .i) (systemIn d (z .x)) ≡ turnsOf (stepsOf code) n (c₀ .counts) (systemIn c₀ w₀)
-      failing-as d h t = ap (λ (y : Scheduler). turned (answerIn (z .a)) (y .counts) (z .i) (systemIn y (z .x))) h ∙ failing t
-
-    pub taken-more : OneOf (0 ∷ []) (tagOf answer-type (z .a)) → 0 < z .k
-    taken-more t = taken-some code c w (v .held) (z .i) (z .r) next-here (z .q) (n - taken) (z .quota) (z .m) (z .k) (answerIn (z .a)) (z .x) (z .others) loop-is (is-taken (z .a) t) quota-some
-
-    pub finished-more : OneOf (1 ∷ []) (tagOf answer-type (z .a)) → 0 < z .k
-    finished-more t = at (ending code c w (v .held) (z .i) (z .r) next-here (z .q) (n - taken) (z .quota) (z .m) (z .k) (answerIn (z .a)) (z .x) (z .others) loop-is) (is-finished (z .a) t)
-      where
-        at : {o : StepAnswer} → Ending code mine (z .k) (z .q) o → o ≡ s-finished → 0 < z .k
-        at (e-taken y) u = absurd (let g : _≡_ {A = ℕ} 0 1 = cc in omega arith)
-        at (e-finished d y) u = moves code c w (v .held) (z .i) (z .r) next-here (z .q) (n - taken) (z .quota) (z .m) (z .k) (answerIn (z .a)) (z .x) (z .others) loop-is d
-        at (e-noroom d y u l) g = absurd (let h : _≡_ {A = ℕ} 0 1 = cc in omega arith)
-        at (e-stuck d y u l) g = absurd (let h : _≡_ {A = ℕ} 0 1 = cc in omega arith)
-        at (e-denied d y u l) g = absurd (let h : _≡_ {A = ℕ} 0 1 = cc in omega arith)
-        at (e-starts y l) g = absurd (let h : _≡_ {A = ℕ} 0 1 = cc in omega arith)
-
-    -- Entering a 0x42
-
-    module _ {lv : List ℕ} (marks : Marks lv) (t : OneOf (5 ∷ []) (tagOf answer-type (z .a))) where
-      pub here : AtSpawn code c w (v .held) (z .i) (z .r) next-here (z .q) (n - taken) (z .quota) (z .m) (z .k) (answerIn (z .a)) (z .x) (z .others) loop-is
-      here = at-spawn code c w (v .held) (z .i) (z .r) next-here (z .q) (n - taken) (z .quota) (z .m) (z .k) (answerIn (z .a)) (z .x) (z .others) loop-is (is-starting (z .a) t)
-
-      pub full : most-threads ≤ c .count → turned s-noroom (stepped lv .counts) (z .i) (systemIn (stepped lv) (z .x)) ≡ turnsOf (stepsOf code) n (c₀ .counts) (systemIn c₀ w₀)
-      full h = sym (v .turns ∙ no-place code c w (v .held) (z .i) (z .r) next-here (z .q) (n - taken) (z .quota) (z .m) (z .k) (answerIn (z .a)) (z .x) (z .others) loop-is here lv h (n - taken) quota-few)
-
-      pub full-as : (d : Scheduler) → d ≡ stepped lv → most-threads ≤ c .count → turned s-noroom (d .counts) (z .i) (systemIn d (z .x)) ≡ turnsOf (stepsOf code) n (c₀ .counts) (systemIn c₀ w₀)
-      full-as d h g = ap (λ (y : Scheduler). turned s-noroom (y .counts) (z .i) (systemIn y (z .x))) h ∙ full g
-
-      pub counts-left : getD (stepped lv .counts) (z .i) 0 + 1 ≤ n
-      counts-left = let y = here .some-left in omega (arith, y, quota-few, counts-after (z .k) (z .i))
-
-      pub one-left : z .k < n - taken
-      one-left = let y = here .some-left in omega (arith, y, quota-few)
-
-      module _ (room : c .count < most-threads) (f g : Thread) (mark : ℕ)
-          (hf : (e : ℕ) (fs : List ℕ) → controlIn (z .m .now .control) ≡ enter e → threadIn f fs ≡ fresh (getD slots (e * 5) 0) (z .m .now .env))
-          (hg : g ≡ threadOf (giveOf (z .m) (unkeyedOf Number 0) .state))
-          (hm : (fs : List ℕ) → eqb mark 1 ≡ liveThread (some (threadIn g fs))) where
-        pub new-is : (fs : List ℕ) → threadIn f fs ≡ fresh (here .body) (z .m .now .env)
-        new-is fs = hf (here .at-place) fs (here .entered) ∙ ap (λ (b : ℕ). fresh b (z .m .now .env)) (spawn-body heads slots (here .at-place) (here .body) (here .is-spawn))
-
-        pub own-is : (fs : List ℕ) → threadIn g fs ≡ handed0 code (threadIn (threadOf (z .m)) fs)
-        own-is fs = ap (λ y. threadIn y fs) hg
-
-        abbrev pub started : Scheduler
-        started = after-start code c w (v .held) (z .i) (z .r) next-here (z .q) (n - taken) (z .quota) (z .m) (z .k) (answerIn (z .a)) (z .x) (z .others) loop-is here lv room f g mark new-is own-is hm
-
-        counts-started : (j : ℕ) → getD (started .counts) j 0 ≤ taken + z .k + 1
-        counts-started j = at (eqb j (z .i)) refl
-          where
-            at : (b : Bool) → eqb j (z .i) ≡ b → getD (started .counts) j 0 ≤ taken + z .k + 1
-            at true y =
-                subst⁻¹ (λ (l : ℕ). getD (started .counts) l 0 ≤ taken + z .k + 1) (eqb-true j (z .i) y)
-                (let u = getD-set-same (stepped lv .counts) (z .i) (getD (stepped lv .counts) (z .i) 0 + 1) 0 (omega (arith, i-few, held-after marks .counts-long)) in
-                omega (arith, u, counts-after (z .k) (z .i)))
-            at false y =
-                let u = getD-set-other (stepped lv .counts) (z .i) j (getD (stepped lv .counts) (z .i) 0 + 1) 0 (eqb-false j (z .i) y) in
-                omega (arith, u, counts-after (z .k) j)
-
-        pub going-started : Going heads slots n c₀ w₀ started (z .x) failed answer (taken + z .k + 1)
+      module _ (h : c .count < most-threads) (y : List ℕ) (st : Started (x .frames) y i (c .count) slots) (long : length y ≡ threads-words) where
+        pub going-started : Going heads slots n c₀ w₀ (sched (set (c .live) (c .count) 1) (set (c .counts) i (getD (c .counts) i 0 + 1)) (c .count + 1) r (i + 1) u) (putFrames x y) failed answer (left - 1)
         going-started = record {
-          held = held-started code c w (v .held) (z .i) (z .r) next-here (z .q) (n - taken) (z .quota) (z .m) (z .k) (answerIn (z .a)) (z .x) (z .others) loop-is here lv room f g mark new-is own-is hm (held-after marks);
-          room = z .long;
-          few = omega (arith, one-left);
-          counts-few = counts-started;
+          held = held-started code c w (v .held) i r (z .is) u a x (z .its) (z .others) (is-starting o t) h slots (λ b q e. spawn-body heads slots q b e) y st;
+          room = long;
+          few = omega (arith, v .few);
+          counts-few = counts-stepped;
           none-failed = v .none-failed;
           goes-on = v .goes-on;
-          turns =
-              v .turns
-              ∙ starts code c w (v .held) (z .i) (z .r) next-here (z .q) (n - taken) (z .quota) (z .m) (z .k) (answerIn (z .a)) (z .x) (z .others) loop-is here lv room f g mark new-is own-is hm (n - taken) quota-few
-              ∙ ap (λ (j : ℕ). turnsOf (stepsOf code) j (started .counts) (systemIn started (z .x))) (let y : n - taken - (z .k + 1) ≡ n - (taken + z .k + 1) = omega arith in y);
+          turns = less ∙ starts code c w (v .held) i r (z .is) u a x (z .its) (z .others) (is-starting o t) h slots (λ b q e. spawn-body heads slots q b e) y st (left - 1);
         }
 
-        pub going-started-as : (d : Scheduler) → d ≡ stepped lv
-            → Going heads slots n c₀ w₀
-            (sched (set (set (d .threads) (c .count) f) (z .i) g) (set (set lv (c .count) 1) (z .i) mark) (set (d .counts) (z .i) (getD (d .counts) (z .i) 0 + 1)) (c .count + 1) (z .r) (z .i + 1) (d .used))
-            (z .x) failed answer (taken + z .k + 1)
-        going-started-as d h = subst⁻¹ (λ (y : Scheduler).
-            Going heads slots n c₀ w₀
-            (sched (set (set (y .threads) (c .count) f) (z .i) g) (set (set lv (c .count) 1) (z .i) mark) (set (y .counts) (z .i) (getD (y .counts) (z .i) 0 + 1)) (c .count + 1) (z .r) (z .i + 1) (y .used))
-            (z .x) failed answer (taken + z .k + 1)) h going-started
+        pub more-marks : total (set (c .live) (c .count) 1) ≤ total (c .live) + 1
+        more-marks = let q = total-set (c .live) (c .count) 1 (omega (arith, h, v .held .live-long)) in omega (arith, q)

@@ -7,11 +7,12 @@ use mathlib.Core.Bool.{Bool, true, false, cond, not}
 use mathlib.Core.List.{List, [], _∷_}
 use mathlib.Core.Option.{none, some}
 use lib.Dec.{eqb, ltb}
-use lib.ListN.{length, getElem?, getD, set, replicate}
+use lib.ListN.{length, length-set, getElem?, getD, set, replicate}
 use lib.Seq.{getD-set-same, getD-set-other}
 use borrow.Author.Tests.{eqb-true, eqb-false, ltb-true, ltb-false, lt-ltb}
-use types.Run.{OneOf}
+use types.Run.{OneOf, miss}
 use denote.Enum.Declared.{tagOf}
+use Rattle.semantics.specs.Machine.{most-threads}
 use Rattle.semantics.specs.Room.{isDone}
 use Rattle.semantics.specs.Threads.{liveThread, firstFrom}
 use Rattle.store.specs.declared.Used.{Used}
@@ -20,7 +21,11 @@ use Rattle.acts.specs.View.{Tables, tables, view}
 use Rattle.thread.specs.declared.Thread.{Thread}
 use Rattle.thread.specs.View.{stateOf}
 use Rattle.thread.proofs.Hands.{done-enter, done-hand}
-use Rattle.machine.specs.Scheduled.{threadIn, threadAt, partOf, idle, listed, marked}
+use Rattle.machine.specs.declared.Whose.{Whose}
+use Rattle.machine.specs.declared.Whose.the-variants as whose
+use Rattle.machine.proofs.Whose.{the-type as whose-type}
+use Rattle.machine.specs.Scheduled.{threadIn, threadAt, partOf, idle, listed, marked, whoseIn}
+use Rattle.machine.specs.Ahead.{nextIn, atOf}
 use Rattle.machine.specs.Listed.{listed-get, listed-none}
 
 -- Marks of one thread
@@ -93,3 +98,37 @@ marks-more live ts i m h e o fs j = at (eqb j i) refl
     at false q =
         let z : j ≡ i → ⊥ = eqb-false j i q in
         ap (λ k. eqb k 1) (getD-set-other live i j m 0 z) ∙ o fs j ∙ ap liveThread (sym (listed-off (threadAt ts fs) i j z))
+
+-- Whose turn it is, looked up ahead
+
+-- the thread that the table names
+pub known-at : (live : List ℕ) (f n i r : ℕ) (w : Whose) → whoseIn w ≡ nextIn live f n n → w ≡ whose.Thread i r → i ≡ atOf (nextIn live f n n)
+unfolding atOf
+known-at live f n i r w e q = ap atOf (sym (ap whoseIn q) ∙ e)
+
+pub known-nobody : (live : List ℕ) (f n : ℕ) (w : Whose) → whoseIn w ≡ nextIn live f n n → OneOf (1 ∷ []) (tagOf whose-type w) → 8 ≡ atOf (nextIn live f n n)
+unfolding atOf
+known-nobody live f n w e t = at w t ∙ ap atOf e
+  where
+    at : (w : Whose) → OneOf (1 ∷ []) (tagOf whose-type w) → 8 ≡ atOf (whoseIn w)
+    at (whose.Thread i r) t = absurd (miss (1 ∷ []) 0 tt t)
+    at whose.Nobody t = refl
+
+-- the table up to place f
+pub record AheadTo (live : List ℕ) (n : ℕ) (a : List ℕ) (f : ℕ) : Type 0 where
+  pub long : length a ≡ 9
+  pub few : f ≤ 9
+  pub is : (g : ℕ) → g < f → getD a g 0 ≡ atOf (nextIn live g n n)
+
+pub ahead-none : (live : List ℕ) (n : ℕ) → AheadTo live n (replicate 9 0) 0
+ahead-none live n = record { long = refl; few = omega arith; is = λ g h. absurd (omega arith) }
+
+pub ahead-more : {live : List ℕ} {n : ℕ} {a : List ℕ} {f x : ℕ} → AheadTo live n a f → f < 9 → x ≡ atOf (nextIn live f n n) → AheadTo live n (set a f x) (f + 1)
+ahead-more {live} {n} {a} {f} {x} v l k = record { long = simp length-set (v .long); few = omega arith; is = λ g h. at g h (eqb g f) refl }
+  where
+    at : (g : ℕ) → g < f + 1 → (b : Bool) → eqb g f ≡ b → getD (set a f x) g 0 ≡ atOf (nextIn live g n n)
+    at g h true q = subst⁻¹ (λ (i : ℕ). getD (set a f x) i 0 ≡ atOf (nextIn live i n n)) (eqb-true g f q) (getD-set-same a f x 0 (omega (arith, v .long, l)) ∙ k)
+    at g h false q = getD-set-other a f g x 0 (eqb-false g f q) ∙ v .is g (let z = eqb-false g f q in omega (arith, h, z))
+
+pub ahead-all : {live : List ℕ} {n : ℕ} {a : List ℕ} {f : ℕ} → AheadTo live n a f → 9 ≤ f → (g : ℕ) → g ≤ most-threads → getD a g 0 ≡ atOf (nextIn live g n n)
+ahead-all v l g h = v .is g (omega arith)

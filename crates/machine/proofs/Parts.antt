@@ -1,4 +1,4 @@
--- A thread's part of the frames, lent and put back: it holds what was left in it, and every other part is as it was.
+-- A thread's part of the words, lent and put back: it holds what was left in it, and every other part is as it was.
 use mathlib.Core.Path.{_≡_, refl, sym, ap, _∙_}
 use Prim.Native.Nat.{ℕ, zero, suc, _+_, _-_, _*_, _≤_, _<_}
 use native.Mathlib.Omega.{arith}
@@ -27,35 +27,35 @@ take-within (suc a) (suc b) (suc n) [] h = refl
 take-within (suc a) (suc b) (suc n) (x ∷ l) h = take-within a b (suc n) l (omega arith)
 
 -- what is lent to thread i
-pub part-is : (i : ℕ) (xs : List ℕ) → partOf xs i ≡ midOf (i * 1536) ((i + 1) * 1536 - i * 1536) xs
+pub part-is : (i : ℕ) (xs : List ℕ) → partOf xs i ≡ midOf (i * 1542) ((i + 1) * 1542 - i * 1542) xs
 unfolding partOf
-part-is i xs = let h : (i + 1) * 1536 - i * 1536 ≡ 1536 = omega arith in ap (λ k. take k (drop (i * 1536) xs)) (sym h)
+part-is i xs = let h : (i + 1) * 1542 - i * 1542 ≡ 1542 = omega arith in ap (λ k. take k (drop (i * 1542) xs)) (sym h)
 
-module _ (i : ℕ) (xs ys : List ℕ) (hi : i < 8) (hx : length xs ≡ 12288) (hy : length ys ≡ 1536) where
+module _ (i : ℕ) (xs ys : List ℕ) (hi : i < 8) (hx : length xs ≡ 12336) (hy : length ys ≡ 1542) where
   abbrev put : List ℕ
-  put = putMid (i * 1536) ((i + 1) * 1536 - i * 1536) xs ys
+  put = putMid (i * 1542) ((i + 1) * 1542 - i * 1542) xs ys
 
   pub part-here : partOf put i ≡ ys
   unfolding partOf
   part-here =
-      let l : length (take (i * 1536) xs) ≡ i * 1536 = omega (arith, length-take (i * 1536) xs, hx, hi) in
-      ap (take 1536) (drop-at (take (i * 1536) xs) (ys ++ postOf (i * 1536) ((i + 1) * 1536 - i * 1536) xs) (i * 1536) l)
-      ∙ take-front ys (postOf (i * 1536) ((i + 1) * 1536 - i * 1536) xs) 1536 hy
+      let l : length (take (i * 1542) xs) ≡ i * 1542 = omega (arith, length-take (i * 1542) xs, hx, hi) in
+      ap (take 1542) (drop-at (take (i * 1542) xs) (ys ++ postOf (i * 1542) ((i + 1) * 1542 - i * 1542) xs) (i * 1542) l)
+      ∙ take-front ys (postOf (i * 1542) ((i + 1) * 1542 - i * 1542) xs) 1542 hy
 
   pub part-there : (j : ℕ) → (j ≡ i → ⊥) → partOf put j ≡ partOf xs j
   unfolding partOf
   part-there j n = at (ltb j i) refl
     where
-      at : (b : Bool) → ltb j i ≡ b → take 1536 (drop (j * 1536) put) ≡ take 1536 (drop (j * 1536) xs)
+      at : (b : Bool) → ltb j i ≡ b → take 1542 (drop (j * 1542) put) ≡ take 1542 (drop (j * 1542) xs)
       at true e =
-          let h : j * 1536 + 1536 ≤ i * 1536 = omega (arith, ltb-true j i e) in
-          sym (take-within (i * 1536) (j * 1536) 1536 put h)
-          ∙ ap (λ l. take 1536 (drop (j * 1536) l)) (take-put (i * 1536) ((i + 1) * 1536 - i * 1536) xs ys (omega (arith, hx, hi)))
-          ∙ take-within (i * 1536) (j * 1536) 1536 xs h
+          let h : j * 1542 + 1542 ≤ i * 1542 = omega (arith, ltb-true j i e) in
+          sym (take-within (i * 1542) (j * 1542) 1542 put h)
+          ∙ ap (λ l. take 1542 (drop (j * 1542) l)) (take-put (i * 1542) ((i + 1) * 1542 - i * 1542) xs ys (omega (arith, hx, hi)))
+          ∙ take-within (i * 1542) (j * 1542) 1542 xs h
       at false e =
           let h : i < j = omega (arith, ltb-false j i e, n) in
-          let q : j * 1536 ≡ (i + 1) * 1536 + (j - (i + 1)) * 1536 = omega (arith, h) in
-          let d : drop ((i + 1) * 1536) put ≡ drop ((i + 1) * 1536) xs = drop-put (i * 1536) ((i + 1) * 1536) xs ys (omega arith) (omega (arith, hx, hi)) (omega (arith, hy)) in
-          ap (λ k. take 1536 (drop k put)) q
-          ∙ ap (take 1536) (sym (drop-drop ((j - (i + 1)) * 1536) ((i + 1) * 1536) put) ∙ ap (drop ((j - (i + 1)) * 1536)) d ∙ drop-drop ((j - (i + 1)) * 1536) ((i + 1) * 1536) xs)
-          ∙ ap (λ k. take 1536 (drop k xs)) (sym q)
+          let q : j * 1542 ≡ (i + 1) * 1542 + (j - (i + 1)) * 1542 = omega (arith, h) in
+          let d : drop ((i + 1) * 1542) put ≡ drop ((i + 1) * 1542) xs = drop-put (i * 1542) ((i + 1) * 1542) xs ys (omega arith) (omega (arith, hx, hi)) (omega (arith, hy)) in
+          ap (λ k. take 1542 (drop k put)) q
+          ∙ ap (take 1542) (sym (drop-drop ((j - (i + 1)) * 1542) ((i + 1) * 1542) put) ∙ ap (drop ((j - (i + 1)) * 1542)) d ∙ drop-drop ((j - (i + 1)) * 1542) ((i + 1) * 1542) xs)
+          ∙ ap (λ k. take 1542 (drop k xs)) (sym q)

@@ -1,5 +1,5 @@
 -- What a call tells of turns that ended.
-use mathlib.Core.Path.{_≡_, refl, sym, ap, ap₂, _∙_, subst}
+use mathlib.Core.Path.{_≡_, refl, sym, ap, _∙_, subst}
 use Prim.Native.Nat.{ℕ, _-_, _%_, _≤_, _<_}
 use native.Mathlib.Omega.{arith}
 use native.Mathlib.Nat.{sub-zero, mod-eq-of-lt}
@@ -7,11 +7,11 @@ use mathlib.Core.Bool.{Bool, true, false, cond, false≢true}
 use mathlib.Core.List.{List, []}
 use mathlib.Core.Option.{Option, none, some, Option·none-ne-some, Option·some-injective}
 use lib.Dec.{ltb, leb}
-use lib.ListN.{length, getElem?}
+use lib.ListN.{length, getElem?, getD}
 use borrow.Author.Tests.{ltb-true, ltb-false, le-leb, lt-leb}
 use Rattle.syntax.specs.Commands.{Cmd}
 use Rattle.semantics.specs.Machine.{Thread as SThread, most-threads}
-use Rattle.semantics.specs.Threads.{Steps, stepsOf, liveThread, live, allDone, firstFrom}
+use Rattle.semantics.specs.Threads.{Steps, stepsOf, liveThread, allDone, firstFrom}
 use Rattle.semantics.specs.TurnLaws.{FirstIs, first-at, nowhere, first-is, live-some, done-live, lawful}
 use Rattle.semantics.specs.Calls.{Ran, ran, no-steps, one-step, run-of, call}
 use Rattle.store.specs.Tables.{capped}
@@ -19,16 +19,18 @@ use Rattle.store.proofs.Laws.{cap-le}
 use Rattle.acts.specs.Meaning.{StepAnswer, s-taken, s-finished, s-noroom, s-stuck, s-denied, s-starts, answerIn}
 use Rattle.acts.specs.View.{Tables, tables}
 use Rattle.thread.specs.declared.Thread.{Thread}
+use Rattle.thread.specs.Own.{ownIn, Owned}
 use Rattle.machine.specs.declared.Answer.{Answer}
 use Rattle.machine.specs.declared.Machine.{Machine}
 use Rattle.machine.specs.declared.Turned.{Turned}
 use Rattle.machine.specs.Turns as turns
 use Rattle.machine.specs.Turns.{turnsOf, saidBy, threadBy, says}
 use Rattle.machine.specs.TurnsCalls.{step-turns, call-turns}
-use Rattle.machine.specs.Scheduled.{threadAt, listed, marked, systemOf, systemIn, turnedIn}
+use Rattle.machine.specs.Scheduled.{partOf, idle, threadAt, listed, ownAt, marked, storeIn, systemOf, turnedIn}
 use Rattle.machine.specs.Listed.{listed-length}
 use Rattle.machine.specs.View as view
 use Rattle.machine.specs.View.{wordsOf, seen}
+use Rattle.machine.proofs.InWords.{put-listed, read-listed}
 
 -- no thread is live exactly where all are finished
 pub none-live : (p : ℕ → Bool) (l : List SThread) (n f : ℕ) → length l ≡ n → ((j : ℕ) → p j ≡ liveThread (getElem? l j)) → firstFrom p 0 (n - 0) ≡ cond (ltb f n) (some f) none → leb n f ≡ allDone l
@@ -74,43 +76,55 @@ told-byte run s-stuck i from g h = omega arith
 told-byte run s-denied i from g h = omega arith
 told-byte run s-starts i from g h = omega arith
 
--- turns that ended in words, and what is told of them
-pub told-of : (run : Bool) (r : Turned) (w : Tables) (o : turns.Turned) (f i : ℕ) (a : Answer) → turnedIn r w ≡ o
-    → ((j : ℕ) → marked (r .scheduler .live) j ≡ live (systemIn (r .scheduler) w) j)
+-- turns that ended in words, the threads that are read from these, and what is told of them
+pub told-of : (run : Bool) (r : Turned) (w : Tables) (o : turns.Turned) (ts : List Thread) (d : Bool) (i : ℕ) (a : Answer) → turnedIn r w ≡ o
     → (r .scheduler .count ≤ most-threads) × (r .scheduler .round ≤ most-threads) × (r .scheduler .from ≤ 255) × (r .thread < most-threads)
-    → firstFrom (marked (r .scheduler .live)) 0 (r .scheduler .count - 0) ≡ cond (ltb f (r .scheduler .count)) (some f) none
-    → i ≡ threadBy run (answerIn (r .answer)) (r .thread) (r .scheduler .from) → view.answerIn a ≡ saidBy run (leb (r .scheduler .count) f) (answerIn (r .answer))
+    → ((j : ℕ) → j < most-threads → getD ts j idle ≡ ownIn (partOf (w .frames) j))
+    → ((fs : List ℕ) → d ≡ allDone (listed (threadAt ts fs) (capped (r .scheduler .count % 256) most-threads)))
+    → i ≡ threadBy run (answerIn (r .answer)) (r .thread) (r .scheduler .from) → view.answerIn a ≡ saidBy run d (answerIn (r .answer))
     → ran (view.answerIn a) (r .scheduler .counts) (i % 256)
-    (systemOf (r .scheduler .threads) (capped (r .scheduler .count % 256) most-threads) (capped (r .scheduler .round % 256) most-threads) (r .scheduler .from % 256) (r .scheduler .used) w)
+    (systemOf ts (capped (r .scheduler .count % 256) most-threads) (capped (r .scheduler .round % 256) most-threads) (r .scheduler .from % 256) (r .scheduler .used) w)
     ≡ says run o
-told-of run r w o f i a e m few z t s = at ∙ ap (says run) e
+told-of run r w o ts d i a e few read done t s = at ∙ ap (says run) e
   where
-    done : leb (r .scheduler .count) f ≡ allDone (systemIn (r .scheduler) w .threads)
-    done = none-live (marked (r .scheduler .live)) _ (r .scheduler .count) f (listed-length _ (r .scheduler .count)) m z
+    same : listed (threadAt ts (w .frames)) (capped (r .scheduler .count % 256) most-threads) ≡ listed (ownAt (w .frames)) (r .scheduler .count)
+    same =
+        ap (λ (n : ℕ). listed (threadAt ts (w .frames)) n) (within-threads (r .scheduler .count) (few .0))
+        ∙ read-listed ts (w .frames) (r .scheduler .count) (few .0) read
+
+    finished : d ≡ allDone (listed (ownAt (w .frames)) (r .scheduler .count))
+    finished = done (w .frames) ∙ ap allDone same
 
     who : i % 256 ≡ threadBy run (answerIn (r .answer)) (r .thread) (r .scheduler .from)
     who = within-byte i (subst (λ k. k ≤ 255) (sym t) (told-byte run _ _ _ (few .3) (few .2))) ∙ t
 
     at : ran (view.answerIn a) (r .scheduler .counts) (i % 256)
-        (systemOf (r .scheduler .threads) (capped (r .scheduler .count % 256) most-threads) (capped (r .scheduler .round % 256) most-threads) (r .scheduler .from % 256) (r .scheduler .used) w)
+        (systemOf ts (capped (r .scheduler .count % 256) most-threads) (capped (r .scheduler .round % 256) most-threads) (r .scheduler .from % 256) (r .scheduler .used) w)
         ≡ says run (turnedIn r w)
-    at = rw (s, done, who, within-threads (r .scheduler .count) (few .0), within-threads (r .scheduler .round) (few .1), within-byte (r .scheduler .from) (few .2))
+    at = rw (s, finished, who, same, within-threads (r .scheduler .round) (few .1), within-byte (r .scheduler .from) (few .2))
 
--- the same of the turns of a machine
-pub call-told : (run : Bool) (K : Steps) (k : ℕ) (m : Machine) (es : List ℕ) (x y : ℕ) (r : Turned) (fs cs ks ps gs bs : List ℕ) (f i : ℕ) (a : Answer)
+-- the marks of threads that are then put into words
+pub marks-put : (ts : List Thread) (a b l : List ℕ) {n : ℕ} → n ≤ most-threads → ((j : ℕ) → j < most-threads → Owned (partOf a j) (partOf b j) (getD ts j idle))
+    → ((fs : List ℕ) (j : ℕ) → marked l j ≡ liveThread (getElem? (listed (threadAt ts fs) n) j)) → (j : ℕ) → marked l j ≡ liveThread (getElem? (listed (ownAt b) n) j)
+marks-put ts a b l {n} h p m j = m a j ∙ ap (λ (x : List SThread). liveThread (getElem? x j)) (sym (put-listed ts a b n h p))
+
+-- the same of the turns of a machine, whose threads are put into words before
+pub call-told : (run : Bool) (K : Steps) (k : ℕ) (m : Machine) (es ds : List ℕ) (x y : ℕ) (r : Turned) (fs cs ks ps gs bs : List ℕ) (ts : List Thread) (d : Bool) (i : ℕ) (a : Answer)
     → x ≡ capped (m .count) most-threads → y ≡ capped (m .round) most-threads
-    → turnedIn r (tables [] fs cs ks ps gs bs) ≡ turnsOf K k no-steps (systemOf (m .threads) x y (m .from) (m .used) (wordsOf m es))
-    → ((j : ℕ) → marked (r .scheduler .live) j ≡ live (systemIn (r .scheduler) (tables [] fs cs ks ps gs bs)) j)
+    → ((j : ℕ) → j < most-threads → Owned (partOf es j) (partOf ds j) (getD (m .threads) j idle))
+    → turnedIn r (tables [] fs cs ks ps gs bs) ≡ turnsOf K k no-steps (record { threads = listed (ownAt ds) x; store = storeIn (m .used) (wordsOf m ds); round = y; from = m .from })
     → (r .scheduler .count ≤ most-threads) × (r .scheduler .round ≤ most-threads) × (r .scheduler .from ≤ 255) × (r .thread < most-threads)
-    → firstFrom (marked (r .scheduler .live)) 0 (r .scheduler .count - 0) ≡ cond (ltb f (r .scheduler .count)) (some f) none
-    → i ≡ threadBy run (answerIn (r .answer)) (r .thread) (r .scheduler .from) → view.answerIn a ≡ saidBy run (leb (r .scheduler .count) f) (answerIn (r .answer))
+    → ((j : ℕ) → j < most-threads → getD ts j idle ≡ ownIn (partOf fs j))
+    → ((es : List ℕ) → d ≡ allDone (listed (threadAt ts es) (capped (r .scheduler .count % 256) most-threads)))
+    → i ≡ threadBy run (answerIn (r .answer)) (r .thread) (r .scheduler .from) → view.answerIn a ≡ saidBy run d (answerIn (r .answer))
     → ran (view.answerIn a) (r .scheduler .counts) (i % 256)
-    (systemOf (r .scheduler .threads) (capped (r .scheduler .count % 256) most-threads) (capped (r .scheduler .round % 256) most-threads) (r .scheduler .from % 256) (r .scheduler .used)
-    (tables [] fs cs ks ps gs bs))
+    (systemOf ts (capped (r .scheduler .count % 256) most-threads) (capped (r .scheduler .round % 256) most-threads) (r .scheduler .from % 256) (r .scheduler .used) (tables [] fs cs ks ps gs bs))
     ≡ says run (turnsOf K k no-steps (seen m es))
-call-told run K k m es x y r fs cs ks ps gs bs f i a p q e =
-    told-of run r (tables [] fs cs ks ps gs bs) (turnsOf K k no-steps (seen m es)) f i a
-    (e ∙ ap₂ (λ n l. turnsOf K k no-steps (systemOf (m .threads) n l (m .from) (m .used) (wordsOf m es))) p q)
+call-told run K k m es ds x y r fs cs ks ps gs bs ts d i a p q put e =
+    told-of run r (tables [] fs cs ks ps gs bs) (turnsOf K k no-steps (seen m es)) ts d i a (e ∙ ap (turnsOf K k no-steps) same)
+  where
+    same : record { threads = listed (ownAt ds) x; store = storeIn (m .used) (wordsOf m ds); round = y; from = m .from } ≡ seen m es
+    same = rw (p, q, put-listed (m .threads) es ds (capped (m .count) most-threads) (cap-le (m .count) most-threads) put)
 
 -- never more threads than there are places
 seen-few : (m : Machine) (fs : List ℕ) → length (seen m fs .threads) ≤ most-threads

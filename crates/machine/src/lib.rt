@@ -1,6 +1,8 @@
-// The machine: a struct by value, with its step and its run. Its tables are lent to the steps of its threads; the frames of all threads are lent to it.
+// The machine: a struct by value, with its step and its run. Its tables are lent to the steps of its threads; the words in which the threads work, frames among them, are lent to it.
+mod ahead;
 mod run;
 mod turns;
+mod words;
 
 pub use run::all_finished;
 pub use run::within;
@@ -25,9 +27,8 @@ pub enum Answer {
     Denied,
 }
 
-// Where turns stand: the threads, 1 for each that is live, the steps that each took, how many threads there are, the round and who stepped last, and what the store uses.
+// Where turns stand: 1 for each thread that may be live, the steps that each took, how many threads there are, the round and who stepped last, and what the store uses.
 pub struct Scheduler {
-    pub threads: [Thread; MOST_THREADS],
     pub live: [u8; MOST_THREADS],
     pub counts: [u64; MOST_THREADS],
     pub count: usize,
@@ -40,6 +41,15 @@ pub struct Scheduler {
 pub struct Turned {
     pub scheduler: Scheduler,
     pub thread: usize,
+    pub answer: acts::Answer,
+}
+
+// Turns that were known ahead: what the store uses after them, how many are left, who stepped last if one was taken, who was asked last, and the answer of its step.
+pub struct Rounds {
+    pub used: Used,
+    pub left: u64,
+    pub last: usize,
+    pub at: usize,
     pub answer: acts::Answer,
 }
 

@@ -3,11 +3,13 @@ use crate::Answer;
 use crate::Machine;
 use crate::Outcome;
 use crate::Scheduler;
-use crate::turns::first;
+use crate::ahead::first;
 use crate::turns::mark;
 use crate::turns::turns;
-use store::FRAMES_WORDS;
+use crate::words::put_threads;
+use crate::words::threads_in;
 use store::MOST_THREADS;
+use store::THREADS_WORDS;
 use thread::Thread;
 ghost use mathlib.Core.Path.{_≡_};
 ghost use mathlib.Core.Bool.{cond};
@@ -109,7 +111,7 @@ impl Machine {
         run: bool,
         heads: &[u64],
         slots: &[u16],
-        frames: &mut [u64; FRAMES_WORDS],
+        frames: &mut [u64; THREADS_WORDS],
     ) -> Outcome
         ensures { λ r. ⌜
             ranIn r (now (frames .exit)) ≡ says run (turnsOf (stepsOf (lentCode heads slots)) n no-steps (seen self (now (frames .entry))))
@@ -119,7 +121,6 @@ impl Machine {
         let used = self.used;
         let count = within(self.count);
         let scheduler = Scheduler {
-            threads: threads,
             live: marks(threads, count),
             counts: [0u64; MOST_THREADS],
             count: count,
@@ -127,6 +128,7 @@ impl Machine {
             from: self.from as usize,
             used: used,
         };
+        put_threads(threads, &mut frames[..]);
         let mut cells = self.cells;
         let mut keys = self.keys;
         let mut pairs = self.pairs;
@@ -146,9 +148,7 @@ impl Machine {
         );
         let c = s.scheduler;
         let a = s.answer;
-        let live = c.live;
-        let done = c.count <= first(&live, 0, c.count);
-        let ts = c.threads;
+        let ts = threads_in(&frames[..]);
         let us = c.used;
         let counts = c.counts;
         let m = Machine {
@@ -163,6 +163,7 @@ impl Machine {
             functions: functions,
             bindings: bindings,
         };
+        let done = all_finished(ts, (c.count % 256) as u8);
         Outcome {
             machine: m,
             counts: counts,
@@ -172,7 +173,7 @@ impl Machine {
     }
 
     // One turn: a step of the thread whose turn it is.
-    pub fn step(self, heads: &[u64], slots: &[u16], frames: &mut [u64; FRAMES_WORDS]) -> Outcome
+    pub fn step(self, heads: &[u64], slots: &[u16], frames: &mut [u64; THREADS_WORDS]) -> Outcome
         ensures { λ r. ⌜ ranIn r (now (frames .exit)) ≡ call (stepsOf (lentCode heads slots)) one-step (seen self (now (frames .entry))) ⌝ }
     {
         self.call(1, false, heads, slots, frames)
@@ -184,7 +185,7 @@ impl Machine {
         n: u64,
         heads: &[u64],
         slots: &[u16],
-        frames: &mut [u64; FRAMES_WORDS],
+        frames: &mut [u64; THREADS_WORDS],
     ) -> Outcome
         ensures { λ r. ⌜ ranIn r (now (frames .exit)) ≡ call (stepsOf (lentCode heads slots)) (run-of n) (seen self (now (frames .entry))) ⌝ }
     {

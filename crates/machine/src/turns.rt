@@ -1,114 +1,58 @@
-// Turns: whose turn it is, and the steps of that thread.
+// Turns: those that are known ahead, and what comes between them, a thread that is found finished or a new one.
+use crate::Rounds;
 use crate::Scheduler;
 use crate::Turned;
 use crate::Whose;
+use crate::ahead::AHEAD;
+use crate::ahead::ahead;
+use crate::ahead::next_turn;
+use crate::words::put_at;
+use crate::words::thread_at;
 use acts::Answer;
 use acts::Control;
 use acts::Now;
-use acts::State;
-use acts::unkeyed;
 use store::BINDING_WORDS;
 use store::CELL_WORDS;
-use store::FRAME_WORDS;
 use store::FUNCTION_WORDS;
 use store::KEY_BYTES;
 use store::Keys;
-use store::Kind;
 use store::MOST_THREADS;
 use store::PAIR_WORDS;
+use store::THREAD_WORDS;
 use store::Used;
 use table::Expr;
 use thread::Ended;
 use thread::Thread;
-use thread::is_done;
-use thread::joined;
-use thread::steps;
-use thread::thread_of;
-use thread::used_of;
+use thread::step;
 ghost use mathlib.Core.Path.{_≡_};
 ghost use mathlib.Core.Bool.{cond};
 ghost use mathlib.Core.List.{List, []};
-ghost use mathlib.Core.Option.{none, some};
-ghost use Prim.Native.Nat.{ℕ, _<_, _≤_, _-_, _*_, _+_};
+ghost use mathlib.Core.Option.{some};
+ghost use Prim.Native.Nat.{ℕ, _<_, _≤_, _+_, _*_, _^_};
 ghost use lib.ListN.{length, getD};
 ghost use lib.Dec.{eqb, ltb};
-ghost use Rattle.order.specs.Bools.{_and_};
 ghost use Rattle.semantics.specs.Machine.{Thread as SThread, enter, most-threads};
 ghost use Rattle.semantics.specs.Step as semantics;
-ghost use Rattle.semantics.specs.Threads.{stepsOf, liveThread, live, firstFrom, inRound};
+ghost use Rattle.semantics.specs.Threads.{stepsOf, liveThread, live};
 ghost use Rattle.semantics.specs.Calls.{no-steps};
-ghost use Rattle.store.specs.declared.Kind.the-variants.{Number};
-ghost use Rattle.store.specs.Frames.{frames-words};
+ghost use Rattle.store.specs.Frames.{threads-words};
+ghost use Rattle.acts.specs.declared.Control.the-variants.{Hand};
 ghost use Rattle.acts.specs.Meaning.{controlIn};
-ghost use Rattle.acts.specs.View.{tables, view};
-ghost use Rattle.acts.specs.Inner.{giveOf, unkeyedOf};
+ghost use Rattle.acts.specs.View.{tables};
+ghost use Rattle.acts.specs.Inner.{acted};
 ghost use Rattle.acts.specs.Lent.{lentCode, before};
-ghost use Rattle.thread.specs.Inner.{threadOf, loopOf, ended};
+ghost use Rattle.thread.specs.Own.{withControl};
+ghost use Rattle.thread.specs.Inner.{ownState, endedAs, steppedBy};
 ghost use Rattle.thread.specs.Lent.{after};
-ghost use Rattle.thread.specs.View.{stateOf};
 ghost use Rattle.machine.specs.Turns.{turnsOf};
-ghost use Rattle.machine.specs.Batch.{pickN};
-ghost use Rattle.machine.specs.Scheduled.{threadIn, partOf, systemIn, marked, whoseIn, turnedIn};
-
-// The first live thread from i on, below e; e where there is none.
-pub(crate) fn first(live: &[u8; MOST_THREADS], i: usize, e: usize) -> usize
-    requires { ⌜ e ≤ most-threads ⌝ }
-    ensures { λ r. ⌜ firstFrom (marked (now (live .entry))) i (e - i) ≡ cond (ltb r e) (some r) none ⌝ }
-{
-    let mut j = i;
-    while j < e {
-        if live[j] == 1 {
-            return j;
-        }
-        j = j + 1;
-    }
-    e
-}
-
-// The next live thread of the round, else the lowest of all, in a new round of the threads that there are.
-fn next_turn(live: &[u8; MOST_THREADS], from: usize, round: usize, count: usize) -> Whose
-    requires { ⌜ (round ≤ most-threads) × (count ≤ most-threads) ⌝ }
-    ensures { λ r. ⌜
-        whoseIn r ≡
-        inRound round (firstFrom (marked (now (live .entry))) from (round - from)) (inRound count (firstFrom (marked (now (live .entry))) 0 count) none)
-        ⌝ }
-{
-    let i = first(live, from, round);
-    if i < round {
-        return Whose::Thread(i, round);
-    }
-    let j = first(live, 0, count);
-    if j < count {
-        return Whose::Thread(j, count);
-    }
-    Whose::Nobody
-}
-
-// How many steps thread i, whose turn it is, may take before another has its turn: as many as are left where it stepped last in a round of all threads, since then no other is live; else one.
-fn quota(i: usize, from: usize, round: usize, count: usize, left: u64) -> u64
-    requires { ⌜ i < most-threads ⌝ }
-    ensures { λ r. ⌜ r ≡ cond (eqb (i + 1) from and eqb round count) left 1 ⌝ }
-{
-    if i + 1 == from {
-        if round == count {
-            return left;
-        }
-    }
-    1
-}
-
-// After no step a, after some b.
-fn later(k: u64, a: usize, b: usize) -> usize
-    ensures { λ r. ⌜ r ≡ pickN k a b ⌝ }
-{
-    if k == 0 { a } else { b }
-}
+ghost use Rattle.machine.specs.Ahead.{Rounded, RoundsFrom};
+ghost use Rattle.machine.specs.Scheduled.{threadIn, partOf, systemIn, marked, turnedIn, Started};
 
 // The body of the 0x42 that is to be entered.
-fn body_of(m: State, slots: &[u16]) -> Expr
-    ensures { λ r. ⌜ ((e : ℕ) → controlIn (m .now .control) ≡ enter e → r .0 ≡ getD (now (slots .entry)) (e * 5) 0) ⌝ }
+fn body_of(t: Thread, slots: &[u16]) -> Expr
+    ensures { λ r. ⌜ ((e : ℕ) → controlIn (t .now .control) ≡ enter e → r .0 ≡ getD (now (slots .entry)) (e * 5) 0) ⌝ }
 {
-    let now = m.now;
+    let now = t.now;
     let control = now.control;
     match control {
         Control::Enter(e) => Expr(table::at16(slots, e.0 as usize * 5)),
@@ -117,13 +61,13 @@ fn body_of(m: State, slots: &[u16]) -> Expr
 }
 
 // A new thread, with the bindings in force and no enabled keys.
-fn fresh(m: State, slots: &[u16]) -> Thread
+fn fresh(t: Thread, slots: &[u16]) -> Thread
     ensures { λ r. ⌜
-        ((e : ℕ) (fs : List ℕ) → controlIn (m .now .control) ≡ enter e → threadIn r fs ≡ semantics.fresh (getD (now (slots .entry)) (e * 5) 0) (m .now .env))
+        ((e : ℕ) (fs : List ℕ) → controlIn (t .now .control) ≡ enter e → threadIn r fs ≡ semantics.fresh (getD (now (slots .entry)) (e * 5) 0) (t .now .env))
         ⌝ }
 {
-    let now = m.now;
-    let e = body_of(m, slots);
+    let now = t.now;
+    let e = body_of(t, slots);
     let n = Now {
         control: Control::Enter(e),
         env: now.env,
@@ -145,47 +89,60 @@ pub(crate) fn mark(t: Thread) -> u8
 }
 
 // The thread that starts another hands on 0.
-fn handing(m: State) -> Thread
-    ensures { λ r. ⌜ r ≡ threadOf (giveOf m (unkeyedOf Number 0) .state) ⌝ }
+fn handing(t: Thread) -> Thread
+    ensures { λ r. ⌜ r ≡ withControl t (Hand 0) ⌝ }
 {
-    let v = unkeyed(Kind::Number, 0);
-    let a = m.give(v);
-    let s = a.state;
-    thread_of(s)
+    let now = t.now;
+    let on = now.on;
+    let n = Now {
+        control: Control::Hand(0),
+        env: now.env,
+        on: on,
+    };
+    Thread {
+        now: n,
+        frames: t.frames,
+    }
 }
 
-// Up to n steps of thread i, with its part of the frames.
+// Thread i enters a 0x42: thread k starts.
+fn start(words: &mut [u64], i: usize, k: usize, slots: &[u16])
+    requires { ⌜ (i < k) × (k < most-threads) × (length (now words) ≡ threads-words) ⌝ }
+    ensures { λ _. ⌜ Started (now (words .entry)) (now (words .exit)) i k (now (slots .entry)) ⌝ }
+{
+    let t = thread_at(words, i);
+    put_at(words, k, fresh(t, slots));
+    put_at(words, i, handing(t));
+}
+
+// A step of thread i, on its part of the words.
 fn visit(
-    t: Thread,
     used: Used,
     i: usize,
-    n: u64,
     heads: &[u64],
     slots: &[u16],
-    frames: &mut [u64],
+    words: &mut [u64],
     cells: &mut [u64; CELL_WORDS],
     keys: &mut [u8; KEY_BYTES],
     pairs: &mut [u64; PAIR_WORDS],
     functions: &mut [u64; FUNCTION_WORDS],
     bindings: &mut [u64; BINDING_WORDS],
 ) -> Ended
-    requires { ⌜ (i < most-threads) × (length (now frames) ≡ frames-words) ⌝ }
+    requires { ⌜ (i < most-threads) × (length (now words) ≡ threads-words) ⌝ }
     ensures its { λ r. ⌜
         ((ts : List SThread) →
-        ended r (tables ts (partOf (now (frames .exit)) i) (now (cells .exit)) (now (keys .exit)) (now (pairs .exit)) (now (functions .exit)) (now (bindings .exit))) ≡
-        loopOf (lentCode heads slots) n 0
-        (view (stateOf t used)
-        (tables ts (partOf (now (frames .entry)) i) (now (cells .entry)) (now (keys .entry)) (now (pairs .entry)) (now (functions .entry)) (now (bindings .entry)))))
+        acted (endedAs r (partOf (now (words .exit)) i)) (tables ts (partOf (now (words .exit)) i) (now (cells .exit)) (now (keys .exit)) (now (pairs .exit)) (now (functions .exit)) (now (bindings .exit))) ≡
+        steppedBy (lentCode heads slots) (ownState used (partOf (now (words .entry)) i))
+        (tables ts (partOf (now (words .entry)) i) (now (cells .entry)) (now (keys .entry)) (now (pairs .entry)) (now (functions .entry)) (now (bindings .entry))))
         ⌝ }
-    ensures others { λ _. ⌜ ((j : ℕ) → (j ≡ i → ⊥) → partOf (now (frames .exit)) j ≡ partOf (now (frames .entry)) j) ⌝ }
+    ensures others { λ _. ⌜ ((j : ℕ) → (j ≡ i → ⊥) → partOf (now (words .exit)) j ≡ partOf (now (words .entry)) j) ⌝ }
 {
-    let part = &mut frames[i * FRAME_WORDS..(i + 1) * FRAME_WORDS];
-    steps(
-        joined(t, used),
-        n,
+    let part = &mut words[i * THREAD_WORDS..(i + 1) * THREAD_WORDS];
+    step(
+        part,
+        used,
         heads,
         slots,
-        part,
         cells,
         keys,
         pairs,
@@ -194,13 +151,95 @@ fn visit(
     )
 }
 
-// Turns one after another, up to n.
+// How many turns are known ahead: all that are left where all threads are in the round, else one.
+fn quota(r: usize, count: usize, left: u64) -> u64
+    ensures { λ q. ⌜ q ≡ cond (eqb r count) left 1 ⌝ }
+{
+    if r == count { left } else { 1 }
+}
+
+// b where a turn was taken, and a where none was.
+fn later(left: u64, n: u64, a: usize, b: usize) -> usize
+    ensures { λ r. ⌜ r ≡ cond (ltb left n) b a ⌝ }
+{
+    if left < n { b } else { a }
+}
+
+// Up to n turns that are known ahead, from thread `first` on. This loop has the one call of a step, which is inlined in it.
+fn rounds(
+    first: usize,
+    us: Used,
+    n: u64,
+    known: &[usize; AHEAD],
+    counts: &mut [u64; MOST_THREADS],
+    heads: &[u64],
+    slots: &[u16],
+    words: &mut [u64],
+    cells: &mut [u64; CELL_WORDS],
+    keys: &mut [u8; KEY_BYTES],
+    pairs: &mut [u64; PAIR_WORDS],
+    functions: &mut [u64; FUNCTION_WORDS],
+    bindings: &mut [u64; BINDING_WORDS],
+) -> Rounds
+    requires { ⌜
+        (first < most-threads) × (length (now words) ≡ threads-words) × ((j : ℕ) → getD (now counts) j 0 + n < 2 ^ 64)
+        × ((f : ℕ) → f ≤ most-threads → 1 < n → getD (now known) f 0 < most-threads) × (length (now counts) ≡ most-threads)
+        ⌝ }
+    ensures { λ z. ⌜
+        ((live : List ℕ) (count round from r : ℕ) → RoundsFrom live count round from r n (now (known .entry)) first (now (counts .entry)) us (before [] words cells keys pairs functions bindings)
+        → Rounded (lentCode heads slots) (record { live = live; counts = now (counts .entry); count = count; round = round; from = from; used = us }) (before [] words cells keys pairs functions bindings) r n z (now (counts .exit)) (after [] words cells keys pairs functions bindings))
+        ⌝ }
+{
+    let mut i = first;
+    let mut last = first;
+    let mut used = us;
+    let mut left = n;
+    while 0 < left {
+        let s = visit(
+            used,
+            i,
+            heads,
+            slots,
+            words,
+            cells,
+            keys,
+            pairs,
+            functions,
+            bindings,
+        );
+        let next = s.used;
+        let a = s.answer;
+        used = next;
+        let Answer::Taken = a else {
+            return Rounds {
+                used: used,
+                left: left,
+                last: last,
+                at: i,
+                answer: a,
+            };
+        };
+        counts[i] = counts[i] + 1;
+        left = left - 1;
+        last = i;
+        i = known[i + 1];
+    }
+    Rounds {
+        used: used,
+        left: left,
+        last: last,
+        at: last,
+        answer: Answer::Taken,
+    }
+}
+
+// Turns one after another, up to n. A thread that is found finished when its turn comes is passed over from then on.
 pub(crate) fn turns(
     scheduler: Scheduler,
     n: u64,
     heads: &[u64],
     slots: &[u16],
-    frames: &mut [u64],
+    words: &mut [u64],
     cells: &mut [u64; CELL_WORDS],
     keys: &mut [u8; KEY_BYTES],
     pairs: &mut [u64; PAIR_WORDS],
@@ -208,17 +247,15 @@ pub(crate) fn turns(
     bindings: &mut [u64; BINDING_WORDS],
 ) -> Turned
     requires { ⌜
-        (length (now frames) ≡ frames-words) × (scheduler .count ≤ most-threads) × (scheduler .round ≤ most-threads) × (scheduler .from ≤ 255) × (scheduler .counts ≡ no-steps)
-        × ((j : ℕ) → marked (scheduler .live) j ≡ live (systemIn scheduler (tables [] (now frames) (now cells) (now keys) (now pairs) (now functions) (now bindings))) j)
+        (length (now words) ≡ threads-words) × (scheduler .count ≤ most-threads) × (scheduler .round ≤ most-threads) × (scheduler .from ≤ 255) × (scheduler .counts ≡ no-steps)
+        × ((j : ℕ) → marked (scheduler .live) j ≡ live (systemIn scheduler (tables [] (now words) (now cells) (now keys) (now pairs) (now functions) (now bindings))) j)
         ⌝ }
     ensures turns { λ r. ⌜
-        turnedIn r (after [] frames cells keys pairs functions bindings) ≡
-        turnsOf (stepsOf (lentCode heads slots)) n no-steps (systemIn scheduler (before [] frames cells keys pairs functions bindings))
+        turnedIn r (after [] words cells keys pairs functions bindings) ≡
+        turnsOf (stepsOf (lentCode heads slots)) n no-steps (systemIn scheduler (before [] words cells keys pairs functions bindings))
         ⌝ }
-    ensures marks { λ r. ⌜ ((j : ℕ) → marked (r .scheduler .live) j ≡ live (systemIn (r .scheduler) (after [] frames cells keys pairs functions bindings)) j) ⌝ }
     ensures few { λ r. ⌜ (r .scheduler .count ≤ most-threads) × (r .scheduler .round ≤ most-threads) × (r .scheduler .from ≤ 255) × (r .thread < most-threads) ⌝ }
 {
-    let mut threads = scheduler.threads;
     let mut live = scheduler.live;
     let mut counts = scheduler.counts;
     let mut count = scheduler.count;
@@ -227,58 +264,53 @@ pub(crate) fn turns(
     let mut used = scheduler.used;
     let mut failed: usize = 0;
     let mut answer = Answer::Taken;
-    let mut taken: u64 = 0;
-    while taken < n {
+    let mut left = n;
+    while 0 < left {
         let whose = next_turn(&live, from, round, count);
-        let Whose::Thread(i, r) = whose else {
+        let Whose::Thread(first, r) = whose else {
             answer = Answer::Finished;
             break;
         };
-        let q = quota(i, from, round, count, n - taken);
-        let t = threads[i];
-        let s = visit(
-            t,
+        let known = ahead(&live, count);
+        let q = quota(r, count, left);
+        let s = rounds(
+            first,
             used,
-            i,
             q,
+            &known,
+            &mut counts,
             heads,
             slots,
-            frames,
+            words,
             cells,
             keys,
             pairs,
             functions,
             bindings,
         );
-        let m = s.state;
-        let k = s.taken;
-        threads[i] = thread_of(m);
-        used = used_of(m);
-        if is_done(m) {
-            live[i] = 0;
-        }
-        counts[i] = counts[i] + k;
-        taken = taken + k;
-        round = later(k, round, r);
-        from = later(k, from, i + 1);
+        let us = s.used;
         let a = s.answer;
+        let i = s.at;
+        used = us;
+        round = later(s.left, q, round, r);
+        from = later(s.left, q, from, s.last + 1);
+        left = left - (q - s.left);
         match a {
             Answer::Taken => {}
-            Answer::Finished => {}
+            Answer::Finished => {
+                live[i] = 0;
+            }
             Answer::Starts => {
                 if MOST_THREADS <= count {
                     answer = Answer::NoRoom;
                     failed = i;
                     break;
                 }
-                threads[count] = fresh(m, slots);
+                start(words, i, count, slots);
                 live[count] = 1;
-                let t = handing(m);
-                threads[i] = t;
-                live[i] = mark(t);
                 counts[i] = counts[i] + 1;
                 count = count + 1;
-                taken = taken + 1;
+                left = left - 1;
                 round = r;
                 from = i + 1;
             }
@@ -290,7 +322,6 @@ pub(crate) fn turns(
         }
     }
     let c = Scheduler {
-        threads: threads,
         live: live,
         counts: counts,
         count: count,

@@ -2,11 +2,6 @@ use borrow.Author.Needs.{needs}
 use Rattle.machine.proofs.Tells.{within-few, finished-told}
 use Rattle.machine.proofs.run.all_finished.Statement.{statement}
 use Rattle.machine.proofs.run.all_finished.Tie as tie
-use Rattle.machine.proofs.run.all_finished.Reads as reads
-use Rattle.machine.proofs.run.all_finished.Lts as lts
-use Rattle.machine.proofs.run.marks.Reads as marks-reads
-use Rattle.machine.proofs.run.within.Reads as within-reads
-use Rattle.machine.proofs.turns.first.Reads as first-reads
 
 within-requires : tie.Need-within-requires
 within-requires c κs = search needs

@@ -4,8 +4,7 @@ use native.Mathlib.Omega.{arith}
 use lib.ListN.{getD}
 use Rattle.semantics.specs.Machine.{enter, hand}
 use Rattle.table.specs.declared.Expr.{Expr}
-use Rattle.store.specs.declared.Value.{Value}
-use Rattle.store.specs.Meaning.{valueIn}
+use Rattle.store.specs.Words.{wordIn}
 use Rattle.acts.specs.declared.Control.{Control}
 use Rattle.acts.specs.declared.Control.the-variants.{Enter, Hand}
 use Rattle.acts.specs.Meaning.{controlIn}
@@ -16,9 +15,9 @@ use Rattle.machine.proofs.turns.body_of.Tie as tie
 entered : (k : Control) (x : Expr) (e : ℕ) → k ≡ Enter x → controlIn k ≡ enter e → x .0 ≡ e
 entered k x e p q = let z : enter (x .0) ≡ enter e = sym (ap controlIn p) ∙ q in cc
 
-never : (k : Control) (v : Value) (e : ℕ) → k ≡ Hand v → controlIn k ≡ enter e → ⊥
+never : (k : Control) (v : ℕ) (e : ℕ) → k ≡ Hand v → controlIn k ≡ enter e → ⊥
 never k v e p q =
-    let z : hand (valueIn v) ≡ enter e = sym (ap controlIn p) ∙ q in
+    let z : hand (wordIn v) ≡ enter e = sym (ap controlIn p) ∙ q in
     let y : _≡_ {A = ℕ} 0 1 = cc in
     omega arith
 

@@ -12,7 +12,7 @@ body-of-requires c κs = search needs
 
 returns : tie.Need-returns
 unfolding keysIn stackOf
-returns c = λ e fs h. ap (λ (b : ℕ). semantics.fresh b (c .before .before .before .args .m .now .env)) (c .body-of .ensures e h)
+returns c = λ e fs h. ap (λ (b : ℕ). semantics.fresh b (c .before .before .before .args .t .now .env)) (c .body-of .ensures e h)
 
 pub fresh-spec : {M : Type 1} → statement M
 fresh-spec = tie.close (tie.spec body-of-requires returns)

@@ -8,10 +8,6 @@ use borrow.Author.Needs.{needs}
 use Rattle.machine.proofs.Parts.{part-is, part-here, part-there}
 use Rattle.machine.proofs.turns.visit.Statement.{statement}
 use Rattle.machine.proofs.turns.visit.Tie as tie
-use Rattle.machine.proofs.turns.visit.Reads as reads
-use Rattle.machine.proofs.turns.visit.Lts as lts
-use Rattle.thread.proofs.steps.Reads as steps-reads
-use Rattle.thread.proofs.joined.Reads as joined-reads
 
 mul-part : tie.Need-mul-part
 mul-part c = search needs
@@ -34,31 +30,27 @@ part-part-start c = search needs
 part-part-end : tie.Need-part-part-end
 part-part-end c = search needs
 
-joined-requires : tie.Need-joined-requires
-joined-requires c κs = search needs
-
-steps-requires : tie.Need-steps-requires
-steps-requires c κs = search needs
+step-requires : tie.Need-step-requires
+step-requires c κs = search needs
 
 same-length : tie.Need-same-length
 same-length c = search needs
 
 returns : tie.Need-returns
 returns c =
-    let b = c .before .before .before .before .before .before .before .before .before .before .before .before .before in
-    let y = c .before .before .steps .last .1 .1 .1 .1 .0 in
-    let hi : (b .args .i) < 8 = search needs in
-    let hx : length (now (b .args .frames)) ≡ 12288 = search needs in
-    let mid = mid-len (b .args .i * 1536) ((b .args .i + 1) * 1536) (now (b .args .frames)) (omega (arith, hi, hx)) in
-    let hy : length y ≡ 1536 = search (needs, mid) in (
+    let b = c .before .before .before .before .before .before .before .before .before .before .before .before in
+    let y = c .before .before .step .last .0 in
+    let hi : b .args .i < 8 = search needs in
+    let hx : length (now (b .args .words)) ≡ 12336 = search needs in
+    let mid = mid-len (b .args .i * 1542) ((b .args .i + 1) * 1542) (now (b .args .words)) (omega (arith, hi, hx)) in
+    let hy : length y ≡ 1542 = search (needs, mid) in (
       λ ts.
           rw (
-            part-here (b .args .i) (now (b .args .frames)) y hi hx hy,
-            part-is (b .args .i) (now (b .args .frames)),
-            ← c .before .before .before .before .before .before .before .before .joined .ensures,
+            part-here (b .args .i) (now (b .args .words)) y hi hx hy,
+            part-is (b .args .i) (now (b .args .words)),
           )
-          (c .before .before .steps .ensures ts),
-      part-there (b .args .i) (now (b .args .frames)) y hi hx hy,
+          (c .before .before .step .ensures ts),
+      part-there (b .args .i) (now (b .args .words)) y hi hx hy,
     )
 
 pub visit-spec : {M : Type 1} → statement M
@@ -72,7 +64,6 @@ visit-spec =
     sub-part
     part-part-start
     part-part-end
-    joined-requires
-    steps-requires
+    step-requires
     same-length
     returns)

@@ -5,8 +5,8 @@ use borrow.Author.Tests.{eq-eqb, ne-eqb, le-ltb}
 use Rattle.semantics.specs.Threads.{firstFrom}
 use Rattle.machine.specs.Scheduled.{marked}
 use Rattle.machine.proofs.Marks.{first-none, first-here, first-after}
-use Rattle.machine.proofs.turns.first.Statement.{statement}
-use Rattle.machine.proofs.turns.first.Tie as tie
+use Rattle.machine.proofs.ahead.first.Statement.{statement}
+use Rattle.machine.proofs.ahead.first.Tie as tie
 
 abbrev Inv-loop : tie.InvT-loop
 Inv-loop live i e j₀ j = firstFrom (marked live) i (e - i) ≡ firstFrom (marked live) j (e - j)
