@@ -69,17 +69,18 @@ pub type-kinds :
 unfolding w-number w-pair w-cell w-function w-limit w-grant typeKind
 type-kinds = (refl, refl, refl, refl, refl, refl)
 
--- `spent 100000`, `no room 41`
+-- `spent 100000`, `spent 7`, `no room 41`: the count of thread 0 and, without room, of the thread without it
 pub run-lines :
     (m : System) →
-    (ranLine spent 100000 m ≡ 0x73 ∷ 0x70 ∷ 0x65 ∷ 0x6E ∷ 0x74 ∷ 0x20 ∷ 0x31 ∷ 0x30 ∷ 0x30 ∷ 0x30 ∷ 0x30 ∷ 0x30 ∷ 0x0A ∷ [])
-    × (ranLine noroom 41 m ≡ 0x6E ∷ 0x6F ∷ 0x20 ∷ 0x72 ∷ 0x6F ∷ 0x6F ∷ 0x6D ∷ 0x20 ∷ 0x34 ∷ 0x31 ∷ 0x0A ∷ [])
+    (ranLine spent (100000 ∷ 7 ∷ []) 0 m ≡ 0x73 ∷ 0x70 ∷ 0x65 ∷ 0x6E ∷ 0x74 ∷ 0x20 ∷ 0x31 ∷ 0x30 ∷ 0x30 ∷ 0x30 ∷ 0x30 ∷ 0x30 ∷ 0x0A ∷ [])
+    × (ranLine spent (7 ∷ 100000 ∷ []) 0 m ≡ 0x73 ∷ 0x70 ∷ 0x65 ∷ 0x6E ∷ 0x74 ∷ 0x20 ∷ 0x37 ∷ 0x0A ∷ [])
+    × (ranLine noroom (7 ∷ 3 ∷ 41 ∷ []) 2 m ≡ 0x6E ∷ 0x6F ∷ 0x20 ∷ 0x72 ∷ 0x6F ∷ 0x6F ∷ 0x6D ∷ 0x20 ∷ 0x34 ∷ 0x31 ∷ 0x0A ∷ [])
 unfolding decimalIn decimal w-spent w-no-room space line ranLine
-run-lines m = (refl, refl)
+run-lines m = (refl, refl, refl)
 
 -- a machine whose job has a value of kind k prints these bytes after n steps
 pub record Prints (n : ℕ) (k : Kind) (bytes : List ℕ) : Type 0 where
-  pub prints : (m : System) (q : ℕ) → valueOf m ≡ some (record { key = q; kind = k }) → ranLine finished n m ≡ bytes
+  pub prints : (m : System) (q : ℕ) → valueOf m ≡ some (record { key = q; kind = k }) → (c : List ℕ) → ranLine finished (n ∷ c) 0 m ≡ bytes
 
 -- `done 3 number 7`, `done 12 number 4294967295`, `done 3 pair`, `done 3 cell`, `done 3 function`, `done 3 limit`, `done 3 grant`
 pub done-lines :
@@ -102,7 +103,7 @@ done-lines = (
 )
   where
     at : (n : ℕ) (k : Kind) → Prints n k (line (space w-done (space (decimal n) (valueKind k))))
-    at n k = record { prints = λ m q e. ap (λ (o : Option Value). line (space w-done (space (decimal n) (handed o)))) e }
+    at n k = record { prints = λ m q e c. ap (λ (o : Option Value). line (space w-done (space (decimal n) (handed o)))) e }
 
 -- ` 2  1 yes   1`, `63 10 no   64`: the narrowest numbers and the widest
 pub sheet-lines :

@@ -3,7 +3,7 @@ use Prim.Native.Nat.{ℕ, zero, suc, _+_, _/_, _%_}
 use mathlib.Core.Bool.{cond}
 use mathlib.Core.List.{List, [], _∷_, _++_}
 use mathlib.Core.Option.{Option, none, some}
-use lib.ListN.{take}
+use lib.ListN.{getD, take}
 use lib.Dec.{ltb}
 use Rattle.order.specs.Effects.{Effect}
 use Rattle.syntax.specs.Types.{Ty, num, pair, cell, fn, lim, grant}
@@ -14,7 +14,7 @@ use Rattle.typing.specs.Verdict.{Verdict, accept, refuse, verdictOf}
 use Rattle.semantics.specs.Machine.{Kind, k-num, k-pair, k-fn, k-cell, k-lim, k-grant, Value, System}
 use Rattle.semantics.specs.Start.{startOf}
 use Rattle.semantics.specs.Threads.{stepsOf, valueOf}
-use Rattle.semantics.specs.Calls.{Answer, taken, finished, spent, noroom, stuck, denied, Ran, total, run-of, call}
+use Rattle.semantics.specs.Calls.{Answer, taken, finished, spent, noroom, stuck, denied, Ran, run-of, call}
 
 -- a number in decimal, no leading zeros; at most so many digits
 unfoldable pub decimalIn : ℕ → ℕ → List ℕ
@@ -107,25 +107,28 @@ refusedLine r = line (space w-refused (space (decimal (r .number)) (space w-at (
 unfoldable pub acceptedLine : Ty → Effect → List ℕ
 acceptedLine T s = line (space w-accepted (space (hex 16 (s .set)) (typeKind T)))
 
--- "`done`, steps, kind and, for a number, its value; or `spent 100000`, or `no room` and steps": the steps of all threads, and the job's value, which is thread 0's. No line is defined for stuck and denied: demand 3 says that an
--- accepted job never needs one. A run is never taken, which is a step's answer.
-unfoldable pub ranLine : Answer → ℕ → System → List ℕ
-ranLine taken n m = []
-ranLine finished n m = line (space w-done (space (decimal n) (handed (valueOf m))))
-ranLine spent n m = line (space w-spent (decimal n))
-ranLine noroom n m = line (space w-no-room (decimal n))
-ranLine stuck n m = []
-ranLine denied n m = []
+-- "`done`, steps, kind and, for a number, its value; or `spent` .., or `no room` and steps", by the counts of a run and the thread that failed: "prints thread 0's count, after `spent` too, or at `no room` that of
+-- the thread without room"; the job's value is thread 0's. No line is defined for stuck and denied: demand 3 says that an accepted job never needs one. A run is never taken, which is a step's answer.
+unfoldable pub ranLine : Answer → List ℕ → ℕ → System → List ℕ
+ranLine taken c i m = []
+ranLine finished c i m = line (space w-done (space (decimal (getD c 0 0)) (handed (valueOf m))))
+ranLine spent c i m = line (space w-spent (decimal (getD c 0 0)))
+ranLine noroom c i m = line (space w-no-room (decimal (getD c i 0)))
+ranLine stuck c i m = []
+ranLine denied c i m = []
 
--- "then runs 100,000 steps"
+-- "The desk program allows 100,000 to each"
 abbrev pub most-steps : ℕ
 most-steps = 100000
 
+abbrev pub desk-allows : List ℕ
+desk-allows = most-steps ∷ most-steps ∷ most-steps ∷ most-steps ∷ most-steps ∷ most-steps ∷ most-steps ∷ most-steps ∷ []
+
 unfoldable pub ranOf : Ran → List ℕ
-ranOf r = ranLine (r .answer) (total (r .counts)) (r .machine)
+ranOf r = ranLine (r .answer) (r .counts) (r .thread) (r .machine)
 
 unfoldable pub runLine : Src → List ℕ
-runLine S = ranOf (call (stepsOf (nth (S .cmds))) (run-of most-steps) (startOf S))
+runLine S = ranOf (call (stepsOf (nth (S .cmds))) (run-of desk-allows) (startOf S))
 
 unfoldable pub runRead : Read → List ℕ
 runRead (refused r) = []

@@ -1,13 +1,25 @@
 -- Counts of steps, and why a run ends: each turn uses up some of what is left.
 use mathlib.Core.Path.{_≡_, refl, ap}
-use Prim.Native.Nat.{ℕ, zero, suc, _-_, _≤_, _<_}
+use Prim.Native.Nat.{ℕ, zero, suc, _+_, _-_, _≤_, _<_}
 use native.Mathlib.Omega.{arith}
 use mathlib.Core.Bool.{true}
 use mathlib.Core.List.{List, [], _∷_}
 use mathlib.Core.Logic.{_≢_}
 use lib.ListN.{length, getD, length-set}
 use borrow.Author.Tests.{ltb-true}
-use Rattle.semantics.specs.Calls.{Policy, bump, total, no-steps, together}
+use Rattle.semantics.specs.Calls.{Policy, bump, total, no-steps, allowed}
+
+-- at first no thread has taken a step
+pub none-taken : (i : ℕ) → getD no-steps i 0 ≤ 0
+none-taken zero = omega arith
+none-taken (suc zero) = omega arith
+none-taken (suc (suc zero)) = omega arith
+none-taken (suc (suc (suc zero))) = omega arith
+none-taken (suc (suc (suc (suc zero)))) = omega arith
+none-taken (suc (suc (suc (suc (suc zero))))) = omega arith
+none-taken (suc (suc (suc (suc (suc (suc zero)))))) = omega arith
+none-taken (suc (suc (suc (suc (suc (suc (suc zero))))))) = omega arith
+none-taken (suc (suc (suc (suc (suc (suc (suc (suc i)))))))) = omega arith
 
 pub bump-length : (i : ℕ) (c : List ℕ) → length (bump i c) ≡ length c
 unfolding bump
@@ -38,11 +50,30 @@ pub record Budget (may : Policy) : Type 0 where
   pub left : List ℕ → ℕ
   pub falls : (c : List ℕ) (i : ℕ) → i < length c → may c i ≡ true → left (bump i c) < left c
 
--- so many steps of all threads together
-pub budget-together : (n : ℕ) → Budget (together n)
-unfolding together
-budget-together n = record { left = λ c. n - total c; falls = λ c i h e. omega (arith, total-bump i c h, ltb-true (total c) n e) }
+-- the steps that are left to all threads together
+unfoldable pub leftOf : List ℕ → List ℕ → ℕ
+leftOf [] c = 0
+leftOf (a ∷ l) [] = a + leftOf l []
+leftOf (a ∷ l) (n ∷ c) = (a - n) + leftOf l c
 
-pub together-most : (n : ℕ) → budget-together n .left no-steps ≤ n
-unfolding total budget-together
-together-most n = omega arith
+left-falls : (l c : List ℕ) (i : ℕ) → i < length c → getD c i 0 < getD l i 0 → leftOf l (bump i c) < leftOf l c
+unfolding leftOf bump
+left-falls [] c i h e = absurd (omega (arith, e))
+left-falls (a ∷ l) [] i h e = absurd (omega arith)
+left-falls (a ∷ l) (n ∷ c) zero h e = omega arith
+left-falls (a ∷ l) (n ∷ c) (suc i) h e = omega (arith, left-falls l c i (omega arith) e)
+
+left-most : (l c : List ℕ) → leftOf l c ≤ total l
+unfolding leftOf total
+left-most [] c = omega arith
+left-most (a ∷ l) [] = omega (arith, left-most l [])
+left-most (a ∷ l) (n ∷ c) = omega (arith, left-most l c)
+
+-- an allowance for each thread
+pub budget-allowed : (allow : List ℕ) → Budget (allowed allow)
+unfolding allowed
+budget-allowed l = record { left = λ c. leftOf l c; falls = λ c i h e. left-falls l c i h (ltb-true (getD c i 0) (getD l i 0) e) }
+
+pub allowed-most : (allow : List ℕ) → budget-allowed allow .left no-steps ≤ total allow
+unfolding budget-allowed
+allowed-most l = left-most l no-steps

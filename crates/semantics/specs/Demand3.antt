@@ -1,4 +1,4 @@
--- Demand 3, from the bytes: whatever the bytes of a job, if the check accepts it, then every list of calls, each a turn or a run of any n, made one after another from
+-- Demand 3, from the bytes: whatever the bytes of a job, if the check accepts it, then every list of calls, each a turn or a run with any allowances, made one after another from
 -- the machine that starting the job gives, gets only the answers that document 01 allows, each exactly when document 01 has it, as document 02 means it of several threads: "The promise about stuck
 -- and denied now covers every thread after any count of turns." `AllGive` says which those are, by "finished" and "needs a place that is not there", which are defined apart from the step; stuck and
 -- denied are not among them.

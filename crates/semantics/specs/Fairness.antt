@@ -1,5 +1,6 @@
--- Fairness from the start of every job, and whatever calls the turns are cut into: the calls of a list take turns one after another, and of these turns each live thread has its own, by their order alone.
-use mathlib.Core.Path.{_≡_, refl, sym, ap₂, _∙_, subst}
+-- Fairness from the start of every job, and whatever calls the turns are cut into: the calls of a list take turns one after another, and of these turns each live thread that is not at its allowance has its own,
+-- by their order alone.
+use mathlib.Core.Path.{_≡_, subst}
 use Prim.Native.Nat.{ℕ, _≤_}
 use native.Mathlib.Omega.{arith}
 use mathlib.Core.Bool.{true}
@@ -9,110 +10,104 @@ use Rattle.syntax.specs.Commands.{Cmd}
 use Rattle.syntax.specs.Job.{Src}
 use Rattle.semantics.specs.Machine.{System, most-threads}
 use Rattle.semantics.specs.Start.{startOf}
-use Rattle.semantics.specs.Threads.{Steps, stepsOf, live, t-step}
-use Rattle.semantics.specs.Calls.{Call, one-step, run-of, Ran, bump, no-steps, always, call, lastOf, Takes, no-turn, first}
+use Rattle.semantics.specs.Threads.{Steps, stepsOf, live, t-step, turn}
+use Rattle.semantics.specs.Calls.{Call, one-step, run-of, Ran, bump, no-steps, Policy, always, allowed, call, lastOf, Takes, no-turn, first}
 use Rattle.semantics.specs.TurnLaws.{Lawful, lawful, turn-few}
 use Rattle.semantics.specs.RunLaws.{Says, one-taken, one-done, one-noroom, one-stuck, one-denied, call-says}
 use Rattle.semantics.specs.CountLaws.{run-counted}
-use Rattle.semantics.specs.Rounds.{Placed, start-placed, moved, moved-placed, steady-always, together-always, takes-placed, takes-few, live-within}
+use Rattle.semantics.specs.Rounds.{Placed, start-placed, moved, moved-placed, Gone, Turned, no-turns, one-turn, whose, Unheld, turned-placed, turned-few, live-within}
 use Rattle.semantics.specs.Rounds
 
--- turns of the threads l, one after another, lead from s to t. What was counted before them makes no difference: who may step is no matter of counts here
-abbrev pub Turned : Steps → System → List ℕ → System → Type 0
-Turned K s l t = (d : List ℕ) × Takes K always no-steps s l d t
+-- The turns of calls
+
+-- turns of the threads l that a policy allows; c were taken before
+unfoldable pub traced : Policy → List ℕ → List ℕ → List Gone
+traced may c [] = []
+traced may c (i ∷ l) = record { may = may c; at = i } ∷ traced may (bump i c) l
+
+-- turns of a call: of a step one or none, at which anybody might step; of a run those at which a thread might step that had some of its allowance left
+pub data OfCall : Call → List Gone → Type 0 where
+  of-step : {i : ℕ} → OfCall one-step (record { may = always no-steps; at = i } ∷ [])
+  of-none : OfCall one-step []
+  of-run : {allow : List ℕ} (l : List ℕ) → OfCall (run-of allow) (traced (allowed allow) no-steps l)
+
+-- turns of a list of calls
+pub data OfCalls : List Call → List Gone → Type 0 where
+  of-nil : OfCalls [] []
+  of-cons : {c : Call} {cs : List Call} {l m : List Gone} → OfCall c l → OfCalls cs m → OfCalls (c ∷ cs) (l ++ m)
 
 module _ (K : Steps) where
-  -- the same turns with other counts
-  pub anew : {c d l : List ℕ} {s t : System} → Takes K always c s l d t → (e : List ℕ) → (f : List ℕ) × Takes K always e s l f t
-  unfolding always
-  anew no-turn e = (e, no-turn)
-  anew (first {i = i} z h) e = let y = anew h (bump i e) in (y .0, first z (y .1))
+  pub takes-turned : {may : Policy} {c d l : List ℕ} {s t : System} → Takes K may c s l d t → Turned K s (traced may c l) t
+  unfolding traced
+  takes-turned no-turn = no-turns
+  takes-turned (first e h) = one-turn e (takes-turned h)
 
-  append : {c d l m : List ℕ} {s t u : System} → Takes K always c s l d t → Turned K t m u → (e : List ℕ) × Takes K always c s (l ++ m) e u
-  append {d = d} no-turn g = anew (g .1) d
-  append (first e h) g = let z = append h g in (z .0, first e (z .1))
-
-  pub turned-append : {l m : List ℕ} {s t u : System} → Turned K s l t → Turned K t m u → Turned K s (l ++ m) u
-  turned-append h g = append (h .1) g
-
-  split : (l : List ℕ) {c e m : List ℕ} {s u : System} → Takes K always c s (l ++ m) e u → (d : List ℕ) × (t : System) × Takes K always c s l d t × Turned K t m u
-  split [] {c = c} {s = s} h = (c, s, no-turn, anew h no-steps)
-  split (i ∷ l) (first e h) = let z = split l h in (z .0, z .1, first e (z .2), z .3)
+  pub turned-append : {l m : List Gone} {s t u : System} → Turned K s l t → Turned K t m u → Turned K s (l ++ m) u
+  turned-append no-turns g = g
+  turned-append (one-turn e h) g = one-turn e (turned-append h g)
 
   -- turns may be cut anywhere
-  pub turned-split : (l m : List ℕ) {s u : System} → Turned K s (l ++ m) u → (t : System) × Turned K s l t × Turned K t m u
-  turned-split l m h = let z = split l (h .1) in (z .1, (z .0, z .2), z .3)
-
-  -- as many turns are the same turns, and lead to the same machine: it makes no difference into which calls they are cut
-  pub turned-one : {c d e l m : List ℕ} {s t u : System} → Takes K always c s l d t → Takes K always c s m e u → length l ≡ length m → (l ≡ m) × (t ≡ u)
-  turned-one no-turn no-turn n = (refl, refl)
-  turned-one no-turn (first z h) n = absurd (omega (arith, n))
-  turned-one (first z h) no-turn n = absurd (omega (arith, n))
-  turned-one {e = e} {u = u} (first {c = c} {i = i} {t = t} z h) (first {l = k} {i = j} {t = v} w g) n =
-      let q : t-step j v ≡ t-step i t = sym w ∙ z in
-      let a : j ≡ i = cc in
-      let b : v ≡ t = cc in
-      let y = turned-one h (subst (λ x. Takes K always (bump x c) t k e u) a (subst (λ x. Takes K always (bump j c) x k e u) b g)) (omega (arith, n)) in
-      (ap₂ (λ (x : ℕ) (r : List ℕ). x ∷ r) (sym a) (y .0), y .1)
+  pub turned-split : (l m : List Gone) {s u : System} → Turned K s (l ++ m) u → (t : System) × Turned K s l t × Turned K t m u
+  turned-split [] m {s = s} h = (s, no-turns, h)
+  turned-split (g ∷ l) m (one-turn e h) = let z = turned-split l m h in (z .0, one-turn e (z .1), z .2)
 
 module _ (K : Steps) (law : Lawful K) where
-  -- a call takes turns: a step one or none, a run as many as it counts
-  pub call-turned : (c : Call) (s : System) → length (s .threads) ≤ most-threads → (l : List ℕ) × Turned K s l (call K c s .machine)
-  call-turned (run-of n) s few = let z = run-counted K law n s few in (z .trace, (_, together-always K law n (z .takes)))
+  pub call-turned : (c : Call) (s : System) → length (s .threads) ≤ most-threads → (l : List Gone) × OfCall c l × Turned K s l (call K c s .machine)
+  call-turned (run-of allow) s few = let z = run-counted K law allow s few in (traced (allowed allow) no-steps (z .trace), of-run (z .trace), takes-turned K (z .takes))
   call-turned one-step s few = at (call-says K law one-step s few)
     where
-      at : {r : Ran} → Says K s one-step r → (l : List ℕ) × Turned K s l (r .machine)
-      at (one-taken {i = i} e) = (i ∷ [], (bump i no-steps, first e no-turn))
-      at (one-done d) = ([], (no-steps, no-turn))
-      at (one-noroom a e) = ([], (no-steps, no-turn))
-      at (one-stuck a e) = ([], (no-steps, no-turn))
-      at (one-denied a e) = ([], (no-steps, no-turn))
+      at : {r : Ran} → Says K s one-step r → (l : List Gone) × OfCall one-step l × Turned K s l (r .machine)
+      at (one-taken {i = i} e) = (_, of-step, one-turn e no-turns)
+      at (one-done d) = ([], of-none, no-turns)
+      at (one-noroom a e) = ([], of-none, no-turns)
+      at (one-stuck a e) = ([], of-none, no-turns)
+      at (one-denied a e) = ([], of-none, no-turns)
 
   -- and so does a list of calls, each going on where the last one ended
-  pub calls-turned : (cs : List Call) (s : System) → length (s .threads) ≤ most-threads → (l : List ℕ) × Turned K s l (lastOf K cs s)
+  pub calls-turned : (cs : List Call) (s : System) → length (s .threads) ≤ most-threads → (l : List Gone) × OfCalls cs l × Turned K s l (lastOf K cs s)
   unfolding lastOf
-  calls-turned [] s few = ([], (no-steps, no-turn))
+  calls-turned [] s few = ([], of-nil, no-turns)
   calls-turned (c ∷ cs) s few =
       let y = call-turned c s few in
-      let z = calls-turned cs (call K c s .machine) (takes-few K law (y .1 .1) few) in
-      (y .0 ++ z .0, turned-append K (y .1) (z .1))
+      let z = calls-turned cs (call K c s .machine) (turned-few K law (y .2) few) in
+      (y .0 ++ z .0, of-cons (y .1) (z .1), turned-append K (y .2) (z .2))
 
-  -- a turn of thread i, after those of a and before those of b: the machines before and after it
-  pub record Between (s : System) (a : List ℕ) (i : ℕ) (b : List ℕ) (t : System) : Type 0 where
+  -- the turn g, after those of a and before those of b: the machines before and after it
+  pub record Between (s : System) (a : List Gone) (g : Gone) (b : List Gone) (t : System) : Type 0 where
     pub before : System
     pub after : System
     pub earlier : Turned K s a before
-    pub this : Turned K before (i ∷ []) after
+    pub this : turn K (g .may) before ≡ t-step (g .at) after
     pub later : Turned K after b t
-    -- "Each live thread takes one step in turn": if it is not finished then, it is among the next eight
-    pub again : live after i ≡ true → most-threads ≤ length b → List·Memᴰ i (take most-threads b)
-    -- and every thread that is there and not finished, so also the one that is just started, is among the next fourteen
-    pub all : (k : ℕ) → live after k ≡ true → 14 ≤ length b → List·Memᴰ k (take 14 b)
+    -- "Each live thread takes one step in turn": if it is not finished then, nor at its allowance at one of the next eight turns, it takes one of them
+    pub again : live after (g .at) ≡ true → most-threads ≤ length b → Unheld (g .at) (take most-threads b) → List·Memᴰ (g .at) (whose (take most-threads b))
+    -- and so does, of the next fourteen, every thread that is there and not finished, so also the one that is just started
+    pub all : (k : ℕ) → live after k ≡ true → 14 ≤ length b → Unheld k (take 14 b) → List·Memᴰ k (whose (take 14 b))
 
-  pub between : {s t : System} → length (s .threads) ≤ most-threads → Placed s → (a : List ℕ) (i : ℕ) (b : List ℕ) → Turned K s (a ++ (i ∷ b)) t → Between s a i b t
-  unfolding always
-  between {s} {t} few o a i b h = let z = turned-split K a (i ∷ b) h in from (z .0) (z .1) (z .2 .1)
+  pub between : {s t : System} → length (s .threads) ≤ most-threads → Placed s → (a : List Gone) (g : Gone) (b : List Gone) → Turned K s (a ++ (g ∷ b)) t → Between s a g b t
+  between {s} {t} few o a g b h = let z = turned-split K a (g ∷ b) h in from (z .0) (z .1) (z .2)
     where
-      from : (v : System) → Turned K s a v → {d : List ℕ} → Takes K always no-steps v (i ∷ b) d t → Between s a i b t
-      from v x (first {t = u} e g) =
-          let w = moved K law (always no-steps) v i u e in
-          let p = takes-placed K law (x .1) o in
-          let f = takes-few K law (x .1) few in
+      from : (v : System) → Turned K s a v → Turned K v (g ∷ b) t → Between s a g b t
+      from v x (one-turn {t = u} e y) =
+          let w = moved K law (g .may) v (g .at) u e in
+          let p = turned-placed K law x o in
+          let f = turned-few K law x few in
           record {
             before = v;
             after = u;
             earlier = x;
-            this = (bump i no-steps, first e no-turn);
-            later = anew K g no-steps;
-            again = λ l n. Rounds.again K law always steady-always no-steps i f p e g l refl n;
-            all = λ k l n. live-within K law always steady-always g (turn-few K law (always no-steps) v f i u e) (moved-placed w p) (omega (arith, w .last)) k l refl n;
+            this = e;
+            later = y;
+            again = λ l n q. Rounds.again K law (g .may) (g .at) f p e y l q n;
+            all = λ k l n q. live-within K law y (turn-few K law (g .may) v f (g .at) u e) (moved-placed w p) (omega (arith, w .last)) k l q n;
           }
 
 -- from the start of every job, with every list of calls: the turns that these take, whatever their number, each with its place among them
 pub fair-calls : {T : Type 0} (code : ℕ → Cmd T) (S : Src) (cs : List Call) → let last = lastOf (stepsOf code) cs (startOf S) in
-    (l : List ℕ) × Turned (stepsOf code) (startOf S) l last × ((a : List ℕ) (i : ℕ) (b : List ℕ) → l ≡ a ++ (i ∷ b) → Between (stepsOf code) (lawful code) (startOf S) a i b last)
+    (l : List Gone) × OfCalls cs l × Turned (stepsOf code) (startOf S) l last
+    × ((a : List Gone) (g : Gone) (b : List Gone) → l ≡ a ++ (g ∷ b) → Between (stepsOf code) (lawful code) (startOf S) a g b last)
 unfolding startOf
 fair-calls code S cs =
     let few : length (startOf S .threads) ≤ most-threads = omega arith in
     let z = calls-turned (stepsOf code) (lawful code) cs (startOf S) few in
-    (z .0, z .1, λ a i b e. between (stepsOf code) (lawful code) few (start-placed S) a i b (subst (λ x. Turned (stepsOf code) (startOf S) x (lastOf (stepsOf code) cs (startOf S))) e (z .1)))
+    (z .0, z .1, z .2, λ a g b e. between (stepsOf code) (lawful code) few (start-placed S) a g b (subst (λ x. Turned (stepsOf code) (startOf S) x (lastOf (stepsOf code) cs (startOf S))) e (z .2)))

@@ -22,6 +22,8 @@ pub mod RunLaws
 pub mod CountLaws
 pub mod Rounds
 pub mod Fairness
+pub mod PassedOver
+pub mod CutAnyhow
 pub mod TypeFree
 pub mod RuntimeTypes
 pub mod Chains

@@ -1,10 +1,10 @@
--- Laws of the scheduler, whatever the steps are: order by number in a round, new threads wait for the next round, and a live thread is asked again within eight turns.
+-- Laws of the scheduler, whatever the steps are: order by number in a round, new threads wait for the next round, and a live thread that is not at its allowance is asked again within eight turns.
 use mathlib.Core.Path.{_≡_, refl, sym, ap, ap₂, _∙_, subst, subst⁻¹}
 use Prim.Native.Nat.{ℕ, zero, suc, _+_, _-_, _≤_, _<_}
 use native.Mathlib.Omega.{arith}
 use mathlib.Core.Bool.{Bool, true, false, cond, false≢true}
 use mathlib.Core.List.{List, [], _∷_, _++_, List·Memᴰ, List·Memᴰ·head, List·Memᴰ·tail}
-use mathlib.Core.Option.{Option, none, some, Option·some-injective, Option·none-ne-some}
+use mathlib.Core.Option.{Option, some, Option·some-injective, Option·none-ne-some}
 use mathlib.Core.Logic.{_≢_, _⊎_, inl, inr}
 use lib.ListN.{length, getElem?, set, length-set, length-append, take}
 use lib.Seq.{length-take-le}
@@ -15,10 +15,10 @@ use Rattle.syntax.specs.Commands.{Cmd}
 use Rattle.syntax.specs.Job.{Src}
 use Rattle.semantics.specs.Machine.{Thread, System, most-threads}
 use Rattle.semantics.specs.Start.{startOf}
-use Rattle.semantics.specs.Threads.{Steps, stepsOf, alone, liveThread, live, next, Turn, Took, t-step, later, turn}
+use Rattle.semantics.specs.Threads.{Steps, stepsOf, alone, liveThread, live, Turn, Took, t-step, later, turn}
 use Rattle.semantics.specs.SpawnLaws.{startedOn, threads-started}
-use Rattle.semantics.specs.Calls.{Policy, bump, always, together, Takes, no-turn, first}
-use Rattle.semantics.specs.TurnLaws.{NextIs, in-round, new-round, nobody, next-is, next-holds, Grown, as-before, one-more, Lawful, lawful, TurnIs, is-step, is-none, is-room, is-stuck, is-denied, askedBy, turn-is, turn-few, turn-free, live-lt}
+use Rattle.semantics.specs.Calls.{Policy, Takes, no-turn, first}
+use Rattle.semantics.specs.TurnLaws.{NextIs, in-round, new-round, nobody, next-is, next-holds, Grown, as-before, one-more, Lawful, lawful, TurnIs, is-step, is-none, is-room, is-stuck, is-denied, turn-is, turn-few, live-lt}
 
 -- "the round and who stepped last" are among the threads that there are
 pub record Placed (s : System) : Type 0 where
@@ -36,7 +36,7 @@ pub data Order (p : ℕ → Bool) (s : System) (i : ℕ) (u : System) : Type 0 w
   next-round : u .round ≡ length (s .threads) → ((k : ℕ) → s .from ≤ k → k < s .round → p k ≡ false) → i < length (s .threads) → ((k : ℕ) → k < i → p k ≡ false) → Order p s i u
 
 -- the threads after a turn: another thread stands as it stood
-get-other : (l : List Thread) (j i : ℕ) (x : Thread) → j ≢ i → getElem? (set l j x) i ≡ getElem? l i
+pub get-other : (l : List Thread) (j i : ℕ) (x : Thread) → j ≢ i → getElem? (set l j x) i ≡ getElem? l i
 get-other [] j i x n = refl
 get-other (t ∷ l) zero zero x n = absurd (n refl)
 get-other (t ∷ l) zero (suc i) x n = refl
@@ -188,30 +188,35 @@ wait-eight s o few i h = at (wait-is s i)
         by true e = absurd (c (leb-true (s .from) i e) h)
         by false e = omega (arith, leb-false (s .from) i e, o .there, o .turned)
 
--- what others do does not keep a thread from stepping
-pub record Steady (may : Policy) : Type 0 where
-  pub keeps : (c : List ℕ) (i j : ℕ) → j ≢ i → may c i ≡ true → may (bump j c) i ≡ true
+-- Turns one after another, of whatever calls
 
-pub steady-always : Steady always
-unfolding always
-steady-always = record { keeps = λ c i j n e. refl }
+-- a turn that was taken: who might step then, and who did
+pub record Gone : Type 0 where
+  pub may : ℕ → Bool
+  pub at : ℕ
+
+pub data Turned (K : Steps) : System → List Gone → System → Type 0 where
+  no-turns : {s : System} → Turned K s [] s
+  one-turn : {g : Gone} {l : List Gone} {s t u : System} → turn K (g .may) s ≡ t-step (g .at) t → Turned K t l u → Turned K s (g ∷ l) u
+
+-- who took them
+unfoldable pub whose : List Gone → List ℕ
+whose [] = []
+whose (g ∷ l) = g .at ∷ whose l
+
+-- thread i might step at each of them: it was not at its allowance
+abbrev pub Unheld : ℕ → List Gone → Type 0
+Unheld i l = (g : Gone) → List·Memᴰ g l → g .may i ≡ true
 
 module _ (K : Steps) (law : Lawful K) where
-  -- as long as steps are left a run takes the turns that there are
-  pub together-always : (n : ℕ) {c d l : List ℕ} {s t : System} → Takes K (together n) c s l d t → Takes K always c s l d t
-  unfolding together always askedBy
-  together-always n no-turn = no-turn
-  together-always n (first {c = c} {i = i} {s = s} {t = t} e h) =
-      first (subst (λ b. turn K (λ j. b) s ≡ t-step i t) (turn-free K law (together n c) s i (ap askedBy e) .0) e) (together-always n h)
-
   -- after any turns "the round and who stepped last" are among the threads that there are, and these are at most eight
-  pub takes-placed : {may : Policy} {c d l : List ℕ} {s t : System} → Takes K may c s l d t → Placed s → Placed t
-  takes-placed no-turn o = o
-  takes-placed {may} (first {c = c} {i = i} {s = s} {t = t} e h) o = takes-placed h (moved-placed (moved K law (may c) s i t e) o)
+  pub turned-placed : {l : List Gone} {s t : System} → Turned K s l t → Placed s → Placed t
+  turned-placed no-turns o = o
+  turned-placed (one-turn {g = g} {s = s} {t = t} e h) o = turned-placed h (moved-placed (moved K law (g .may) s (g .at) t e) o)
 
-  pub takes-few : {may : Policy} {c d l : List ℕ} {s t : System} → Takes K may c s l d t → length (s .threads) ≤ most-threads → length (t .threads) ≤ most-threads
-  takes-few no-turn few = few
-  takes-few {may} (first {c = c} {i = i} {s = s} {t = t} e h) few = takes-few h (turn-few K law (may c) s few i t e)
+  pub turned-few : {l : List Gone} {s t : System} → Turned K s l t → length (s .threads) ≤ most-threads → length (t .threads) ≤ most-threads
+  turned-few no-turns few = few
+  turned-few (one-turn {g = g} {s = s} {t = t} e h) few = turned-few h (turn-few K law (g .may) s few (g .at) t e)
 
   -- no thread goes away
   pub takes-grown : {may : Policy} {c d l : List ℕ} {s t : System} → Takes K may c s l d t → length (s .threads) ≤ length (t .threads)
@@ -219,67 +224,55 @@ module _ (K : Steps) (law : Lawful K) where
   takes-grown {may} (first {c = c} {i = i} {s = s} {t = t} e h) = let z = takes-grown h in omega (arith, z, moved K law (may c) s i t e .grown)
 
   -- the first n of turns that are taken are taken
-  takes-take : {may : Policy} {c d l : List ℕ} {s t : System} → Takes K may c s l d t → (n : ℕ) → (e : List ℕ) × (u : System) × Takes K may c s (take n l) e u
-  takes-take {c = c} {s = s} no-turn zero = (c, s, no-turn)
-  takes-take {c = c} {s = s} no-turn (suc n) = (c, s, no-turn)
-  takes-take {c = c} {s = s} (first e h) zero = (c, s, no-turn)
-  takes-take (first e h) (suc n) = let z = takes-take h n in (z .0, z .1, first e (z .2))
+  turned-take : {l : List Gone} {s t : System} → Turned K s l t → (n : ℕ) → (u : System) × Turned K s (take n l) u
+  turned-take {s = s} no-turns zero = (s, no-turns)
+  turned-take {s = s} no-turns (suc n) = (s, no-turns)
+  turned-take {s = s} (one-turn e h) zero = (s, no-turns)
+  turned-take (one-turn e h) (suc n) = let z = turned-take h n in (z .0, one-turn e (z .1))
 
-  module _ (may : Policy) (steady : Steady may) where
-    -- of the turns that are taken, one is of thread i, or there are no more than it waits for
-    pub asked-within : {c d l : List ℕ} {s t : System} → Takes K may c s l d t → Placed s → (i : ℕ) → live s i ≡ true → may c i ≡ true → List·Memᴰ i l ⊎ (length l ≤ wait s i)
-    asked-within no-turn o i a b = inr (omega arith)
-    asked-within (first {c = c} {l = l} {i = j} {s = s} {t = t} e h) o i a b =
-        at (eqb j i) refl (λ n. asked-within h (moved-placed w o) i (subst⁻¹ (λ x. liveThread x ≡ true) (w .others i (live-lt (s .threads) i a) n) a) (steady .keeps c i j n b))
-      where
-        w : Moved (may c) s j t
-        w = moved K law (may c) s j t e
+  -- of the turns that are taken, one is of thread i, if it might step at each, or there are no more than it waits for
+  pub asked-within : {l : List Gone} {s t : System} → Turned K s l t → Placed s → (i : ℕ) → live s i ≡ true → Unheld i l → List·Memᴰ i (whose l) ⊎ (length l ≤ wait s i)
+  unfolding whose
+  asked-within no-turns o i a b = inr (omega arith)
+  asked-within (one-turn {g = g} {l = l} {s = s} {t = t} e h) o i a b =
+      at (eqb (g .at) i) refl (λ n. asked-within h (moved-placed w o) i (subst⁻¹ (λ x. liveThread x ≡ true) (w .others i (live-lt (s .threads) i a) n) a) (λ v m. b v (List·Memᴰ·tail m)))
+    where
+      w : Moved (g .may) s (g .at) t
+      w = moved K law (g .may) s (g .at) t e
 
-        more : j ≢ i → List·Memᴰ i l ⊎ (length l ≤ wait t i) → List·Memᴰ i (j ∷ l) ⊎ (length (j ∷ l) ≤ wait s i)
-        more n (inl m) = inl (List·Memᴰ·tail m)
-        more n (inr m) = inr (omega (arith, m, wait-falls o w i (live-lt (s .threads) i a) (and2 _ _ a b) n))
+      more : g .at ≢ i → List·Memᴰ i (whose l) ⊎ (length l ≤ wait t i) → List·Memᴰ i (g .at ∷ whose l) ⊎ (length (g ∷ l) ≤ wait s i)
+      more n (inl m) = inl (List·Memᴰ·tail m)
+      more n (inr m) = inr (omega (arith, m, wait-falls o w i (live-lt (s .threads) i a) (and2 _ _ a (b g (List·Memᴰ·head refl))) n))
 
-        at : (x : Bool) → eqb j i ≡ x → (j ≢ i → List·Memᴰ i l ⊎ (length l ≤ wait t i)) → List·Memᴰ i (j ∷ l) ⊎ (length (j ∷ l) ≤ wait s i)
-        at true q f = inl (List·Memᴰ·head (sym (eqb-true j i q)))
-        at false q f = let n = eqb-false j i q in more n (f n)
+      at : (x : Bool) → eqb (g .at) i ≡ x → (g .at ≢ i → List·Memᴰ i (whose l) ⊎ (length l ≤ wait t i)) → List·Memᴰ i (g .at ∷ whose l) ⊎ (length (g ∷ l) ≤ wait s i)
+      at true q f = inl (List·Memᴰ·head (sym (eqb-true (g .at) i q)))
+      at false q f = let n = eqb-false (g .at) i q in more n (f n)
 
-    -- so of n turns, if it waits for fewer than n, one is of thread i
-    pub asked-in : (n : ℕ) {c d l : List ℕ} {s t : System} → Takes K may c s l d t → Placed s → (i : ℕ) → live s i ≡ true → may c i ≡ true → wait s i < n → n ≤ length l → List·Memᴰ i (take n l)
-    asked-in n {l = l} {s = s} h o i a b v k = at (asked-within (takes-take h n .2) o i a b)
-      where
-        at : List·Memᴰ i (take n l) ⊎ (length (take n l) ≤ wait s i) → List·Memᴰ i (take n l)
-        at (inl m) = m
-        at (inr m) = absurd (omega (arith, m, v, length-take-le n l k))
+  -- so of n turns, if it waits for fewer than n, one is of thread i
+  pub asked-in : (n : ℕ) {l : List Gone} {s t : System} → Turned K s l t → Placed s → (i : ℕ) → live s i ≡ true → Unheld i (take n l) → wait s i < n → n ≤ length l → List·Memᴰ i (whose (take n l))
+  asked-in n {l = l} {s = s} h o i a b v k = at (asked-within (turned-take h n .1) o i a b)
+    where
+      at : List·Memᴰ i (whose (take n l)) ⊎ (length (take n l) ≤ wait s i) → List·Memᴰ i (whose (take n l))
+      at (inl m) = m
+      at (inr m) = absurd (omega (arith, m, v, length-take-le n l k))
 
-    -- "takes one step in turn": a live thread that has stepped is asked again among the next eight turns
-    pub again : (c : List ℕ) {d l : List ℕ} {s u t : System} (i : ℕ) → length (s .threads) ≤ most-threads → Placed s → turn K (may c) s ≡ t-step i u
-        → Takes K may (bump i c) u l d t → live u i ≡ true → may (bump i c) i ≡ true → most-threads ≤ length l → List·Memᴰ i (take most-threads l)
-    again c {s = s} {u = u} i few o e h a b n =
-        let w = moved K law (may c) s i u e in
-        asked-in most-threads h (moved-placed w o) i a b (wait-eight u (moved-placed w o) (turn-few K law (may c) s few i u e) i (of-round w o .0)) n
+  -- "takes one step in turn": a live thread that has stepped, and is not at its allowance, is asked again among the next eight turns
+  pub again : (may : ℕ → Bool) {l : List Gone} {s u t : System} (i : ℕ) → length (s .threads) ≤ most-threads → Placed s → turn K may s ≡ t-step i u
+      → Turned K u l t → live u i ≡ true → Unheld i (take most-threads l) → most-threads ≤ length l → List·Memᴰ i (whose (take most-threads l))
+  again may {s = s} {u = u} i few o e h a b n =
+      let w = moved K law may s i u e in
+      asked-in most-threads h (moved-placed w o) i a b (wait-eight u (moved-placed w o) (turn-few K law may s few i u e) i (of-round w o .0)) n
 
-    -- one just started, among the next fourteen: six of the round may be left, and seven of the next go before it
-    pub new-within : (c : List ℕ) {d l : List ℕ} {s u t : System} (j : ℕ) → length (s .threads) < most-threads → Placed s → turn K (may c) s ≡ t-step j u
-        → Takes K may (bump j c) u l d t → live u (length (s .threads)) ≡ true → may (bump j c) (length (s .threads)) ≡ true → 14 ≤ length l → List·Memᴰ (length (s .threads)) (take 14 l)
-    new-within c {s = s} {u = u} j few o e h a b n =
-        let w = moved K law (may c) s j u e in
-        let r = of-round w o in
-        asked-in 14 h (moved-placed w o) (length (s .threads)) a b (longest (r .0) (r .1) (w .last) (wait-is u (length (s .threads)))) n
-      where
-        longest : {x : ℕ} → j < u .round → u .round ≤ length (s .threads) → u .from ≡ suc j → WaitIs u (length (s .threads)) x → x < 14
-        longest p q f (this-round g k) = omega (arith, p, q, f, g, k, few)
-        longest p q f (that-round g) = omega (arith, p, q, f, few)
-
-    -- and any live thread, whether or not it has stepped, once a turn is taken
-    pub live-within : {c d l : List ℕ} {s t : System} → Takes K may c s l d t → length (s .threads) ≤ most-threads → Placed s → 0 < s .from → (i : ℕ) → live s i ≡ true → may c i ≡ true → 14 ≤ length l
-        → List·Memᴰ i (take 14 l)
-    live-within {s = s} h few o z i a b n = asked-in 14 h o i a b (longest (live-lt (s .threads) i a) (leb (s .from) i) refl (ltb i (s .round)) refl (wait-is s i)) n
-      where
-        longest : {x : ℕ} → i < length (s .threads) → (p : Bool) → leb (s .from) i ≡ p → (q : Bool) → ltb i (s .round) ≡ q → WaitIs s i x → x < 14
-        longest k p e q f (this-round g y) = omega (arith, k, few)
-        longest k true e true f (that-round g) = absurd (g (leb-true (s .from) i e) (ltb-true i (s .round) f))
-        longest k true e false f (that-round g) = omega (arith, k, z, few, o .there, ltb-false i (s .round) f)
-        longest k false e q f (that-round g) = omega (arith, k, few, o .there, o .turned, leb-false (s .from) i e)
+  -- and any live thread, whether or not it has stepped, among the next fourteen, once a turn is taken: six of the round may be left, and seven of the next go before one that is just started
+  pub live-within : {l : List Gone} {s t : System} → Turned K s l t → length (s .threads) ≤ most-threads → Placed s → 0 < s .from → (i : ℕ) → live s i ≡ true → Unheld i (take 14 l) → 14 ≤ length l
+      → List·Memᴰ i (whose (take 14 l))
+  live-within {s = s} h few o z i a b n = asked-in 14 h o i a b (longest (live-lt (s .threads) i a) (leb (s .from) i) refl (ltb i (s .round)) refl (wait-is s i)) n
+    where
+      longest : {x : ℕ} → i < length (s .threads) → (p : Bool) → leb (s .from) i ≡ p → (q : Bool) → ltb i (s .round) ≡ q → WaitIs s i x → x < 14
+      longest k p e q f (this-round g y) = omega (arith, k, few)
+      longest k true e true f (that-round g) = absurd (g (leb-true (s .from) i e) (ltb-true i (s .round) f))
+      longest k true e false f (that-round g) = omega (arith, k, z, few, o .there, ltb-false i (s .round) f)
+      longest k false e q f (that-round g) = omega (arith, k, few, o .there, o .turned, leb-false (s .from) i e)
 
 -- Numbers
 

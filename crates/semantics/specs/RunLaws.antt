@@ -13,18 +13,18 @@ use Rattle.semantics.specs.Machine.{Thread, System, most-threads}
 use Rattle.semantics.specs.Wants.{Stuck, Denied, NoRoom}
 use Rattle.semantics.specs.StepExactly.{stuck-to, stuck-from, denied-to, denied-from, room-to, room-from}
 use Rattle.semantics.specs.Threads.{Steps, stepsOf, alone, live, allDone, Turn, Took, t-step, t-none, t-room, t-stuck, t-denied, took, turn, Asked}
-use Rattle.semantics.specs.Calls.{taken, finished, spent, noroom, stuck, denied, Ran, ran, bump, no-steps, Policy, always, together, closing, onTurn, run, Call, one-step, run-of, call, Takes, no-turn, first}
+use Rattle.semantics.specs.Calls.{taken, finished, spent, noroom, stuck, denied, Ran, ran, bump, total, no-steps, Policy, always, allowed, closing, onTurn, run, Call, one-step, run-of, call, Takes, no-turn, first}
 use Rattle.semantics.specs.TurnLaws.{Lawful, lawful, TurnIs, is-none, is-room, is-stuck, is-denied, askedBy, asked-turn, turn-is, idle-none, done-none, turn-free, turn-few, live-lt, live-some}
-use Rattle.semantics.specs.Counts.{Budget, bump-length, budget-together, together-most}
+use Rattle.semantics.specs.Counts.{Budget, bump-length, budget-allowed, allowed-most}
 
 module _ (K : Steps) where
   -- what a run says, when c were taken before: document 01's words, meant as changed by document 02
   pub data RunSays (may : Policy) (c : List ℕ) (s : System) : Ran → Type 0 where
     -- "A job is done when all are"
     run-done : {l d : List ℕ} {t : System} → Takes K may c s l d t → allDone (t .threads) ≡ true → RunSays may c s (ran finished d 0 t)
-    -- "spent only after n steps taken, and only if it isn't done then": no thread that is left may step
+    -- "spent only when every unfinished thread has used its allowance to the last step", and only if it isn't done then: no thread that is left may step
     run-spent : {l d : List ℕ} {t : System} → Takes K may c s l d t → allDone (t .threads) ≡ false → ((i : ℕ) → live t i ≡ true → may d i ≡ false) → RunSays may c s (ran spent d 0 t)
-    -- "stuck, denied or no room only if a step within the n failed with that": the step of the thread whose turn it is
+    -- "stuck, denied or no room only if a step .. failed with that": the step of the thread whose turn it is
     run-noroom : {l d : List ℕ} {p : Turn} {x : Thread} {t : System} → Takes K may c s l d t → Asked (may d) t p x → NoRoom (K .needs) (alone t x) → RunSays may c s (ran noroom d (p .at) t)
     run-stuck : {l d : List ℕ} {p : Turn} {x : Thread} {t : System} → Takes K may c s l d t → Asked (may d) t p x → Stuck (K .needs) (alone t x) → RunSays may c s (ran stuck d (p .at) t)
     run-denied : {l d : List ℕ} {p : Turn} {x : Thread} {t : System} → Takes K may c s l d t → Asked (may d) t p x → Denied (K .needs) (alone t x) → RunSays may c s (ran denied d (p .at) t)
@@ -35,8 +35,8 @@ module _ (K : Steps) where
     one-noroom : {p : Turn} {x : Thread} → Asked (always no-steps) s p x → NoRoom (K .needs) (alone s x) → Says s one-step (ran noroom no-steps (p .at) s)
     one-stuck : {p : Turn} {x : Thread} → Asked (always no-steps) s p x → Stuck (K .needs) (alone s x) → Says s one-step (ran stuck no-steps (p .at) s)
     one-denied : {p : Turn} {x : Thread} → Asked (always no-steps) s p x → Denied (K .needs) (alone s x) → Says s one-step (ran denied no-steps (p .at) s)
-    -- how many turns these are, by the answer, is `says-count` of `CountLaws`
-    run-says : {n : ℕ} {r : Ran} → RunSays (together n) no-steps s r → Says s (run-of n) r
+    -- how many turns of each thread these are, by the answer, is `says-count` of `CountLaws`
+    run-says : {allow : List ℕ} {r : Ran} → RunSays (allowed allow) no-steps s r → Says s (run-of allow) r
 
 module _ (K : Steps) (law : Lawful K) where
   -- what is asked where nobody may step
@@ -158,7 +158,7 @@ module _ (K : Steps) (law : Lawful K) where
       at (t-room i) e (is-room {t = x} a z) = one-noroom a (room-to (law .exactly .at (alone s x)) z)
       at (t-stuck i) e (is-stuck {t = x} a z) = one-stuck a (stuck-to (law .exactly .at (alone s x)) z)
       at (t-denied i) e (is-denied {t = x} a z) = one-denied a (denied-to (law .exactly .at (alone s x)) z)
-  call-says (run-of n) s few = run-says (run-is (together n) (budget-together n) n no-steps s few refl (together-most n))
+  call-says (run-of allow) s few = run-says (run-is (allowed allow) (budget-allowed allow) (total allow) no-steps s few refl (allowed-most allow))
 
   pub said : {s : System} {c : Call} {r : Ran} → length (s .threads) ≤ most-threads → Says K s c r → call K c s ≡ r
   unfolding call onTurn closing
@@ -167,7 +167,7 @@ module _ (K : Steps) (law : Lawful K) where
   said few (one-noroom a e) = rw (noroom-turn a e)
   said few (one-stuck a e) = rw (stuck-turn a e)
   said few (one-denied a e) = rw (denied-turn a e)
-  said few (run-says {n = n} h) = run-said (together n) (budget-together n) h few refl n (together-most n)
+  said few (run-says {allow = allow} h) = run-said (allowed allow) (budget-allowed allow) h few refl (total allow) (allowed-most allow)
 
   -- a call says one thing
   pub says-one : {s : System} {c : Call} {r q : Ran} → length (s .threads) ≤ most-threads → Says K s c r → Says K s c q → r ≡ q
