@@ -1,9 +1,9 @@
 pub mod Parts
 pub mod Marks
 pub mod InWords
-pub mod Tells
+pub mod Lefts
 pub mod Picked
 pub mod Moves
-pub mod Going
 pub mod Rounding
-pub mod Turning
+pub mod Advancing
+pub mod Tells

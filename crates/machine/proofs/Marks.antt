@@ -66,7 +66,7 @@ module _ (p : ℕ → Bool) where
 
 -- Marks of the first so many threads
 
-none-at : (n j : ℕ) → _≡_ {A = ℕ} (getD (replicate n 0) j 0) 0
+pub none-at : (n j : ℕ) → _≡_ {A = ℕ} (getD (replicate n 0) j 0) 0
 none-at zero j = refl
 none-at (suc n) zero = refl
 none-at (suc n) (suc j) = none-at n j

@@ -1,6 +1,6 @@
 -- The words after a step of the thread whose turn it is: the machine that they stand for, by the answer of the step.
 use mathlib.Core.Path.{_≡_, refl, sym, ap, ap₂, _∙_, subst⁻¹}
-use Prim.Native.Nat.{ℕ, suc, _+_, _*_, _≤_, _<_}
+use Prim.Native.Nat.{ℕ, zero, suc, _+_, _*_, _≤_, _<_}
 use native.Mathlib.Omega.{arith}
 use native.Mathlib.Numerals.{add-one}
 use mathlib.Core.Bool.{Bool, true, false, not, false≢true}
@@ -17,16 +17,16 @@ use Rattle.semantics.specs.OthersUnseen.{spawning}
 use Rattle.semantics.specs.SpawnLaws.{spawn-is}
 use Rattle.semantics.specs.Room.{isDone}
 use Rattle.semantics.specs.Threads.{stepsOf, alone, liveThread, live, Turn, Asked}
-use Rattle.semantics.specs.Calls.{bump}
+use Rattle.semantics.specs.Rounds.{get-other}
 use Rattle.store.specs.declared.Used.{Used}
 use Rattle.acts.specs.Meaning.{StepAnswer, s-taken, s-finished, s-noroom, s-stuck, s-denied, s-starts}
 use Rattle.acts.specs.View.{Tables, tables, view}
 use Rattle.acts.specs.Inner.{Stepped, putFrames}
 use Rattle.thread.specs.Inner.{stepOf, ownState}
 use Rattle.machine.specs.declared.Scheduler.{Scheduler}
-use Rattle.machine.specs.Turns.{free, turned, turnsOf}
-use Rattle.machine.specs.Ahead.{nextIn, Held}
-use Rattle.machine.specs.OneTurn.{get-off, StepIs, is-taken, is-finished, is-noroom, is-stuck, is-denied, is-starts, step-is, moved, taken-turns, noroom-turns, stuck-turns, denied-turns, handed0, spawned, start-turns, full-turns}
+use Rattle.machine.specs.Turns.{hasLeft, less, turned, turnsOf}
+use Rattle.machine.specs.Ahead.{nextIn, Held, without, joined}
+use Rattle.machine.specs.OneTurn.{less-long, less-other, StepIs, is-taken, is-finished, is-noroom, is-stuck, is-denied, is-starts, step-is, moved, taken-turns, noroom-turns, stuck-turns, denied-turns, handed0, spawned, start-turns, full-turns}
 use Rattle.machine.specs.Scheduled.{partOf, ownAt, listed, storeIn, systemIn, marked, Started}
 use Rattle.machine.specs.Listed.{listed-get, listed-none, listed-same, listed-set, listed-snoc}
 use Rattle.machine.proofs.Picked.{long, marked-at, among, small, round-few, asked}
@@ -102,10 +102,40 @@ module _ {T : Type 0} (code : ℕ → Cmd T) (m : Clean) where
       on (enter j) u v = let z = spawn-is (code j) v in record { at-place = j; body = z .0; entered = u; is-spawn = z .1 }
       on (hand v) u z = absurd (false≢true z)
 
+-- A thread that is finished, or has no step left, loses its mark
+
+pub held-without : (c : Scheduler) (w : Tables) → Held c w → (i : ℕ) → (live (systemIn c w) i ≡ true → hasLeft (c .rest) i ≡ true → ⊥) → Held (without c i) w
+unfolding marked
+held-without c w h i n = record {
+  count = h .count;
+  round = h .round;
+  from = h .from;
+  marks = λ j l k. still j l k (eqb j i) refl;
+  below = λ j l. below j l (eqb j i) refl;
+  live-long = length-set (c .live) i 0 ∙ h .live-long;
+  rest-long = h .rest-long;
+}
+  where
+    off : (j : ℕ) → (j ≡ i → ⊥) → marked (set (c .live) i 0) j ≡ marked (c .live) j
+    off j d = ap (λ (k : ℕ). eqb k 1) (getD-set-other (c .live) i j 0 0 d)
+
+    still : (j : ℕ) → live (systemIn c w) j ≡ true → hasLeft (c .rest) j ≡ true → (b : Bool) → eqb j i ≡ b → marked (set (c .live) i 0) j ≡ true
+    still j l k true q = absurd (n (ap (live (systemIn c w)) (sym (eqb-true j i q)) ∙ l) (ap (hasLeft (c .rest)) (sym (eqb-true j i q)) ∙ k))
+    still j l k false q = off j (eqb-false j i q) ∙ h .marks j l k
+
+    none : (l : List ℕ) (k : ℕ) → marked (set l k 0) k ≡ false
+    none [] k = refl
+    none (x ∷ l) zero = refl
+    none (x ∷ l) (suc k) = none l k
+
+    below : (j : ℕ) → marked (set (c .live) i 0) j ≡ true → (b : Bool) → eqb j i ≡ b → j < c .count
+    below j l true q = absurd (false≢true (sym (none (c .live) i) ∙ ap (marked (set (c .live) i 0)) (sym (eqb-true j i q)) ∙ l))
+    below j l false q = h .below j (sym (off j (eqb-false j i q)) ∙ l)
+
 -- The thread that stepped
 
 module _ {T : Type 0} (code : ℕ → Cmd T) (c : Scheduler) (w : Tables) (h : Held c w) (i r : ℕ)
-    (e : nextIn (c .live) (c .from) (c .round) (c .count) ≡ some (record { at = i; round = r })) (u : Used) (a : StepAnswer) (x : Tables)
+    (e : nextIn (c .live) (c .from) (c .round) (c .count) ≡ some (record { at = i; round = r })) (some-left : hasLeft (c .rest) i ≡ true) (u : Used) (a : StepAnswer) (x : Tables)
     (its : (ts : List SThread) →
     record { machine = view (ownState u (partOf (x .frames) i)) (tables ts (partOf (x .frames) i) (x .cells) (x .keys) (x .pairs) (x .functions) (x .bindings)); answer = a } ≡
     stepOf code (view (ownState (c .used) (partOf (w .frames) i)) (tables ts (partOf (w .frames) i) (w .cells) (w .keys) (w .pairs) (w .functions) (w .bindings))))
@@ -139,13 +169,13 @@ module _ {T : Type 0} (code : ℕ → Cmd T) (c : Scheduler) (w : Tables) (h : H
   unfolding liveThread isDone
   done-live d = ap liveThread (listed-get (ownAt (w .frames)) (c .count) i (among c w h i r e)) ∙ ap not d
 
-  has-turn : (a ≡ s-finished → ⊥) → Asked free S p (ownAt (w .frames) i)
-  has-turn d = asked c w h i r e (live-done (busy-is code m step-of d))
+  has-turn : (a ≡ s-finished → ⊥) → Asked (hasLeft (c .rest)) S p (ownAt (w .frames) i)
+  has-turn d = asked c w h i r e (live-done (busy-is code m step-of d)) some-left
 
   -- No step is taken
 
   abbrev pub stayed : Scheduler
-  stayed = record { live = c .live; counts = c .counts; count = c .count; round = c .round; from = c .from; used = u }
+  stayed = record { live = c .live; rest = c .rest; count = c .count; round = c .round; from = c .from; used = u }
 
   module _ (d : a ≡ s-taken → ⊥) where
     same : n ≡ m
@@ -162,58 +192,46 @@ module _ {T : Type 0} (code : ℕ → Cmd T) (c : Scheduler) (w : Tables) (h : H
     stays = ap₂ (λ l y. record { threads = l; store = y; round = c .round; from = c .from }) (listed-same (ownAt (x .frames)) (ownAt (w .frames)) (c .count) (λ j l. own-same j)) (ap (λ (y : Clean). y .store) same)
 
   -- the answer of a step that is not taken, and starts no thread, ends the call
-  pub fails : (a ≡ s-taken → ⊥) → (a ≡ s-finished → ⊥) → (a ≡ s-starts → ⊥) → (k : ℕ) → turnsOf (stepsOf code) (suc k) (c .counts) S ≡ turned a (c .counts) i (systemIn stayed x)
-  fails d f g k = at step-of (has-turn f) d f g ∙ ap (turned a (c .counts) i) (sym (stays d))
+  pub fails : (a ≡ s-taken → ⊥) → (a ≡ s-finished → ⊥) → (a ≡ s-starts → ⊥) → turnsOf (stepsOf code) (c .rest) S ≡ turned a (c .rest) i (systemIn stayed x)
+  fails d f g = at step-of (has-turn f) d f g ∙ ap (turned a (c .rest) i) (sym (stays d))
     where
-      at : {y : Stepped} → StepIs code m y → Asked free S p (ownAt (w .frames) i) → (y .answer ≡ s-taken → ⊥) → (y .answer ≡ s-finished → ⊥) → (y .answer ≡ s-starts → ⊥)
-          → turnsOf (stepsOf code) (suc k) (c .counts) S ≡ turned (y .answer) (c .counts) i S
+      at : {y : Stepped} → StepIs code m y → Asked (hasLeft (c .rest)) S p (ownAt (w .frames) i) → (y .answer ≡ s-taken → ⊥) → (y .answer ≡ s-finished → ⊥) → (y .answer ≡ s-starts → ⊥)
+          → turnsOf (stepsOf code) (c .rest) S ≡ turned (y .answer) (c .rest) i S
       at (is-taken b q z) t d f g = absurd (d refl)
       at (is-finished b) t d f g = absurd (f refl)
-      at (is-noroom b q z) t d f g = noroom-turns code m t refl q z k (c .counts)
-      at (is-stuck b q z) t d f g = stuck-turns code m t refl q z k (c .counts)
-      at (is-denied b q z) t d f g = denied-turns code m t refl q z k (c .counts)
+      at (is-noroom b q z) t d f g = noroom-turns code (c .rest) m t refl q z
+      at (is-stuck b q z) t d f g = stuck-turns code (c .rest) m t refl q z
+      at (is-denied b q z) t d f g = denied-turns code (c .rest) m t refl q z
       at (is-starts b q) t d f g = absurd (g refl)
 
-  -- A finished thread is passed over from now on
-
-  abbrev pub passed : Scheduler
-  passed = record { live = set (c .live) i 0; counts = c .counts; count = c .count; round = c .round; from = c .from; used = u }
+  -- The thread is finished
 
   module _ (f : a ≡ s-finished) where
     not-taken : a ≡ s-taken → ⊥
     unfolding answer-no
     not-taken z = let y : _≡_ {A = ℕ} 1 0 = ap answer-no (sym f ∙ z) in omega (arith, y)
 
-    pub passes : systemIn passed x ≡ S
+    pub passes : systemIn stayed x ≡ S
     passes = stays not-taken
 
-    pub held-passed : Held passed x
-    unfolding marked
-    held-passed = record {
+    pub not-live : live (systemIn stayed x) i ≡ false
+    not-live = ap (λ (y : System). live y i) passes ∙ done-live (finished-is code m step-of f)
+
+    pub held-stayed : Held stayed x
+    held-stayed = record {
       count = h .count;
       round = h .round;
       from = h .from;
-      marks = λ j l. still j (ap (λ (y : System). live y j) (sym passes) ∙ l);
-      below = λ j l. below j (eqb j i) refl l;
-      live-long = length-set (c .live) i 0 ∙ h .live-long;
-      counts-long = h .counts-long;
+      marks = λ j l. h .marks j (ap (λ (y : System). live y j) (sym passes) ∙ l);
+      below = h .below;
+      live-long = h .live-long;
+      rest-long = h .rest-long;
     }
-      where
-        still : (j : ℕ) → live S j ≡ true → marked (set (c .live) i 0) j ≡ true
-        still j l = at (eqb j i) refl
-          where
-            at : (b : Bool) → eqb j i ≡ b → marked (set (c .live) i 0) j ≡ true
-            at true q = absurd (false≢true (sym (done-live (finished-is code m step-of f)) ∙ ap (live S) (sym (eqb-true j i q)) ∙ l))
-            at false q = ap (λ (k : ℕ). eqb k 1) (getD-set-other (c .live) i j 0 0 (eqb-false j i q)) ∙ h .marks j l
-
-        below : (j : ℕ) (b : Bool) → eqb j i ≡ b → marked (set (c .live) i 0) j ≡ true → j < c .count
-        below j true q l = let y = eqb-true j i q in omega (arith, y, among c w h i r e)
-        below j false q l = h .below j (sym (ap (λ (k : ℕ). eqb k 1) (getD-set-other (c .live) i j 0 0 (eqb-false j i q))) ∙ l)
 
   -- A step is taken
 
   abbrev pub stepped : Scheduler
-  stepped = record { live = c .live; counts = set (c .counts) i (getD (c .counts) i 0 + 1); count = c .count; round = r; from = i + 1; used = u }
+  stepped = record { live = c .live; rest = less i (c .rest); count = c .count; round = r; from = i + 1; used = u }
 
   threads-are : listed (ownAt (x .frames)) (c .count) ≡ set (S .threads) i (ownAt (x .frames) i)
   threads-are = sym (listed-set (ownAt (w .frames)) (ownAt (x .frames)) (c .count) i (ownAt (x .frames) i) (among c w h i r e) refl other-own)
@@ -221,27 +239,27 @@ module _ {T : Type 0} (code : ℕ → Cmd T) (c : Scheduler) (w : Tables) (h : H
   moved-is : systemIn stepped x ≡ moved code S p n
   moved-is = ap₂ (λ l (f : ℕ). record { threads = l; store = storeIn u x; round = r; from = f }) threads-are (add-one i)
 
-  pub takes : a ≡ s-taken → (k : ℕ) → turnsOf (stepsOf code) (suc k) (c .counts) S ≡ turnsOf (stepsOf code) k (stepped .counts) (systemIn stepped x)
-  unfolding bump
-  takes z k =
+  pub takes : a ≡ s-taken → turnsOf (stepsOf code) (c .rest) S ≡ turnsOf (stepsOf code) (stepped .rest) (systemIn stepped x)
+  takes z =
       let t = took-is code m step-of z in
-      taken-turns code m (asked c w h i r e (live-done (t .busy))) refl (t .plain) (t .steps) k (c .counts)
-      ∙ ap₂ (λ (l : List ℕ) y. turnsOf (stepsOf code) k l y) (ap (λ (j : ℕ). set (c .counts) i j) (sym (add-one (getD (c .counts) i 0)))) (sym moved-is)
+      taken-turns code (c .rest) m (asked c w h i r e (live-done (t .busy)) some-left) refl (t .plain) (t .steps) ∙ ap (turnsOf (stepsOf code) (less i (c .rest))) (sym moved-is)
 
   pub held-stepped : Held stepped x
   held-stepped = record {
     count = h .count;
     round = round-few c w h i r e;
     from = omega (arith, small c w h i r e);
-    marks = λ j l. still j (eqb j i) refl l;
+    marks = λ j l k. still j (eqb j i) refl l k;
     below = h .below;
     live-long = h .live-long;
-    counts-long = length-set (c .counts) i (getD (c .counts) i 0 + 1) ∙ h .counts-long;
+    rest-long = less-long i (c .rest) ∙ h .rest-long;
   }
     where
-      still : (j : ℕ) (b : Bool) → eqb j i ≡ b → live (systemIn stepped x) j ≡ true → marked (c .live) j ≡ true
-      still j true q l = subst⁻¹ (λ (k : ℕ). marked (c .live) k ≡ true) (eqb-true j i q) (marked-at c w h i r e)
-      still j false q l = h .marks j (sym (ap liveThread (ap (λ y. getElem? y j) threads-are ∙ get-off (S .threads) i j (ownAt (x .frames) i) (λ z. eqb-false j i q (sym z)))) ∙ l)
+      still : (j : ℕ) (b : Bool) → eqb j i ≡ b → live (systemIn stepped x) j ≡ true → hasLeft (less i (c .rest)) j ≡ true → marked (c .live) j ≡ true
+      still j true q l k = subst⁻¹ (λ (k : ℕ). marked (c .live) k ≡ true) (eqb-true j i q) (marked-at c w h i r e)
+      still j false q l k =
+          h .marks j (sym (ap liveThread (ap (λ y. getElem? y j) threads-are ∙ get-other (S .threads) i j (ownAt (x .frames) i) (λ z. eqb-false j i q (sym z)))) ∙ l)
+          (sym (less-other i j (c .rest) (eqb-false j i q)) ∙ k)
 
   -- Entering a 0x42
 
@@ -258,12 +276,12 @@ module _ {T : Type 0} (code : ℕ → Cmd T) (c : Scheduler) (w : Tables) (h : H
     not-finished z = let y : _≡_ {A = ℕ} 5 1 = ap answer-no (sym g ∙ z) in omega (arith, y)
 
     -- a ninth thread
-    pub full : most-threads ≤ c .count → (k : ℕ) → turnsOf (stepsOf code) (suc k) (c .counts) S ≡ turned s-noroom (c .counts) i (systemIn stayed x)
-    full l k = full-turns code (has-turn not-finished) (here .entered) (here .is-spawn) (omega (arith, long c w h, l)) k (c .counts) ∙ ap (turned s-noroom (c .counts) i) (sym (stays no-step))
+    pub full : most-threads ≤ c .count → turnsOf (stepsOf code) (c .rest) S ≡ turned s-noroom (c .rest) i (systemIn stayed x)
+    full l = full-turns code (c .rest) (has-turn not-finished) (here .entered) (here .is-spawn) (omega (arith, long c w h, l)) ∙ ap (turned s-noroom (c .rest) i) (sym (stays no-step))
 
     module _ (room : c .count < most-threads) (slots : List ℕ) (body : (b : ℕ) (q : ℕ) → code q ≡ c-spawn b → getD slots (q * 5) 0 ≡ b) (y : List ℕ) (st : Started (x .frames) y i (c .count) slots) where
       abbrev pub started : Scheduler
-      started = record { live = set (c .live) (c .count) 1; counts = set (c .counts) i (getD (c .counts) i 0 + 1); count = c .count + 1; round = r; from = i + 1; used = u }
+      started = joined stayed i r
 
       abbrev b : ℕ
       b = here .body
@@ -323,11 +341,9 @@ module _ {T : Type 0} (code : ℕ → Cmd T) (c : Scheduler) (w : Tables) (h : H
           ap₂ (λ (k o : ℕ). record { threads = listed f2 k; store = storeIn u x; round = r; from = o }) (add-one (c .count)) (add-one i)
           ∙ ap₂ (λ l q. record { threads = l; store = q; round = r; from = suc i }) threads-started (ap (λ (q : Clean). q .store) (same no-step))
 
-      pub starts : (k : ℕ) → turnsOf (stepsOf code) (suc k) (c .counts) S ≡ turnsOf (stepsOf code) k (started .counts) (systemIn started (putFrames x y))
-      unfolding bump
-      starts k =
-          start-turns code (has-turn not-finished) (here .entered) (here .is-spawn) (omega (arith, long c w h, room)) k (c .counts)
-          ∙ ap₂ (λ (l : List ℕ) q. turnsOf (stepsOf code) k l q) (ap (λ (j : ℕ). set (c .counts) i j) (sym (add-one (getD (c .counts) i 0)))) (sym started-is)
+      pub starts : turnsOf (stepsOf code) (c .rest) S ≡ turnsOf (stepsOf code) (started .rest) (systemIn started (putFrames x y))
+      starts =
+          start-turns code (c .rest) (has-turn not-finished) (here .entered) (here .is-spawn) (omega (arith, long c w h, room)) ∙ ap (turnsOf (stepsOf code) (less i (c .rest))) (sym started-is)
 
       pub held-started : Held started (putFrames x y)
       unfolding marked liveThread
@@ -335,10 +351,10 @@ module _ {T : Type 0} (code : ℕ → Cmd T) (c : Scheduler) (w : Tables) (h : H
         count = omega (arith, room);
         round = round-few c w h i r e;
         from = omega (arith, small c w h i r e);
-        marks = λ j l. still j (eqb j (c .count)) (eqb j i) refl refl l;
+        marks = λ j l k. still j (eqb j (c .count)) (eqb j i) refl refl l k;
         below = λ j l. below j (eqb j (c .count)) refl l;
         live-long = length-set (c .live) (c .count) 1 ∙ h .live-long;
-        counts-long = length-set (c .counts) i (getD (c .counts) i 0 + 1) ∙ h .counts-long;
+        rest-long = less-long i (c .rest) ∙ h .rest-long;
       }
         where
           kept : (j : ℕ) → (j ≡ c .count → ⊥) → marked (set (c .live) (c .count) 1) j ≡ marked (c .live) j
@@ -359,10 +375,12 @@ module _ {T : Type 0} (code : ℕ → Cmd T) (c : Scheduler) (w : Tables) (h : H
                   let ge = ltb-false j (c .count) v in
                   absurd (false≢true (sym (dead j (omega (arith, ge, q))) ∙ l))
 
-          still : (j : ℕ) (a b : Bool) → eqb j (c .count) ≡ a → eqb j i ≡ b → live (systemIn started (putFrames x y)) j ≡ true → marked (set (c .live) (c .count) 1) j ≡ true
-          still j true b q v l = subst⁻¹ (λ (k : ℕ). marked (set (c .live) (c .count) 1) k ≡ true) (eqb-true j (c .count) q) (ap (λ (k : ℕ). eqb k 1) (getD-set-same (c .live) (c .count) 1 0 (omega (arith, room, h .live-long))))
-          still j false true q v l = kept j (eqb-false j (c .count) q) ∙ subst⁻¹ (λ (k : ℕ). marked (c .live) k ≡ true) (eqb-true j i v) (marked-at c w h i r e)
-          still j false false q v l = kept j (eqb-false j (c .count) q) ∙ h .marks j (was j (eqb-false j i v) (eqb-false j (c .count) q) l)
+          still : (j : ℕ) (a b : Bool) → eqb j (c .count) ≡ a → eqb j i ≡ b → live (systemIn started (putFrames x y)) j ≡ true → hasLeft (less i (c .rest)) j ≡ true
+              → marked (set (c .live) (c .count) 1) j ≡ true
+          still j true b q v l k = subst⁻¹ (λ (k : ℕ). marked (set (c .live) (c .count) 1) k ≡ true) (eqb-true j (c .count) q) (ap (λ (k : ℕ). eqb k 1) (getD-set-same (c .live) (c .count) 1 0 (omega (arith, room, h .live-long))))
+          still j false true q v l k = kept j (eqb-false j (c .count) q) ∙ subst⁻¹ (λ (k : ℕ). marked (c .live) k ≡ true) (eqb-true j i v) (marked-at c w h i r e)
+          still j false false q v l k =
+              kept j (eqb-false j (c .count) q) ∙ h .marks j (was j (eqb-false j i v) (eqb-false j (c .count) q) l) (sym (less-other i j (c .rest) (eqb-false j i v)) ∙ k)
 
           below : (j : ℕ) (a : Bool) → eqb j (c .count) ≡ a → marked (set (c .live) (c .count) 1) j ≡ true → j < c .count + 1
           below j true q l = let z = eqb-true j (c .count) q in omega (arith, z)

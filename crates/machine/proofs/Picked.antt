@@ -1,19 +1,19 @@
--- The thread whose turn it is, in words, by the marks of all that may be live.
+-- The thread whose turn it is, in words, by the marks of all that may have one.
 use mathlib.Core.Path.{_≡_, refl, sym, ap, _∙_}
 use Prim.Native.Nat.{ℕ, _-_, _≤_, _<_}
 use native.Mathlib.Omega.{arith}
 use mathlib.Core.Bool.{Bool, true, false≢true}
 use mathlib.Core.Option.{Option, none, some, Option·some-injective, Option·none-ne-some}
 use lib.ListN.{length}
-use Rattle.order.specs.Bools.{_and_}
-use Rattle.semantics.specs.Machine.{Thread as SThread, System, most-threads}
-use Rattle.semantics.specs.Threads.{live, firstFrom, Turn, inRound, next, Asked}
+use Rattle.order.specs.Bools.{_and_, and-l, and-r, and2}
+use Rattle.semantics.specs.Machine.{System, most-threads}
+use Rattle.semantics.specs.Threads.{liveThread, live, firstFrom, Turn, inRound, next, Asked}
 use Rattle.semantics.specs.TurnLaws.{FirstIs, first-at, nowhere, first-is, NextIs, in-round, new-round, nobody, next-is, next-holds}
 use Rattle.acts.specs.View.{Tables}
 use Rattle.machine.specs.declared.Scheduler.{Scheduler}
-use Rattle.machine.specs.Turns.{free}
+use Rattle.machine.specs.Turns.{hasLeft}
 use Rattle.machine.specs.Ahead.{nextIn, atOf, Held}
-use Rattle.machine.specs.OneTurn.{and-free, next-fewer, nobody-fewer}
+use Rattle.machine.specs.OneTurn.{next-fewer, nobody-fewer}
 use Rattle.machine.specs.Scheduled.{ownAt, systemIn, marked}
 use Rattle.machine.specs.Listed.{listed-length, listed-get}
 
@@ -22,7 +22,7 @@ module _ (c : Scheduler) (w : Tables) (h : Held c w) where
   S = systemIn c w
 
   abbrev asking : ℕ → Bool
-  asking j = live S j and free j
+  asking j = live S j and hasLeft (c .rest) j
 
   pub long : length (S .threads) ≡ c .count
   long = listed-length (ownAt (w .frames)) (c .count)
@@ -32,8 +32,8 @@ module _ (c : Scheduler) (w : Tables) (h : Held c w) where
   marks-next = ap (λ (n : ℕ). inRound (c .round) (firstFrom (marked (c .live)) (c .from) (c .round - c .from)) (inRound n (firstFrom (marked (c .live)) 0 n) none)) long
 
   fewer : (j : ℕ) → asking j ≡ true → marked (c .live) j ≡ true
-  unfolding free
-  fewer j e = h .marks j (sym (and-free (live S j)) ∙ e)
+  unfolding liveThread
+  fewer j e = h .marks j (and-l _ _ e) (and-r _ _ e)
 
   pub nobody-asked : nextIn (c .live) (c .from) (c .round) (c .count) ≡ none → next asking S ≡ none
   nobody-asked e = nobody-fewer (marked (c .live)) asking fewer S (marks-next ∙ e)
@@ -59,11 +59,11 @@ module _ (c : Scheduler) (w : Tables) (h : Held c w) where
         at (new-round v u) q = let y : length (S .threads) ≡ r = ap (λ (x : Turn). x .round) (Option·some-injective _ p q) in omega (arith, h .count, y, long)
         at (nobody v) q = absurd (Option·none-ne-some p q)
 
-    -- a thread that is live has the turn
-    pub asked : live S i ≡ true → Asked free S p (ownAt (w .frames) i)
-    unfolding free
-    asked busy = record {
-      next-turn = next-fewer (marked (c .live)) asking fewer S p (marks-next ∙ e) (and-free (live S i) ∙ busy);
+    -- a thread that is live and has a step left has the turn
+    pub asked : live S i ≡ true → hasLeft (c .rest) i ≡ true → Asked (hasLeft (c .rest)) S p (ownAt (w .frames) i)
+    unfolding liveThread
+    asked busy left = record {
+      next-turn = next-fewer (marked (c .live)) asking fewer S p (marks-next ∙ e) (and2 _ _ busy left);
       there = listed-get (ownAt (w .frames)) (c .count) i among;
     }
 

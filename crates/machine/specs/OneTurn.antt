@@ -6,8 +6,10 @@ use mathlib.Core.Bool.{Bool, true, false, cond, false≢true}
 use mathlib.Core.List.{List, [], _∷_, _++_}
 use mathlib.Core.Option.{Option, none, some, Option·some-injective, Option·none-ne-some}
 use mathlib.Core.Logic.{_≢_}
-use lib.ListN.{length, getElem?, set}
-use borrow.Author.Tests.{lt-ltb, le-ltb}
+use lib.ListN.{length, getD, set, length-set}
+use lib.Seq.{getD-set-other}
+use lib.Dec.{ltb}
+use borrow.Author.Tests.{lt-ltb, le-ltb, ltb-true}
 use Rattle.order.specs.Bools.{_and_}
 use Rattle.syntax.specs.Commands.{Cmd, c-spawn}
 use Rattle.syntax.specs.Operands.{evaluated}
@@ -15,29 +17,72 @@ use Rattle.semantics.specs.Machine.{Control, k-num, unkeyed, enter, hand, Threa
 use Rattle.semantics.specs.Step.{Out, o-step, o-done, o-room, o-stuck, o-denied, fresh, bare, room, touchAll, settle, actSpawn, act, enterAt, enterCmd, planOn, plan, step}
 use Rattle.semantics.specs.Room.{doneAt, isDone}
 use Rattle.semantics.specs.StepExactly.{exact, done-to, done-from}
-use Rattle.semantics.specs.Threads.{Steps, stepsOf, alone, live, firstFrom, Turn, inRound, next, t-step, t-room, took, takeTurn, turn, Asked}
-use Rattle.semantics.specs.Calls.{bump}
+use Rattle.semantics.specs.Threads.{Steps, stepsOf, alone, live, firstFrom, Turn, inRound, next, Took, t-step, t-room, took, takeTurn, turn, Asked}
+use Rattle.semantics.specs.Calls.{total}
 use Rattle.semantics.specs.OthersUnseen.{withOut, spawning, others-unseen}
-use Rattle.semantics.specs.TurnLaws.{asked-turn}
+use Rattle.semantics.specs.TurnLaws.{asked-free, asked-turn}
 use Rattle.acts.specs.Meaning.{s-taken, s-finished, s-noroom, s-stuck, s-denied, s-starts}
 use Rattle.acts.specs.Inner.{Stepped, settled}
 use Rattle.thread.specs.Inner.{starting, stepOf}
-use Rattle.machine.specs.Turns.{turned, free, onTook, turnsOf}
+use Rattle.machine.specs.Turns.{Turned, turned, hasLeft, less, onTook, turnsIn, turnsOf}
 
-pub get-off : (l : List Thread) (i j : ℕ) (x : Thread) → i ≢ j → getElem? (set l i x) j ≡ getElem? l j
-get-off [] i j x n = refl
-get-off (t ∷ l) zero zero x n = absurd (n refl)
-get-off (t ∷ l) zero (suc j) x n = refl
-get-off (t ∷ l) (suc i) zero x n = refl
-get-off (t ∷ l) (suc i) (suc j) x n = get-off l i j x (λ e. n (ap suc e))
+-- what is left falls by one
+pub less-total : (i : ℕ) (rest : List ℕ) → hasLeft rest i ≡ true → total rest ≡ suc (total (less i rest))
+unfolding hasLeft less total
+less-total i [] e = absurd (let z : _<_ 0 0 = ltb-true 0 0 e in omega (arith, z))
+less-total zero (n ∷ l) e = let z = ltb-true 0 n e in omega (arith, z)
+less-total (suc i) (n ∷ l) e = let z = less-total i l e in omega (arith, z)
 
-pub and-free : (b : Bool) → (b and true) ≡ b
-unfolding _and_
-and-free true = refl
-and-free false = refl
+pub less-long : (i : ℕ) (rest : List ℕ) → length (less i rest) ≡ length rest
+unfolding less
+less-long i rest = length-set rest i _
 
-abbrev asking : System → ℕ → Bool
-asking s i = live s i and free i
+-- of the others as much as before
+pub less-get : (i j : ℕ) (rest : List ℕ) → (j ≡ i → ⊥) → getD (less i rest) j 0 ≡ getD rest j 0
+unfolding less
+less-get i j rest n = getD-set-other rest i j (getD rest i 0 - 1) 0 n
+
+pub less-other : (i j : ℕ) (rest : List ℕ) → (j ≡ i → ⊥) → hasLeft (less i rest) j ≡ hasLeft rest j
+unfolding hasLeft
+less-other i j rest n = ap (ltb 0) (less-get i j rest n)
+
+-- one less is all that is missing
+pub less-close : (i j : ℕ) (rest : List ℕ) → getD rest j 0 ≤ suc (getD (less i rest) j 0)
+unfolding less
+less-close i j [] = omega arith
+less-close zero zero (n ∷ l) = omega arith
+less-close zero (suc j) (n ∷ l) = omega arith
+less-close (suc i) zero (n ∷ l) = omega arith
+less-close (suc i) (suc j) (n ∷ l) = less-close i j l
+
+-- never more than before
+pub less-few : (i j : ℕ) (rest : List ℕ) → getD (less i rest) j 0 ≤ getD rest j 0
+unfolding less
+less-few i j [] = omega arith
+less-few zero zero (n ∷ l) = omega arith
+less-few zero (suc j) (n ∷ l) = omega arith
+less-few (suc i) zero (n ∷ l) = omega arith
+less-few (suc i) (suc j) (n ∷ l) = less-few i j l
+
+module _ (K : Steps) where
+  -- as long as a thread has a step left there is a turn to look at
+  pub turns-on : (rest : List ℕ) (s : System) (i : ℕ) → hasLeft rest i ≡ true → turnsOf K rest s ≡ onTook (turn K (hasLeft rest) s) rest s (λ j t. turnsIn K (total (less i rest)) (less j rest) t)
+  unfolding turnsOf turnsIn
+  turns-on rest s i e = ap (λ k. turnsIn K k rest s) (less-total i rest e)
+
+  -- where it is taken turns go on with one less
+  pub turns-step : (rest : List ℕ) (s : System) {t : System} {i : ℕ} → hasLeft rest i ≡ true → turn K (hasLeft rest) s ≡ t-step i t → turnsOf K rest s ≡ turnsOf K (less i rest) t
+  unfolding onTook turnsOf
+  turns-step rest s {t} {i} e z = turns-on rest s i e ∙ ap (λ o. onTook o rest s (λ j t. turnsIn K (total (less i rest)) (less j rest) t)) z
+
+  -- where nobody may step they end
+  pub turns-none : (rest : List ℕ) {s : System} → next (λ i. live s i and hasLeft rest i) s ≡ none → turnsOf K rest s ≡ turned s-finished rest 0 s
+  unfolding turnsOf turnsIn onTook turn takeTurn
+  turns-none rest {s} e = at (total rest)
+    where
+      at : (k : ℕ) → turnsIn K k rest s ≡ turned s-finished rest 0 s
+      at zero = refl
+      at (suc k) = rw e
 
 -- Fewer that are asked: who is first of more, and is one of the fewer, is first of them too
 
@@ -95,7 +140,8 @@ module _ {T : Type 0} (code : ℕ → Cmd T) where
   K = stepsOf code
 
   -- a turn of the thread that is asked, by the step of any machine that has its thread and store
-  asked-step : {s : System} {p : Turn} (m : Clean) → Asked free s p (m .thread) → m .store ≡ s .store → spawning code (m .thread .control) ≡ false → turn K free s ≡ took (withOut (s .threads) (step code m)) p
+  asked-step : {may : ℕ → Bool} {s : System} {p : Turn} (m : Clean) → Asked may s p (m .thread) → m .store ≡ s .store → spawning code (m .thread .control) ≡ false
+      → turn K may s ≡ took (withOut (s .threads) (step code m)) p
   asked-step {s} {p} m a e f = asked-turn K a ∙ ap (λ o. took o p) (ap (step code) (ap (λ x. record { thread = m .thread; store = x; threads = s .threads }) (sym e)) ∙ others-unseen code m (s .threads) f)
 
   -- the step of one thread, by its answer
@@ -135,26 +181,34 @@ module _ {T : Type 0} (code : ℕ → Cmd T) where
   abbrev pub moved : System → Turn → Clean → System
   moved s p x = record { threads = set (s .threads) (p .at) (x .thread); store = x .store; round = p .round; from = suc (p .at) }
 
-  pub taken-turns : {s : System} {p : Turn} (m : Clean) {x : Clean} → Asked free s p (m .thread) → m .store ≡ s .store → spawning code (m .thread .control) ≡ false → step code m ≡ o-step x
-      → (r : ℕ) (cs : List ℕ) → turnsOf K (suc r) cs s ≡ turnsOf K r (bump (p .at) cs) (moved s p x)
-  unfolding turnsOf onTook took withOut
-  taken-turns {s} {p} m a q w z r cs = ap (λ o. onTook o cs s (λ j t. turnsOf K r (bump j cs) t)) (asked-step m a q w ∙ ap (λ o. took (withOut (s .threads) o) p) z)
+  module _ (rest : List ℕ) {s : System} {p : Turn} where
+    -- who is asked has a step left
+    asked-left : {t : Thread} → Asked (hasLeft rest) s p t → hasLeft rest (p .at) ≡ true
+    asked-left a = asked-free a .may-step
 
-  -- the step is not taken
-  pub noroom-turns : {s : System} {p : Turn} (m : Clean) → Asked free s p (m .thread) → m .store ≡ s .store → spawning code (m .thread .control) ≡ false → step code m ≡ o-room
-      → (r : ℕ) (cs : List ℕ) → turnsOf K (suc r) cs s ≡ turned s-noroom cs (p .at) s
-  unfolding turnsOf onTook took withOut
-  noroom-turns {s} {p} m a q w z r cs = ap (λ o. onTook o cs s (λ j t. turnsOf K r (bump j cs) t)) (asked-step m a q w ∙ ap (λ o. took (withOut (s .threads) o) p) z)
+    pub taken-turns : (m : Clean) {x : Clean} → Asked (hasLeft rest) s p (m .thread) → m .store ≡ s .store → spawning code (m .thread .control) ≡ false → step code m ≡ o-step x
+        → turnsOf K rest s ≡ turnsOf K (less (p .at) rest) (moved s p x)
+    unfolding took withOut
+    taken-turns m a q w z = turns-step K rest s (asked-left a) (asked-step m a q w ∙ ap (λ o. took (withOut (s .threads) o) p) z)
 
-  pub stuck-turns : {s : System} {p : Turn} (m : Clean) → Asked free s p (m .thread) → m .store ≡ s .store → spawning code (m .thread .control) ≡ false → step code m ≡ o-stuck
-      → (r : ℕ) (cs : List ℕ) → turnsOf K (suc r) cs s ≡ turned s-stuck cs (p .at) s
-  unfolding turnsOf onTook took withOut
-  stuck-turns {s} {p} m a q w z r cs = ap (λ o. onTook o cs s (λ j t. turnsOf K r (bump j cs) t)) (asked-step m a q w ∙ ap (λ o. took (withOut (s .threads) o) p) z)
+    -- the step is not taken
+    failed-turns : {t : Thread} → Asked (hasLeft rest) s p t → {o : Took} → turn K (hasLeft rest) s ≡ o → (r : Turned) → ((k : ℕ → System → Turned) → onTook o rest s k ≡ r) → turnsOf K rest s ≡ r
+    failed-turns a {o} z r f = turns-on K rest s (p .at) (asked-left a) ∙ ap (λ o. onTook o rest s (λ j t. turnsIn K (total (less (p .at) rest)) (less j rest) t)) z ∙ f _
 
-  pub denied-turns : {s : System} {p : Turn} (m : Clean) → Asked free s p (m .thread) → m .store ≡ s .store → spawning code (m .thread .control) ≡ false → step code m ≡ o-denied
-      → (r : ℕ) (cs : List ℕ) → turnsOf K (suc r) cs s ≡ turned s-denied cs (p .at) s
-  unfolding turnsOf onTook took withOut
-  denied-turns {s} {p} m a q w z r cs = ap (λ o. onTook o cs s (λ j t. turnsOf K r (bump j cs) t)) (asked-step m a q w ∙ ap (λ o. took (withOut (s .threads) o) p) z)
+    pub noroom-turns : (m : Clean) → Asked (hasLeft rest) s p (m .thread) → m .store ≡ s .store → spawning code (m .thread .control) ≡ false → step code m ≡ o-room
+        → turnsOf K rest s ≡ turned s-noroom rest (p .at) s
+    unfolding onTook took withOut
+    noroom-turns m a q w z = failed-turns a (asked-step m a q w ∙ ap (λ o. took (withOut (s .threads) o) p) z) _ (λ k. refl)
+
+    pub stuck-turns : (m : Clean) → Asked (hasLeft rest) s p (m .thread) → m .store ≡ s .store → spawning code (m .thread .control) ≡ false → step code m ≡ o-stuck
+        → turnsOf K rest s ≡ turned s-stuck rest (p .at) s
+    unfolding onTook took withOut
+    stuck-turns m a q w z = failed-turns a (asked-step m a q w ∙ ap (λ o. took (withOut (s .threads) o) p) z) _ (λ k. refl)
+
+    pub denied-turns : (m : Clean) → Asked (hasLeft rest) s p (m .thread) → m .store ≡ s .store → spawning code (m .thread .control) ≡ false → step code m ≡ o-denied
+        → turnsOf K rest s ≡ turned s-denied rest (p .at) s
+    unfolding onTook took withOut
+    denied-turns m a q w z = failed-turns a (asked-step m a q w ∙ ap (λ o. took (withOut (s .threads) o) p) z) _ (λ k. refl)
 
   -- the turn that enters a 0x42
   abbrev pub handed0 : Thread → Thread
@@ -163,21 +217,16 @@ module _ {T : Type 0} (code : ℕ → Cmd T) where
   abbrev pub spawned : System → Turn → Thread → ℕ → System
   spawned s p t b = record { threads = set (s .threads ++ (fresh b (t .env) ∷ [])) (p .at) (handed0 t); store = s .store; round = p .round; from = suc (p .at) }
 
-  pub start-turns : {s : System} {p : Turn} {t : Thread} {e b : ℕ} → Asked free s p t → t .control ≡ enter e → code e ≡ c-spawn b → length (s .threads) < most-threads
-      → (r : ℕ) (cs : List ℕ) → turnsOf K (suc r) cs s ≡ turnsOf K r (bump (p .at) cs) (spawned s p t b)
-  unfolding turnsOf onTook took step plan planOn enterCmd enterAt evaluated act bare actSpawn settle touchAll room
-  start-turns {s} {p} {t} {b = b} a c k l r cs =
-      let z : took (step code (alone s t)) p ≡ t-step (p .at) (spawned s p t b) = rw (c, k, lt-ltb (length (s .threads)) most-threads l) in
-      ap (λ o. onTook o cs s (λ j t. turnsOf K r (bump j cs) t)) (asked-turn K a ∙ z)
+  module _ (rest : List ℕ) {s : System} {p : Turn} {t : Thread} {e b : ℕ} where
+    pub start-turns : Asked (hasLeft rest) s p t → t .control ≡ enter e → code e ≡ c-spawn b → length (s .threads) < most-threads
+        → turnsOf K rest s ≡ turnsOf K (less (p .at) rest) (spawned s p t b)
+    unfolding took step plan planOn enterCmd enterAt evaluated act bare actSpawn settle touchAll room
+    start-turns a c k l =
+        let z : took (step code (alone s t)) p ≡ t-step (p .at) (spawned s p t b) = rw (c, k, lt-ltb (length (s .threads)) most-threads l) in
+        turns-step K rest s (asked-left rest a) (asked-turn K a ∙ z)
 
-  pub full-turns : {s : System} {p : Turn} {t : Thread} {e b : ℕ} → Asked free s p t → t .control ≡ enter e → code e ≡ c-spawn b → most-threads ≤ length (s .threads)
-      → (r : ℕ) (cs : List ℕ) → turnsOf K (suc r) cs s ≡ turned s-noroom cs (p .at) s
-  unfolding turnsOf onTook took step plan planOn enterCmd enterAt evaluated act bare actSpawn settle touchAll room
-  full-turns {s} {p} {t} a c k l r cs =
-      let z : took (step code (alone s t)) p ≡ t-room (p .at) = rw (c, k, le-ltb (length (s .threads)) most-threads l) in
-      ap (λ o. onTook o cs s (λ j t. turnsOf K r (bump j cs) t)) (asked-turn K a ∙ z)
-
-  -- nobody is left
-  pub idle-turns : {s : System} → next (asking s) s ≡ none → (r : ℕ) (cs : List ℕ) → turnsOf K (suc r) cs s ≡ turned s-finished cs 0 s
-  unfolding turnsOf onTook turn takeTurn
-  idle-turns {s} e r cs = rw e
+    pub full-turns : Asked (hasLeft rest) s p t → t .control ≡ enter e → code e ≡ c-spawn b → most-threads ≤ length (s .threads) → turnsOf K rest s ≡ turned s-noroom rest (p .at) s
+    unfolding onTook took step plan planOn enterCmd enterAt evaluated act bare actSpawn settle touchAll room
+    full-turns a c k l =
+        let z : took (step code (alone s t)) p ≡ t-room (p .at) = rw (c, k, le-ltb (length (s .threads)) most-threads l) in
+        failed-turns rest a (asked-turn K a ∙ z) _ (λ k. refl)

@@ -79,7 +79,7 @@ pub record Started (a b : List ℕ) (i k : ℕ) (slots : List ℕ) : Type 0 wher
   pub own : ownAt b i ≡ record { control = hand (unkeyed (k-num 0)); env = ownAt a i .env; on = ownAt a i .on; frames = ownAt a i .frames }
   pub others : (j : ℕ) → (j ≡ i → ⊥) → (j ≡ k → ⊥) → ownAt b j ≡ ownAt a j
 
--- thread j is marked as live
+-- thread j is marked: it may have a turn
 unfoldable pub marked : List ℕ → ℕ → Bool
 marked l j = eqb (getD l j 0) 1
 
@@ -88,4 +88,4 @@ whoseIn (whose.Thread i r) = some (record { at = i; round = r })
 whoseIn whose.Nobody = none
 
 abbrev pub turnedIn : Turned → Tables → turns.Turned
-turnedIn r w = turns.turned (answerIn (r .answer)) (r .scheduler .counts) (r .thread) (systemIn (r .scheduler) w)
+turnedIn r w = turns.turned (answerIn (r .answer)) (r .scheduler .rest) (r .thread) (systemIn (r .scheduler) w)

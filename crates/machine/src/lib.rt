@@ -27,17 +27,17 @@ pub enum Answer {
     Denied,
 }
 
-// Where turns stand: 1 for each thread that may be live, the steps that each took, how many threads there are, the round and who stepped last, and what the store uses.
+// Where turns stand: 1 for each thread that may have a turn, the steps that are left to each, how many threads there are, the round and who stepped last, and what the store uses.
 pub struct Scheduler {
     pub live: [u8; MOST_THREADS],
-    pub counts: [u64; MOST_THREADS],
+    pub rest: [u64; MOST_THREADS],
     pub count: usize,
     pub round: usize,
     pub from: usize,
     pub used: Used,
 }
 
-// Turns that ended: where they led, who failed (0 where none did), and why they ended.
+// Where turns led, who failed (0 where none did), and why they ended: Finished where nobody may step. Taken where they go on.
 pub struct Turned {
     pub scheduler: Scheduler,
     pub thread: usize,

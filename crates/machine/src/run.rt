@@ -3,7 +3,9 @@ use crate::Answer;
 use crate::Machine;
 use crate::Outcome;
 use crate::Scheduler;
+use crate::Whose;
 use crate::ahead::first;
+use crate::ahead::next_turn;
 use crate::turns::mark;
 use crate::turns::turns;
 use crate::words::put_threads;
@@ -14,15 +16,16 @@ use thread::Thread;
 ghost use mathlib.Core.Path.{_≡_};
 ghost use mathlib.Core.Bool.{cond};
 ghost use mathlib.Core.List.{List};
-ghost use Prim.Native.Nat.{ℕ, _-_, _≤_};
-ghost use lib.ListN.{getElem?};
+ghost use Prim.Native.Nat.{ℕ, _-_, _≤_, _<_};
+ghost use lib.ListN.{getElem?, getD};
 ghost use Rattle.semantics.specs.Machine.{most-threads};
 ghost use Rattle.semantics.specs.Threads.{stepsOf, liveThread, allDone};
-ghost use Rattle.semantics.specs.Calls.{finished, spent, no-steps, one-step, run-of, call};
+ghost use Rattle.semantics.specs.Calls.{finished, spent, one-step, run-of, call};
 ghost use Rattle.store.specs.Tables.{capped};
 ghost use Rattle.acts.specs.Meaning as meaning;
 ghost use Rattle.acts.specs.Lent.{lentCode};
 ghost use Rattle.machine.specs.Turns.{turnsOf, saidBy, threadBy, says};
+ghost use Rattle.machine.specs.TurnsCalls.{Split};
 ghost use Rattle.machine.specs.Scheduled.{threadAt, listed, marked};
 ghost use Rattle.machine.specs.View.{seen, answerIn, ranIn};
 
@@ -41,6 +44,23 @@ fn marks(threads: [Thread; MOST_THREADS], count: usize) -> [u8; MOST_THREADS]
     live
 }
 
+// The steps that each thread took, by those that are left.
+fn taken(allow: [u64; MOST_THREADS], rest: [u64; MOST_THREADS]) -> [u64; MOST_THREADS]
+    requires { ⌜ ((j : ℕ) → j < most-threads → getD rest j 0 ≤ getD allow j 0) ⌝ }
+    ensures { λ r. ⌜ Split allow r rest ⌝ }
+{
+    [
+        allow[0] - rest[0],
+        allow[1] - rest[1],
+        allow[2] - rest[2],
+        allow[3] - rest[3],
+        allow[4] - rest[4],
+        allow[5] - rest[5],
+        allow[6] - rest[6],
+        allow[7] - rest[7],
+    ]
+}
+
 fn closed(done: bool) -> Answer
     ensures { λ r. ⌜ answerIn r ≡ cond done finished spent ⌝ }
 {
@@ -56,8 +76,8 @@ fn told(run: bool, done: bool, a: acts::Answer) -> Answer
     ensures { λ r. ⌜ answerIn r ≡ saidBy run done (meaning.answerIn a) ⌝ }
 {
     match a {
-        acts::Answer::Taken => { if run { closed(done) } else { Answer::Taken } }
-        acts::Answer::Finished => closed(done),
+        acts::Answer::Taken => closed(done),
+        acts::Answer::Finished => { if run { closed(done) } else { Answer::Taken } }
         acts::Answer::NoRoom => Answer::NoRoom,
         acts::Answer::Stuck => Answer::Stuck,
         acts::Answer::Denied => Answer::Denied,
@@ -77,8 +97,8 @@ fn thread_told(run: bool, a: acts::Answer, i: usize, from: usize) -> usize
     ensures { λ r. ⌜ r ≡ threadBy run (meaning.answerIn a) i from ⌝ }
 {
     match a {
-        acts::Answer::Taken => { if run { 0 } else { one_less(from) } }
-        acts::Answer::Finished => 0,
+        acts::Answer::Taken => 0,
+        acts::Answer::Finished => { if run { 0 } else { one_less(from) } }
         acts::Answer::NoRoom => i,
         acts::Answer::Stuck => i,
         acts::Answer::Denied => i,
@@ -104,17 +124,17 @@ pub fn all_finished(threads: [Thread; MOST_THREADS], count: u8) -> bool
 }
 
 impl Machine {
-    // Up to n turns, as a run or as a step.
+    // Turns as long as a thread has one of its allowance to take, as a run or as a step.
     fn call(
         self,
-        n: u64,
+        allow: [u64; MOST_THREADS],
         run: bool,
         heads: &[u64],
         slots: &[u16],
         frames: &mut [u64; THREADS_WORDS],
     ) -> Outcome
         ensures { λ r. ⌜
-            ranIn r (now (frames .exit)) ≡ says run (turnsOf (stepsOf (lentCode heads slots)) n no-steps (seen self (now (frames .entry))))
+            ranIn r (now (frames .exit)) ≡ says run allow (turnsOf (stepsOf (lentCode heads slots)) allow (seen self (now (frames .entry))))
             ⌝ }
     {
         let threads = self.threads;
@@ -122,7 +142,7 @@ impl Machine {
         let count = within(self.count);
         let scheduler = Scheduler {
             live: marks(threads, count),
-            counts: [0u64; MOST_THREADS],
+            rest: allow,
             count: count,
             round: within(self.round),
             from: self.from as usize,
@@ -136,7 +156,6 @@ impl Machine {
         let mut bindings = self.bindings;
         let s = turns(
             scheduler,
-            n,
             heads,
             slots,
             &mut frames[..],
@@ -150,7 +169,7 @@ impl Machine {
         let a = s.answer;
         let ts = threads_in(&frames[..]);
         let us = c.used;
-        let counts = c.counts;
+        let left = c.rest;
         let m = Machine {
             threads: ts,
             count: (c.count % 256) as u8,
@@ -166,29 +185,43 @@ impl Machine {
         let done = all_finished(ts, (c.count % 256) as u8);
         Outcome {
             machine: m,
-            counts: counts,
+            counts: taken(allow, left),
             thread: (thread_told(run, a, s.thread, c.from) % 256) as u8,
             answer: told(run, done, a),
         }
     }
 
-    // One turn: a step of the thread whose turn it is.
+    // One turn: a step of the thread whose turn it is. That is a run in which it alone may step, once.
     pub fn step(self, heads: &[u64], slots: &[u16], frames: &mut [u64; THREADS_WORDS]) -> Outcome
         ensures { λ r. ⌜ ranIn r (now (frames .exit)) ≡ call (stepsOf (lentCode heads slots)) one-step (seen self (now (frames .entry))) ⌝ }
     {
-        self.call(1, false, heads, slots, frames)
+        let mut one = [0u64; MOST_THREADS];
+        let threads = self.threads;
+        let count = within(self.count);
+        let live = marks(threads, count);
+        let whose = next_turn(&live, self.from as usize, within(self.round), count);
+        let Whose::Thread(i, _) = whose else {
+            return Outcome {
+                machine: self,
+                counts: one,
+                thread: 0,
+                answer: Answer::Finished,
+            };
+        };
+        one[i] = 1;
+        self.call(one, false, heads, slots, frames)
     }
 
-    // Up to n steps, of all threads.
+    // As long as a thread has a step of its allowance left.
     pub fn run(
         self,
-        n: u64,
+        allow: [u64; MOST_THREADS],
         heads: &[u64],
         slots: &[u16],
         frames: &mut [u64; THREADS_WORDS],
     ) -> Outcome
-        ensures { λ r. ⌜ ranIn r (now (frames .exit)) ≡ call (stepsOf (lentCode heads slots)) (run-of n) (seen self (now (frames .entry))) ⌝ }
+        ensures { λ r. ⌜ ranIn r (now (frames .exit)) ≡ call (stepsOf (lentCode heads slots)) (run-of allow) (seen self (now (frames .entry))) ⌝ }
     {
-        self.call(n, true, heads, slots, frames)
+        self.call(allow, true, heads, slots, frames)
     }
 }

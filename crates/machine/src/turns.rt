@@ -1,4 +1,4 @@
-// Turns: those that are known ahead, and what comes between them, a thread that is found finished or a new one.
+// Turns: those that are known ahead, and what comes between them: a thread that is found finished or without a step left, a new one.
 use crate::Rounds;
 use crate::Scheduler;
 use crate::Turned;
@@ -28,13 +28,12 @@ ghost use mathlib.Core.Path.{_≡_};
 ghost use mathlib.Core.Bool.{cond};
 ghost use mathlib.Core.List.{List, []};
 ghost use mathlib.Core.Option.{some};
-ghost use Prim.Native.Nat.{ℕ, _<_, _≤_, _+_, _*_, _^_};
+ghost use Prim.Native.Nat.{ℕ, _<_, _≤_, _*_};
 ghost use lib.ListN.{length, getD};
 ghost use lib.Dec.{eqb, ltb};
 ghost use Rattle.semantics.specs.Machine.{Thread as SThread, enter, most-threads};
 ghost use Rattle.semantics.specs.Step as semantics;
-ghost use Rattle.semantics.specs.Threads.{stepsOf, liveThread, live};
-ghost use Rattle.semantics.specs.Calls.{no-steps};
+ghost use Rattle.semantics.specs.Threads.{stepsOf, liveThread};
 ghost use Rattle.store.specs.Frames.{threads-words};
 ghost use Rattle.acts.specs.declared.Control.the-variants.{Hand};
 ghost use Rattle.acts.specs.Meaning.{controlIn};
@@ -45,8 +44,8 @@ ghost use Rattle.thread.specs.Own.{withControl};
 ghost use Rattle.thread.specs.Inner.{ownState, endedAs, steppedBy};
 ghost use Rattle.thread.specs.Lent.{after};
 ghost use Rattle.machine.specs.Turns.{turnsOf};
-ghost use Rattle.machine.specs.Ahead.{Rounded, RoundsFrom};
-ghost use Rattle.machine.specs.Scheduled.{threadIn, partOf, systemIn, marked, turnedIn, Started};
+ghost use Rattle.machine.specs.Ahead.{Held, MarksLeft, Least, withMarks, RoundsFrom, roundedBy, Rounded, without, onward, isOnward, Begun, Few, Advanced};
+ghost use Rattle.machine.specs.Scheduled.{threadIn, partOf, systemIn, turnedIn, Started};
 
 // The body of the 0x42 that is to be entered.
 fn body_of(t: Thread, slots: &[u16]) -> Expr
@@ -151,11 +150,58 @@ fn visit(
     )
 }
 
-// How many turns are known ahead: all that are left where all threads are in the round, else one.
-fn quota(r: usize, count: usize, left: u64) -> u64
-    ensures { λ q. ⌜ q ≡ cond (eqb r count) left 1 ⌝ }
+// The mark of a thread with so many steps left.
+fn kept(mark: u8, steps: u64) -> u8
+    ensures { λ r. ⌜ r ≡ cond (ltb 0 steps) mark 0 ⌝ }
 {
-    if r == count { left } else { 1 }
+    if 0 < steps { mark } else { 0 }
+}
+
+// The marks of those that have a step left.
+fn with_left<'a>(live: &'a [u8; MOST_THREADS], rest: &'a [u64; MOST_THREADS]) -> [u8; MOST_THREADS]
+    requires { ⌜ (length (now live) ≡ most-threads) × (length (now rest) ≡ most-threads) ⌝ }
+    ensures { λ r. ⌜ MarksLeft (now (live .entry)) (now (rest .entry)) r ⌝ }
+{
+    let mut left = [0u8; MOST_THREADS];
+    let mut i: usize = 0;
+    while i < MOST_THREADS {
+        left[i] = kept(live[i], rest[i]);
+        i = i + 1;
+    }
+    left
+}
+
+// The fewer of n steps and those of a thread, if it is marked.
+fn fewer(n: u64, mark: u8, steps: u64) -> u64
+    ensures { λ r. ⌜ r ≡ cond (eqb mark 1) (cond (ltb steps n) steps n) n ⌝ }
+{
+    if mark == 1 {
+        if steps < n {
+            return steps;
+        }
+        return n;
+    }
+    n
+}
+
+// The fewest steps that are left to a marked thread, and at most `most`.
+fn least<'a>(live: &'a [u8; MOST_THREADS], rest: &'a [u64; MOST_THREADS], most: u64) -> u64
+    ensures { λ n. ⌜ Least (now (live .entry)) (now (rest .entry)) most n ⌝ }
+{
+    let mut n = most;
+    let mut i: usize = 0;
+    while i < MOST_THREADS {
+        n = fewer(n, live[i], rest[i]);
+        i = i + 1;
+    }
+    n
+}
+
+// How many turns are known ahead: `most` where all threads are in the round, else one.
+fn quota(r: usize, count: usize, most: u64) -> u64
+    ensures { λ q. ⌜ q ≡ cond (eqb r count) most 1 ⌝ }
+{
+    if r == count { most } else { 1 }
 }
 
 // b where a turn was taken, and a where none was.
@@ -171,7 +217,7 @@ fn rounds(
     us: Used,
     n: u64,
     known: &[usize; AHEAD],
-    counts: &mut [u64; MOST_THREADS],
+    rest: &mut [u64; MOST_THREADS],
     heads: &[u64],
     slots: &[u16],
     words: &mut [u64],
@@ -182,12 +228,13 @@ fn rounds(
     bindings: &mut [u64; BINDING_WORDS],
 ) -> Rounds
     requires { ⌜
-        (first < most-threads) × (length (now words) ≡ threads-words) × ((j : ℕ) → getD (now counts) j 0 + n < 2 ^ 64)
-        × ((f : ℕ) → f ≤ most-threads → 1 < n → getD (now known) f 0 < most-threads) × (length (now counts) ≡ most-threads)
+        (length (now words) ≡ threads-words) × (first < most-threads) × (n ≤ getD (now rest) first 0)
+        × ((f : ℕ) → f ≤ most-threads → 1 < n → (getD (now known) f 0 < most-threads) × (n ≤ getD (now rest) (getD (now known) f 0) 0))
         ⌝ }
     ensures { λ z. ⌜
-        ((live : List ℕ) (count round from r : ℕ) → RoundsFrom live count round from r n (now (known .entry)) first (now (counts .entry)) us (before [] words cells keys pairs functions bindings)
-        → Rounded (lentCode heads slots) (record { live = live; counts = now (counts .entry); count = count; round = round; from = from; used = us }) (before [] words cells keys pairs functions bindings) r n z (now (counts .exit)) (after [] words cells keys pairs functions bindings))
+        ((live : List ℕ) (count round from r : ℕ) → RoundsFrom live count round from r n (now (known .entry)) first (now (rest .entry)) us (before [] words cells keys pairs functions bindings)
+        → Rounded (lentCode heads slots) (record { live = live; rest = now (rest .entry); count = count; round = round; from = from; used = us })
+        (before [] words cells keys pairs functions bindings) r n z (now (rest .exit)) (after [] words cells keys pairs functions bindings))
         ⌝ }
 {
     let mut i = first;
@@ -219,7 +266,7 @@ fn rounds(
                 answer: a,
             };
         };
-        counts[i] = counts[i] + 1;
+        rest[i] = rest[i] - 1;
         left = left - 1;
         last = i;
         i = known[i + 1];
@@ -233,10 +280,90 @@ fn rounds(
     }
 }
 
-// Turns one after another, up to n. A thread that is found finished when its turn comes is passed over from then on.
-pub(crate) fn turns(
-    scheduler: Scheduler,
+// The scheduler with these marks, after n turns that were known ahead, or fewer, in a round of r threads.
+fn rounded(
+    c: Scheduler,
+    live: [u8; MOST_THREADS],
+    r: usize,
     n: u64,
+    rest: [u64; MOST_THREADS],
+    s: Rounds,
+) -> Scheduler
+    requires { ⌜ s .last < most-threads ⌝ }
+    ensures { λ z. ⌜ z ≡ roundedBy (withMarks c live) r n (s .left) (s .last) rest (s .used) ⌝ }
+{
+    let used = s.used;
+    Scheduler {
+        live: live,
+        rest: rest,
+        count: c.count,
+        round: later(s.left, n, c.round, r),
+        from: later(s.left, n, c.from, s.last + 1),
+        used: used,
+    }
+}
+
+// Thread i is passed over from now on.
+fn passed(c: Scheduler, i: usize) -> Turned
+    requires { ⌜ i < most-threads ⌝ }
+    ensures { λ z. ⌜ z ≡ onward (without c i) ⌝ }
+{
+    let mut live = c.live;
+    live[i] = 0;
+    let rest = c.rest;
+    let used = c.used;
+    let next = Scheduler {
+        live: live,
+        rest: rest,
+        count: c.count,
+        round: c.round,
+        from: c.from,
+        used: used,
+    };
+    Turned {
+        scheduler: next,
+        thread: 0,
+        answer: Answer::Taken,
+    }
+}
+
+// Thread i enters a 0x42, in a round of r threads: a thread starts, where there is a place for it.
+fn begin(c: Scheduler, i: usize, r: usize, slots: &[u16], words: &mut [u64]) -> Turned
+    requires { ⌜ (i < c .count) × (c .count ≤ most-threads) × (0 < getD (c .rest) i 0) × (length (now words) ≡ threads-words) ⌝ }
+    ensures { λ z. ⌜ Begun c i r (now (slots .entry)) (now (words .entry)) z (now (words .exit)) ⌝ }
+{
+    let count = c.count;
+    if MOST_THREADS <= count {
+        return Turned {
+            scheduler: c,
+            thread: i,
+            answer: Answer::NoRoom,
+        };
+    }
+    start(words, i, count, slots);
+    let mut live = c.live;
+    live[count] = 1;
+    let mut rest = c.rest;
+    rest[i] = rest[i] - 1;
+    let used = c.used;
+    let next = Scheduler {
+        live: live,
+        rest: rest,
+        count: count + 1,
+        round: r,
+        from: i + 1,
+        used: used,
+    };
+    Turned {
+        scheduler: next,
+        thread: 0,
+        answer: Answer::Taken,
+    }
+}
+
+// The turns that are known ahead, and what the answer of the thread that was asked last makes of them. One that has no step left, or is found finished, is passed over from then on.
+fn advance(
+    c: Scheduler,
     heads: &[u64],
     slots: &[u16],
     words: &mut [u64],
@@ -246,39 +373,92 @@ pub(crate) fn turns(
     functions: &mut [u64; FUNCTION_WORDS],
     bindings: &mut [u64; BINDING_WORDS],
 ) -> Turned
-    requires { ⌜
-        (length (now words) ≡ threads-words) × (scheduler .count ≤ most-threads) × (scheduler .round ≤ most-threads) × (scheduler .from ≤ 255) × (scheduler .counts ≡ no-steps)
-        × ((j : ℕ) → marked (scheduler .live) j ≡ live (systemIn scheduler (tables [] (now words) (now cells) (now keys) (now pairs) (now functions) (now bindings))) j)
-        ⌝ }
+    requires { ⌜ (length (now words) ≡ threads-words) × Held c (tables [] (now words) (now cells) (now keys) (now pairs) (now functions) (now bindings)) ⌝ }
+    ensures { λ z. ⌜ Advanced (lentCode heads slots) c (before [] words cells keys pairs functions bindings) z (after [] words cells keys pairs functions bindings) ⌝ }
+{
+    let mut rest = c.rest;
+    let marks = c.live;
+    let live = with_left(&marks, &rest);
+    let whose = next_turn(&live, c.from, c.round, c.count);
+    let Whose::Thread(first, r) = whose else {
+        return Turned {
+            scheduler: c,
+            thread: 0,
+            answer: Answer::Finished,
+        };
+    };
+    let known = ahead(&live, c.count);
+    let most = rest[first];
+    let n = quota(r, c.count, least(&live, &rest, most));
+    let used = c.used;
+    let s = rounds(
+        first,
+        used,
+        n,
+        &known,
+        &mut rest,
+        heads,
+        slots,
+        words,
+        cells,
+        keys,
+        pairs,
+        functions,
+        bindings,
+    );
+    let next = rounded(c, live, r, n, rest, s);
+    let i = s.at;
+    let a = s.answer;
+    match a {
+        Answer::Finished => passed(next, i),
+        Answer::Starts => begin(next, i, r, slots, words),
+        _ => Turned {
+            scheduler: next,
+            thread: i,
+            answer: a,
+        },
+    }
+}
+
+// Whether turns go on.
+fn goes_on(a: Answer) -> bool
+    ensures { λ r. ⌜ r ≡ isOnward a ⌝ }
+{
+    match a {
+        Answer::Taken => true,
+        _ => false,
+    }
+}
+
+// Turns one after another, as long as a thread has one to take.
+pub(crate) fn turns(
+    scheduler: Scheduler,
+    heads: &[u64],
+    slots: &[u16],
+    words: &mut [u64],
+    cells: &mut [u64; CELL_WORDS],
+    keys: &mut [u8; KEY_BYTES],
+    pairs: &mut [u64; PAIR_WORDS],
+    functions: &mut [u64; FUNCTION_WORDS],
+    bindings: &mut [u64; BINDING_WORDS],
+) -> Turned
+    requires { ⌜ (length (now words) ≡ threads-words) × Held scheduler (tables [] (now words) (now cells) (now keys) (now pairs) (now functions) (now bindings)) ⌝ }
     ensures turns { λ r. ⌜
         turnedIn r (after [] words cells keys pairs functions bindings) ≡
-        turnsOf (stepsOf (lentCode heads slots)) n no-steps (systemIn scheduler (before [] words cells keys pairs functions bindings))
+        turnsOf (stepsOf (lentCode heads slots)) (scheduler .rest) (systemIn scheduler (before [] words cells keys pairs functions bindings))
         ⌝ }
-    ensures few { λ r. ⌜ (r .scheduler .count ≤ most-threads) × (r .scheduler .round ≤ most-threads) × (r .scheduler .from ≤ 255) × (r .thread < most-threads) ⌝ }
+    ensures few { λ r. ⌜ Few (scheduler .rest) r ⌝ }
 {
-    let mut live = scheduler.live;
-    let mut counts = scheduler.counts;
-    let mut count = scheduler.count;
-    let mut round = scheduler.round;
-    let mut from = scheduler.from;
-    let mut used = scheduler.used;
-    let mut failed: usize = 0;
-    let mut answer = Answer::Taken;
-    let mut left = n;
-    while 0 < left {
-        let whose = next_turn(&live, from, round, count);
-        let Whose::Thread(first, r) = whose else {
-            answer = Answer::Finished;
-            break;
-        };
-        let known = ahead(&live, count);
-        let q = quota(r, count, left);
-        let s = rounds(
-            first,
-            used,
-            q,
-            &known,
-            &mut counts,
+    let mut t = Turned {
+        scheduler: scheduler,
+        thread: 0,
+        answer: Answer::Taken,
+    };
+    let mut a = Answer::Taken;
+    while goes_on(a) {
+        let c = t.scheduler;
+        let next = advance(
+            c,
             heads,
             slots,
             words,
@@ -288,50 +468,9 @@ pub(crate) fn turns(
             functions,
             bindings,
         );
-        let us = s.used;
-        let a = s.answer;
-        let i = s.at;
-        used = us;
-        round = later(s.left, q, round, r);
-        from = later(s.left, q, from, s.last + 1);
-        left = left - (q - s.left);
-        match a {
-            Answer::Taken => {}
-            Answer::Finished => {
-                live[i] = 0;
-            }
-            Answer::Starts => {
-                if MOST_THREADS <= count {
-                    answer = Answer::NoRoom;
-                    failed = i;
-                    break;
-                }
-                start(words, i, count, slots);
-                live[count] = 1;
-                counts[i] = counts[i] + 1;
-                count = count + 1;
-                left = left - 1;
-                round = r;
-                from = i + 1;
-            }
-            _ => {
-                answer = a;
-                failed = i;
-                break;
-            }
-        }
+        t = next;
+        let b = next.answer;
+        a = b;
     }
-    let c = Scheduler {
-        live: live,
-        counts: counts,
-        count: count,
-        round: round,
-        from: from,
-        used: used,
-    };
-    Turned {
-        scheduler: c,
-        thread: failed,
-        answer: answer,
-    }
+    t
 }

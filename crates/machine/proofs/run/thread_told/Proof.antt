@@ -6,11 +6,11 @@ use Rattle.machine.proofs.run.thread_told.Tie as tie
 enum-told : tie.Need-enum-told
 enum-told c = search needs
 
-one-less-requires : tie.Need-one-less-requires
-one-less-requires c κs = search needs
-
 enum-told-2 : tie.Need-enum-told-2
 enum-told-2 c = search needs
+
+one-less-requires : tie.Need-one-less-requires
+one-less-requires c κs = search needs
 
 enum-told-3 : tie.Need-enum-told-3
 enum-told-3 c = search needs
@@ -30,11 +30,11 @@ returns c = search needs
 
 returns-2 : tie.Need-returns-2
 unfolding threadBy
-returns-2 c = simp (c .before .if1 .left, c .before .before .enum-told .given .1) (c .one-less .ensures)
+returns-2 c = search needs
 
 returns-3 : tie.Need-returns-3
 unfolding threadBy
-returns-3 c = search needs
+returns-3 c = simp (c .before .if1 .left, c .before .before .enum-told2 .given .1) (c .one-less .ensures)
 
 returns-4 : tie.Need-returns-4
 unfolding threadBy
@@ -57,8 +57,8 @@ thread-told-spec =
     tie.close
     (tie.spec
     enum-told
-    one-less-requires
     enum-told-2
+    one-less-requires
     enum-told-3
     enum-told-4
     enum-told-5

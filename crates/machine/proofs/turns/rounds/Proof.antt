@@ -4,7 +4,8 @@ use mathlib.Core.List.{[]}
 use lib.ListN.{length}
 use Rattle.store.specs.Frames.{threads-words}
 use Rattle.acts.specs.View.{tables}
-use Rattle.machine.proofs.Rounding.{RoundsTo, start-rounds, all-rounds, i-small, refused, next-round}
+use Rattle.machine.specs.Turns.{less}
+use Rattle.machine.proofs.Rounding.{RoundsTo, start-rounds, all-rounds, i-small, some-steps, refused, next-round}
 use Rattle.machine.proofs.turns.rounds.Statement.{statement}
 use Rattle.machine.proofs.turns.rounds.Tie as tie
 use Rattle.machine.proofs.turns.rounds.Reads as reads
@@ -12,11 +13,11 @@ use Rattle.machine.proofs.turns.rounds.Lts as lts
 use Rattle.machine.proofs.turns.visit.Reads as visit-reads
 
 abbrev Inv-loop : tie.InvT-loop
-Inv-loop first n known counts₀ heads slots words₀ cells₀ keys₀ pairs₀ functions₀ bindings₀ i₀ last₀ used₀ left₀ counts words cells keys pairs functions bindings i last used left =
-    RoundsTo heads slots n i₀ known counts₀ used₀ (tables [] words₀ cells₀ keys₀ pairs₀ functions₀ bindings₀) counts (tables [] words cells keys pairs functions bindings) i last used left
+Inv-loop first n known rest₀ heads slots words₀ cells₀ keys₀ pairs₀ functions₀ bindings₀ i₀ last₀ used₀ left₀ rest words cells keys pairs functions bindings i last used left =
+    RoundsTo heads slots n i₀ known rest₀ used₀ (tables [] words₀ cells₀ keys₀ pairs₀ functions₀ bindings₀) rest (tables [] words cells keys pairs functions bindings) i last used left
 
 abbrev μ-loop : tie.MeasureT-loop
-μ-loop first n known counts₀ heads slots words₀ cells₀ keys₀ pairs₀ functions₀ bindings₀ i₀ last₀ used₀ left₀ counts words cells keys pairs functions bindings i last used left =
+μ-loop first n known rest₀ heads slots words₀ cells₀ keys₀ pairs₀ functions₀ bindings₀ i₀ last₀ used₀ left₀ rest words cells keys pairs functions bindings i last used left =
     left
 
 -- after a step
@@ -28,7 +29,7 @@ long-after : (z : Vis) → length (z .visit .last .1 .1 .1 .1 .0) ≡ threads-wo
 long-after z = search (needs, z .before .before .before .before .before .before .before .before .loop .inv .room)
 
 loop-holds : tie.Need-loop-holds Inv-loop μ-loop
-loop-holds c = start-rounds _ _ _ _ _ _ _ _ (c .before .before .before .pre .0) (c .before .before .before .pre .1) (c .before .before .before .pre .4)
+loop-holds c = start-rounds _ _ _ _ _ _ _ _ (c .before .before .before .pre .0) (c .before .before .before .pre .1) (c .before .before .before .pre .2)
 
 visit-requires : tie.Need-visit-requires Inv-loop μ-loop
 visit-requires c κs = let h = i-small (c .before .before .before .before .before .before .before .loop .inv) (c .before .before .before .before .before .before .loop-test .taken) in (search (needs, h), c .before .before .before .before .before .before .before .loop .inv .room)
@@ -42,20 +43,20 @@ same-length c = search needs
 returns : tie.Need-returns Inv-loop μ-loop
 returns c = λ lv count round step turn z. refused (c .before .before .before .before .before .before .before .before .before .before .before .before .loop .inv) (c .before .before .before .before .before .before .before .before .before .before .before .loop-test .taken) (c .before .before .before .before .visit .result) (tables [] (c .before .before .before .before .visit .last .1 .1 .1 .1 .0) (c .before .before .before .before .visit .last .1 .1 .1 .1 .1 .0) (c .before .before .before .before .visit .last .1 .1 .1 .1 .1 .1 .0) (c .before .before .before .before .visit .last .1 .1 .1 .1 .1 .1 .1 .0) (c .before .before .before .before .visit .last .1 .1 .1 .1 .1 .1 .1 .1 .0) (c .before .before .before .before .visit .last .1 .1 .1 .1 .1 .1 .1 .1 .1 .0)) (long-after (c .before .before .before .before)) (c .before .before .before .before .visit .ensures .0) (c .before .before .before .before .visit .ensures .1) (c .match .keys2) lv count round step turn z
 
-mul-counts : tie.Need-mul-counts Inv-loop μ-loop
-mul-counts c = let h = i-small (c .before .before .before .before .before .before .before .before .before .before .before .before .before .loop .inv) (c .before .before .before .before .before .before .before .before .before .before .before .before .loop-test .taken) in search (needs, h)
+mul-rest : tie.Need-mul-rest Inv-loop μ-loop
+mul-rest c = let h = i-small (c .before .before .before .before .before .before .before .before .before .before .before .before .before .loop .inv) (c .before .before .before .before .before .before .before .before .before .before .before .before .loop-test .taken) in search (needs, h)
 
-element-copy-out-counts : tie.Need-element-copy-out-counts Inv-loop μ-loop
-element-copy-out-counts c = let h = i-small (c .before .before .before .before .before .before .before .before .before .before .before .before .before .loop .inv) (c .before .before .before .before .before .before .before .before .before .before .before .before .loop-test .taken) in search (needs, h)
+element-copy-out-rest : tie.Need-element-copy-out-rest Inv-loop μ-loop
+element-copy-out-rest c = let h = i-small (c .before .before .before .before .before .before .before .before .before .before .before .before .before .loop .inv) (c .before .before .before .before .before .before .before .before .before .before .before .before .loop-test .taken) in search (needs, h)
 
-add-counts : tie.Need-add-counts Inv-loop μ-loop
-add-counts c = let h = c .before .before .before .before .before .before .before .before .before .before .before .before .before .before .loop .inv .counted (c .before .before .before .before .before .before .before .before .before .before .before .before .before .before .loop .i) in let g = c .before .before .before .before .before .before .before .before .before .before .before .before .before .before .before .before .before .before .pre .2 (c .before .before .before .before .before .before .before .before .before .before .before .before .before .before .loop .i) in search (needs, h, g, c .before .before .before .before .before .before .before .before .before .before .before .before .before .loop-test .taken)
+sub-rest : tie.Need-sub-rest Inv-loop μ-loop
+sub-rest c = let h = some-steps (c .before .before .before .before .before .before .before .before .before .before .before .before .before .before .loop .inv) (c .before .before .before .before .before .before .before .before .before .before .before .before .before .loop-test .taken) in search (needs, h)
 
-mul-counts-2 : tie.Need-mul-counts-2 Inv-loop μ-loop
-mul-counts-2 c = let h = i-small (c .before .before .before .before .before .before .before .before .before .before .before .before .before .before .loop .inv) (c .before .before .before .before .before .before .before .before .before .before .before .before .before .loop-test .taken) in search (needs, h)
+mul-rest-2 : tie.Need-mul-rest-2 Inv-loop μ-loop
+mul-rest-2 c = let h = i-small (c .before .before .before .before .before .before .before .before .before .before .before .before .before .before .loop .inv) (c .before .before .before .before .before .before .before .before .before .before .before .before .before .loop-test .taken) in search (needs, h)
 
-element-write-counts : tie.Need-element-write-counts Inv-loop μ-loop
-element-write-counts c = let h = i-small (c .before .before .before .before .before .before .before .before .before .before .before .before .before .before .loop .inv) (c .before .before .before .before .before .before .before .before .before .before .before .before .before .loop-test .taken) in search (needs, h)
+element-write-rest : tie.Need-element-write-rest Inv-loop μ-loop
+element-write-rest c = let h = i-small (c .before .before .before .before .before .before .before .before .before .before .before .before .before .before .loop .inv) (c .before .before .before .before .before .before .before .before .before .before .before .before .before .loop-test .taken) in search (needs, h)
 
 sub-left : tie.Need-sub-left Inv-loop μ-loop
 sub-left c = search needs
@@ -73,6 +74,7 @@ loop-less : tie.Need-loop-less Inv-loop μ-loop
 loop-less c = search needs
 
 loop-again : tie.Need-loop-again Inv-loop μ-loop
+unfolding less
 loop-again c = next-round (c .before .before .before .before .before .before .before .before .before .before .before .before .before .before .before .loop .inv) (c .before .before .before .before .before .before .before .before .before .before .before .before .before .before .loop-test .taken) (c .before .before .before .before .before .before .before .visit .result) (tables [] (c .before .before .before .before .before .before .before .visit .last .1 .1 .1 .1 .0) (c .before .before .before .before .before .before .before .visit .last .1 .1 .1 .1 .1 .0) (c .before .before .before .before .before .before .before .visit .last .1 .1 .1 .1 .1 .1 .0) (c .before .before .before .before .before .before .before .visit .last .1 .1 .1 .1 .1 .1 .1 .0) (c .before .before .before .before .before .before .before .visit .last .1 .1 .1 .1 .1 .1 .1 .1 .0) (c .before .before .before .before .before .before .before .visit .last .1 .1 .1 .1 .1 .1 .1 .1 .1 .0)) (long-after (c .before .before .before .before .before .before .before)) (c .before .before .before .before .before .before .before .visit .ensures .0) (c .before .before .before .before .before .before .before .visit .ensures .1) (c .before .before .before .match .keys1) (c .before .before .before .before .before .before .before .before .before .before .before .before .before .before .before .before .before .before .before .pre .3)
 
 same-length-2 : tie.Need-same-length-2 Inv-loop μ-loop
@@ -92,11 +94,11 @@ rounds-spec =
     enum-told
     same-length
     returns
-    mul-counts
-    element-copy-out-counts
-    add-counts
-    mul-counts-2
-    element-write-counts
+    mul-rest
+    element-copy-out-rest
+    sub-rest
+    mul-rest-2
+    element-write-rest
     sub-left
     add-i
     mul-i
