@@ -1,16 +1,20 @@
 -- Laws of lists written over others, and of lists of calls.
 use mathlib.Core.Path.{_≡_, refl, sym, ap, _∙_}
-use Prim.Native.Nat.{ℕ, zero, suc, _+_, _-_, _*_, _^_, _≤_, _<_}
+use Prim.Native.Nat.{ℕ, zero, suc, _+_, _*_, _/_, _%_, _≤_}
 use native.Mathlib.Omega.{arith}
+use mathlib.Core.Bool.{Bool, true, false, not, false≢true}
 use mathlib.Core.List.{List, [], _∷_, _++_}
-use lib.ListN.{length, drop, set}
+use lib.ListN.{length, drop, getD, set, length-append}
 use lib.Seq.{sets, set-out}
+use lib.Dec.{leb, ltb}
+use borrow.Author.Tests.{eq-eqb, ne-eqb, leb-true, ltb-true, ltb-false, le-leb, lt-leb}
+use Rattle.order.specs.Bools.{_and_, and-r}
 use Rattle.semantics.specs.Machine.{System, most-threads}
-use Rattle.semantics.specs.Threads.{Steps, Took, t-step, t-none, t-room, t-stuck, t-denied, turn}
-use Rattle.semantics.specs.Calls.{taken, ran, bump, total, no-steps, always, onTurn, one-step, run-of, calls, call}
+use Rattle.semantics.specs.Threads.{Steps}
+use Rattle.semantics.specs.Calls.{one-step, run-of, calls, call}
 use Rattle.semantics.specs.TurnLaws.{Lawful}
-use Rattle.semantics.specs.CountLaws.{run-counted}
-use Rattle.calls.specs.Words.{callOf, callsIn, resultWords, over}
+use Rattle.semantics.specs.CountLaws.{call-few, call-eight}
+use Rattle.calls.specs.Words.{call-words, answer-words, allowancesAt, callAt, callsFrom, callCount, callsIn, roomFor, answerWords, resultWords, over}
 
 pub sets-cons : (x : ℕ) (l : List ℕ) (i : ℕ) (vs : List ℕ) → sets (x ∷ l) (suc i) vs ≡ x ∷ sets l i vs
 sets-cons x l i [] = refl
@@ -34,47 +38,59 @@ over-fits [] (n ∷ ns) h = absurd (omega arith)
 over-fits (o ∷ os) [] h = refl
 over-fits (o ∷ os) (n ∷ ns) h = ap (λ z. n ∷ z) (over-fits os ns (omega arith))
 
--- as many places as before
-pub over-length : (l vs : List ℕ) → length (over l vs) ≡ length l
-unfolding over
-over-length [] vs = refl
-over-length (o ∷ os) [] = refl
-over-length (o ∷ os) (n ∷ ns) = ap suc (over-length os ns)
-
--- two words a call
-pub result-length : (K : Steps) (ws : List ℕ) (m : System) → length (resultWords (calls K (callsIn ws) m)) ≡ 2 * length ws
-unfolding callsIn calls resultWords
-result-length K [] m = refl
-result-length K (w ∷ ws) m = let h = result-length K ws (call K (callOf w) m .machine) in omega (arith, h)
-
-pub call-run : (w : ℕ) → 0 < w → callOf w ≡ run-of (w - 1)
-unfolding callOf
-call-run zero h = absurd (omega arith)
-call-run (suc n) h = let e : suc n - 1 ≡ n = omega arith in ap run-of (sym e)
-
-pub call-step : (w : ℕ) → w ≡ 0 → callOf w ≡ one-step
-unfolding callOf
-call-step w e = rw e
-
--- the steps of all threads in a call are never more than a word holds
-bump-most : (i : ℕ) (c : List ℕ) → total (bump i c) ≤ suc (total c)
-unfolding bump total
-bump-most i [] = omega arith
-bump-most zero (n ∷ c) = omega arith
-bump-most (suc i) (n ∷ c) = omega (arith, bump-most i c)
-
-step-most : (K : Steps) (s : System) → total (call K one-step s .counts) ≤ 1
-unfolding call onTurn total
-step-most K s = at (turn K (always no-steps) s)
+-- ten words a call
+result-length : (K : Steps) → Lawful K → (ws : List ℕ) (m : System) → length (m .threads) ≤ most-threads → length (resultWords (calls K (callsIn ws) m)) ≡ answer-words * callCount ws
+unfolding callsIn callsFrom calls resultWords answerWords
+result-length K law ws m few = from 0 (callCount ws) m few
   where
-    at : (o : Took) → total (onTurn o no-steps s (λ i t. ran taken (bump i no-steps) i t) .counts) ≤ 1
-    at (t-step i t) = omega (arith, bump-most i no-steps)
-    at t-none = omega arith
-    at (t-room i) = omega arith
-    at (t-stuck i) = omega arith
-    at (t-denied i) = omega arith
+    from : (p n : ℕ) (m : System) → length (m .threads) ≤ most-threads → length (resultWords (calls K (callsFrom ws p n) m)) ≡ answer-words * n
+    from p zero m few = refl
+    from p (suc n) m few =
+        let r = call K (callAt ws p) m in
+        length-append (answerWords (r .answer) (r .thread) (r .counts)) (resultWords (calls K (callsFrom ws (p + call-words) n) (r .machine)))
+        ∙ (let a = call-eight K law (callAt ws p) m few in let b = from (p + call-words) n (r .machine) (call-few K law (callAt ws p) m few) in omega (arith, a, b))
 
-pub call-fits : (K : Steps) (law : Lawful K) (w : ℕ) (s : System) → length (s .threads) ≤ most-threads → w < 2 ^ 64 → total (call K (callOf w) s .counts) < 2 ^ 64
-unfolding callOf
-call-fits K law zero s few h = omega (arith, step-most K s)
-call-fits K law (suc n) s few h = omega (arith, run-counted K law n s few .most)
+pub call-run : (ws : List ℕ) (p : ℕ) → (getD ws p 0 ≡ 0 → ⊥) → callAt ws p ≡ run-of (allowancesAt ws p)
+unfolding callAt
+call-run ws p h = rw (ne-eqb (getD ws p 0) 0 h)
+
+pub call-step : (ws : List ℕ) (p : ℕ) → getD ws p 0 ≡ 0 → callAt ws p ≡ one-step
+unfolding callAt
+call-step ws p e = rw (eq-eqb (getD ws p 0) 0 e)
+
+-- room for the calls and their answers
+pub room-no : (ws answers : List ℕ) → (length ws % call-words ≡ 0 → ⊥) → roomFor ws answers ≡ false
+unfolding roomFor _and_
+room-no ws answers h = rw (ne-eqb (length ws % call-words) 0 h)
+
+pub room-is : (ws answers : List ℕ) → length ws % call-words ≡ 0 → ltb (length answers / answer-words) (length ws / call-words) ≡ not (roomFor ws answers)
+unfolding roomFor callCount _and_
+room-is ws answers h = rw (eq-eqb (length ws % call-words) 0 h) (at (ltb (length answers / answer-words) (length ws / call-words)) refl)
+  where
+    at : (b : Bool) → ltb (length answers / answer-words) (length ws / call-words) ≡ b → b ≡ not (leb (answer-words * (length ws / call-words)) (length answers))
+    at true e = ap not (sym (lt-leb (answer-words * (length ws / call-words)) (length answers) (let z = ltb-true (length answers / answer-words) (length ws / call-words) e in omega (arith, z))))
+    at false e = ap not (sym (le-leb (answer-words * (length ws / call-words)) (length answers) (let z = ltb-false (length answers / answer-words) (length ws / call-words) e in omega (arith, z))))
+
+-- whether it is said to be missing
+pub room-lacks : (ws answers : List ℕ) {b : Bool} → b ≡ not (roomFor ws answers) → b ≡ true → roomFor ws answers ≡ false
+room-lacks ws answers e h = at (roomFor ws answers) (sym e ∙ h)
+  where
+    at : (c : Bool) → not c ≡ true → c ≡ false
+    at true q = absurd (false≢true q)
+    at false q = refl
+
+pub room-has : (ws answers : List ℕ) {b : Bool} → b ≡ not (roomFor ws answers) → b ≡ false → roomFor ws answers ≡ true
+room-has ws answers e h = at (roomFor ws answers) (sym e ∙ h)
+  where
+    at : (c : Bool) → not c ≡ false → c ≡ true
+    at true q = refl
+    at false q = absurd (false≢true (sym q))
+
+-- where there is room all answers are written, and the places after them stay
+pub results-fit : (K : Steps) → Lawful K → (ws answers : List ℕ) (m : System) → length (m .threads) ≤ most-threads → roomFor ws answers ≡ true
+    → over answers (resultWords (calls K (callsIn ws) m)) ≡ resultWords (calls K (callsIn ws) m) ++ drop (answer-words * callCount ws) answers
+unfolding roomFor
+results-fit K law ws answers m few e =
+    let l = result-length K law ws m few in
+    let h = leb-true (answer-words * callCount ws) (length answers) (and-r _ _ e) in
+    over-fits answers (resultWords (calls K (callsIn ws) m)) (omega (arith, l, h)) ∙ ap (λ (n : ℕ). resultWords (calls K (callsIn ws) m) ++ drop n answers) l

@@ -4,20 +4,23 @@ use machine::Machine;
 use machine::Outcome;
 use store::MOST_THREADS;
 use store::THREADS_WORDS;
+use table::at64;
+use table::wide8;
 ghost use mathlib.Core.Path.{_≡_};
-ghost use Prim.Native.Nat.{_<_, _%_, _^_};
+ghost use mathlib.Core.Bool.{not};
+ghost use Prim.Native.Nat.{_+_, _≤_};
+ghost use lib.ListN.{length};
 ghost use Rattle.syntax.specs.Words.{codeIn};
 ghost use Rattle.semantics.specs.Threads.{stepsOf};
-ghost use Rattle.semantics.specs.Calls.{total, call};
+ghost use Rattle.semantics.specs.Calls.{call};
 ghost use Rattle.machine.specs.View.{seen, answerIn, ranIn};
-ghost use Rattle.calls.specs.Words.{callOf, answerNo};
-ghost use Rattle.calls.specs.Made.{Made, Noted, NotedRan};
+ghost use Rattle.calls.specs.Words.{call-words, allowancesAt, callAt, roomFor, answerNo, answerWords};
+ghost use Rattle.calls.specs.Made.{Made, Noted, NotedAll};
 
-// After a list of calls: the machine that the last one gave, and the steps that each thread took in it.
-pub struct Last {
-    pub machine: Machine,
-    pub counts: [u64; MOST_THREADS],
-}
+// The words of a call, and those of its answer.
+pub const CALL_WORDS: usize = MOST_THREADS + 1;
+
+pub const ANSWER_WORDS: usize = MOST_THREADS + 2;
 
 // The number of an answer.
 pub fn number(a: Answer) -> u64
@@ -33,36 +36,42 @@ pub fn number(a: Answer) -> u64
     }
 }
 
-// The steps of all threads together. Those of a call are never more than a word holds.
-pub fn steps(counts: [u64; MOST_THREADS]) -> u64
-    ensures { λ r. ⌜ r ≡ total counts % 2 ^ 64 ⌝ }
+// The allowances of the call that begins at a place.
+fn allowances(calls: &[u64], at: usize) -> [u64; MOST_THREADS]
+    requires { ⌜ at + call-words ≤ length (now calls) ⌝ }
+    ensures { λ r. ⌜ r ≡ allowancesAt (now (calls .entry)) at ⌝ }
 {
-    let mut sum: u64 = 0;
-    let mut i: usize = 0;
-    while i < MOST_THREADS {
-        let n = counts[i];
-        sum = std::num::wrapping_add_u64(sum, n);
-        i = i + 1;
-    }
-    sum
+    [
+        at64(calls, at + 1),
+        at64(calls, at + 2),
+        at64(calls, at + 3),
+        at64(calls, at + 4),
+        at64(calls, at + 5),
+        at64(calls, at + 6),
+        at64(calls, at + 7),
+        at64(calls, at + 8),
+    ]
 }
 
-// The call of number w: 0 is a step, n + 1 a run of n.
-pub fn make(
+// The call that begins at a place: 0 is a step, and any other number a run with the eight allowances after it.
+fn make(
     m: Machine,
     heads: &[u64],
     slots: &[u16],
     frames: &mut [u64; THREADS_WORDS],
-    w: u64,
+    calls: &[u64],
+    at: usize,
 ) -> Outcome
+    requires { ⌜ at + call-words ≤ length (now calls) ⌝ }
     ensures { λ r. ⌜
-        ranIn r (now (frames .exit)) ≡ call (stepsOf (codeIn (now (heads .entry)) (now (slots .entry)))) (callOf w) (seen m (now (frames .entry)))
+        ranIn r (now (frames .exit)) ≡ call (stepsOf (codeIn (now (heads .entry)) (now (slots .entry)))) (callAt (now (calls .entry)) at) (seen m (now (frames .entry)))
         ⌝ }
 {
-    if w == 0 {
+    if at64(calls, at) == 0 {
         return m.step(heads, slots, frames);
     }
-    m.run(w - 1, heads, slots, frames)
+    let allow = allowances(calls, at);
+    m.run(allow, heads, slots, frames)
 }
 
 // x at place `at`, if there is one. Returns the next place.
@@ -76,21 +85,44 @@ fn note(answers: &mut [u64], at: usize, x: u64) -> usize
     at
 }
 
-// The answer of a call, and the steps of all threads in it.
-fn note_both(answers: &mut [u64], at: usize, o: Outcome) -> usize
-    requires { ⌜ total (o .counts) < 2 ^ 64 ⌝ }
-    ensures { λ r. ⌜ NotedRan (now (answers .entry)) (now (answers .exit)) at (answerIn (o .answer)) (o .counts) r ⌝ }
+// The steps of each thread, from place `at` on. Returns the next place.
+fn note_counts(answers: &mut [u64], at: usize, counts: [u64; MOST_THREADS]) -> usize
+    ensures { λ r. ⌜ NotedAll (now (answers .entry)) (now (answers .exit)) at counts r ⌝ }
+{
+    let mut next = at;
+    let mut i: usize = 0;
+    while i < MOST_THREADS {
+        let n = counts[i];
+        next = note(answers, next, n);
+        i = i + 1;
+    }
+    next
+}
+
+// The answer of a call, its thread, and the steps of each thread in it.
+fn note_answer(answers: &mut [u64], at: usize, o: Outcome) -> usize
+    ensures { λ r. ⌜ NotedAll (now (answers .entry)) (now (answers .exit)) at (answerWords (answerIn (o .answer)) (o .thread) (o .counts)) r ⌝ }
 {
     let a = o.answer;
     let n = number(a);
     let counts = o.counts;
-    let taken = steps(counts);
-    let next = note(answers, at, n);
-    note(answers, next, taken)
+    let first = note(answers, at, n);
+    let second = note(answers, first, wide8(o.thread));
+    note_counts(answers, second, counts)
 }
 
-// All calls are made, in order, on the machine that the last one gave, which is returned at the end with the steps that each thread took in the last call: none where no call is made.
-// Of call i the number of its answer goes to place 2i of the answers, and the steps of all threads in it to place 2i + 1, where there are such places.
+// Whether the words are no whole number of calls, or the answers have fewer than ten places for each.
+pub fn lacks_room<'a>(calls: &'a [u64], answers: &'a [u64]) -> bool
+    ensures { λ r. ⌜ r ≡ not (roomFor (now (calls .entry)) (now (answers .entry))) ⌝ }
+{
+    if calls.len() % CALL_WORDS == 0 {
+        return answers.len() / ANSWER_WORDS < calls.len() / CALL_WORDS;
+    }
+    true
+}
+
+// All calls are made, in order, on the machine that the last one gave, which is returned at the end. Each is nine words; words at the end that are fewer are no call.
+// Of call i the number of its answer, its thread and the steps of each of eight threads in it go to the ten places of the answers from 10i on, where there are such places.
 pub fn make_calls(
     m: Machine,
     heads: &[u64],
@@ -98,28 +130,23 @@ pub fn make_calls(
     frames: &mut [u64; THREADS_WORDS],
     calls: &[u64],
     answers: &mut [u64],
-) -> Last
+) -> Machine
     ensures { λ r. ⌜
         Made (stepsOf (codeIn (now (heads .entry)) (now (slots .entry)))) (now (calls .entry)) (seen m (now (frames .entry)))
-        (now (answers .entry)) (now (answers .exit)) (seen (r .machine) (now (frames .exit))) (r .counts)
+        (now (answers .entry)) (now (answers .exit)) (seen r (now (frames .exit)))
         ⌝ }
 {
     let mut last = m;
-    let mut counts = [0u64; MOST_THREADS];
     let mut at: usize = 0;
-    let mut i: usize = 0;
-    while i < calls.len() {
-        let w = calls[i];
-        i = i + 1;
-        let o = make(last, heads, slots, frames, w);
-        at = note_both(answers, at, o);
+    let mut place: usize = 0;
+    let mut left = calls.len() / CALL_WORDS;
+    while 0 < left {
+        let o = make(last, heads, slots, frames, calls, at);
+        place = note_answer(answers, place, o);
         let next = o.machine;
         last = next;
-        let taken = o.counts;
-        counts = taken;
+        at = at + CALL_WORDS;
+        left = left - 1;
     }
-    Last {
-        machine: last,
-        counts: counts,
-    }
+    last
 }

@@ -4,7 +4,7 @@ use mathlib.Core.Path.{_≡_, refl, ap, _∙_, fun-ext}
 use Prim.Native.Nat.{ℕ, _*_}
 use mathlib.Core.Bool.{Bool, true, false}
 use mathlib.Core.List.{List, _++_}
-use lib.ListN.{length, drop}
+use lib.ListN.{drop}
 use Rattle.syntax.specs.Commands.{Cmd}
 use Rattle.syntax.specs.Job.{Job, sourceOf}
 use Rattle.syntax.specs.Reading.{read, reading}
@@ -18,13 +18,12 @@ use Rattle.semantics.specs.Calls as semantics
 use Rattle.semantics.specs.Threads.{stepsOf}
 use Rattle.semantics.specs.Calls.{calls}
 use Rattle.semantics.specs.Demand3.{exprOf, callsOf, Allowed}
-use Rattle.calls.specs.Words.{callsIn, resultWords}
+use Rattle.calls.specs.Words.{answer-words, callCount, callsIn, roomFor, resultWords}
 use Rattle.checker.specs.declared.Checked.{Checked}
 use Rattle.judge.specs.declared.Verdict.the-variants as verdicts
 use Rattle.checker.specs.Answer.{CheckTo}
 use Rattle.safety.specs.Accepting.{accepting}
 use Rattle.safety.specs.FromContracts.{accepted-loads, start-is, loaded-code}
-use Rattle.session.specs.Session.{roomFor}
 use Rattle.capi.specs.Runs.{numberOf, openedWith, openedTables, Runs}
 
 -- the job that the bytes are is started; the results are those of its calls from its start, demand 3 allows them, and they are what is written
@@ -35,7 +34,7 @@ pub record SafeRun (bytes words : List ℕ) (r : ℕ) (a a' : List ℕ) : Type 0
   pub results : List semantics.Ran
   pub actual : results ≡ callsOf job (callsIn words)
   pub allowed : Allowed job (callsIn words) results
-  pub written : a' ≡ resultWords results ++ drop (2 * length words) a
+  pub written : a' ≡ resultWords results ++ drop (answer-words * callCount words) a
 
 pub accepted-run : (bytes words : List ℕ) → Bytes bytes → {c : Checked} {w x : Tables} {i s : ℕ} → CheckTo bytes c w x → c .verdict ≡ verdicts.Accepted i s
     → {r : ℕ} (u : JobTables) {y : JobTables} {a a' k k' : List ℕ} → Runs bytes r words u y a a' k k' → short u ≡ false → roomFor words a ≡ true → SafeRun bytes words r a a'
@@ -56,5 +55,5 @@ accepted-run bytes words by {c} {w} {x} {i} {s} to v {r} u {y} {a} {a'} h l room
       allowed = its .allowed (callsIn words);
       written =
           h .goes (startOf (sourceOf J)) opens .answers
-          ∙ ap (λ (f : ℕ → Cmd ℕ). resultWords (calls (stepsOf f) (callsIn words) (startOf (sourceOf J))) ++ drop (2 * length words) a) code;
+          ∙ ap (λ (f : ℕ → Cmd ℕ). resultWords (calls (stepsOf f) (callsIn words) (startOf (sourceOf J))) ++ drop (answer-words * callCount words) a) code;
     }

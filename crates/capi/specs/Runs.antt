@@ -3,18 +3,17 @@ use mathlib.Core.Path.{_≡_}
 use Prim.Native.Nat.{ℕ, _*_}
 use mathlib.Core.Bool.{Bool, true, false}
 use mathlib.Core.List.{List, _++_}
-use lib.ListN.{length, set, drop}
+use lib.ListN.{set, drop}
 use Rattle.syntax.specs.Words.{codeIn}
 use Rattle.syntax.specs.Reading.{Refusal}
 use Rattle.semantics.specs.Machine.{System}
 use Rattle.syntax.specs.Loading.{JobTables, tablesAfterLoad}
 use Rattle.semantics.specs.Threads.{Steps, stepsOf}
-use Rattle.semantics.specs.Calls.{no-steps, calls, lastOf}
+use Rattle.semantics.specs.Calls.{calls, lastOf}
 use Rattle.semantics.specs.Starting.{Started, started, unstarted, startWith}
-use Rattle.calls.specs.Words.{callsIn, resultWords, lastCounts, over}
+use Rattle.calls.specs.Words.{answer-words, callCount, callsIn, roomFor, resultWords, over}
 use Rattle.calls.specs.Made.{Made}
 use Rattle.results.specs.Told.{roomWords}
-use Rattle.session.specs.Session.{roomFor}
 
 -- 0 if there is no refusal
 unfoldable pub numberOf : Started → ℕ
@@ -33,14 +32,13 @@ openedTables false w s = w
 -- the calls `words` on machine m: a and a' are the answers before and after, k and k' the rooms
 pub record Goes (K : Steps) (words : List ℕ) (m : System) (a a' k k' : List ℕ) : Type 0 where
   pub last : System
-  pub counts : List ℕ
-  pub made : Made K words m a a' last counts
-  pub rooms : k' ≡ over k (roomWords last counts)
+  pub made : Made K words m a a' last
+  pub rooms : k' ≡ over k (roomWords last)
 
--- the same with all answers written; the steps are those of each thread in the last call
+-- the same with all answers written
 pub record Ran (K : Steps) (words : List ℕ) (m : System) (a a' k k' : List ℕ) : Type 0 where
-  pub answers : a' ≡ resultWords (calls K (callsIn words) m) ++ drop (2 * length words) a
-  pub rooms : k' ≡ over k (roomWords (lastOf K (callsIn words) m) (lastCounts (calls K (callsIn words) m) no-steps))
+  pub answers : a' ≡ resultWords (calls K (callsIn words) m) ++ drop (answer-words * callCount words) a
+  pub rooms : k' ≡ over k (roomWords (lastOf K (callsIn words) m))
 
 -- a refusal writes its place and makes no call
 pub record Stops (q : Refusal) (a a' k k' : List ℕ) : Type 0 where

@@ -15,7 +15,7 @@ ghost use Rattle.capi.specs.Runs.{Goes, Runs};
 ghost use Rattle.capi.specs.Sheets.{Sheets};
 ghost use Rattle.capi.specs.Sessions.{lentBefore, lentAfter, Reported, Sessions};
 
-// The calls on a machine, the room that the last machine uses, and the steps of each thread in the last call. Nobody looks at the frames afterwards.
+// The calls on a machine, and the room that the last machine uses. Nobody looks at the frames afterwards.
 fn go(
     m: Machine,
     heads: &[u64],
@@ -31,15 +31,14 @@ fn go(
         ⌝ }
 {
     let last = calls::make_calls(m, heads, slots, frames, calls, answers);
-    let at_end = last.machine;
-    let counts = last.counts;
-    results::count(at_end, counts, rooms);
+    results::count(last, rooms);
 }
 
 // Starts the job and makes the calls, without a check: 0 says that the job is started, and is no verdict on it. Only of a job that
-// `jobdesk_check` accepts is it proved that no call is stuck or denied. Another number is that of a refusal, whose place goes to rooms[0]; 1 too
-// where the answers have no room for two words a call. Where the job is started rooms are the cells, keys, pairs, functions, frames of all threads,
-// bindings and threads in use at the end, then the steps of each of eight threads in the last call.
+// `jobdesk_check` accepts is it proved that no call is stuck or denied. A call is nine words: 0, for a step, or another number, for a run, and eight
+// allowances. Its answer is ten: number, thread, and the steps of each of eight threads. Another number returned is that of a refusal, whose place goes to
+// rooms[0]; 1 too where the words are no whole number of calls, or the answers have no room for them. Where the job is started rooms are the cells, keys,
+// pairs, functions, frames of all threads, bindings and threads in use at the end.
 #[no_mangle]
 pub extern "C" fn jobdesk_run(
     job: &[u8],
@@ -59,7 +58,7 @@ pub extern "C" fn jobdesk_run(
         (now (answers .entry)) (now (answers .exit)) (now (rooms .entry)) (now (rooms .exit))
         ⌝ }
 {
-    if answers.len() / 2 < calls.len() {
+    if calls::lacks_room(calls, answers) {
         return table::tell(1, 0, rooms);
     }
     let o = start::start(job, names, types, sets, values, heads, slots);
@@ -124,11 +123,11 @@ fn finish(h: Held, value: &mut [u64], cells: &mut [u64], out: &mut [u64]) -> u64
     results::tell(v, out)
 }
 
-// Checks the job and, where it is accepted, starts it and makes the calls, each on the machine that the last one gave. Returns 0 where the job is
+// Checks the job and, where it is accepted, starts it and makes the calls, each on the machine that the last one gave, with words as `jobdesk_run` has them. Returns 0 where the job is
 // accepted: then every answer is one that demand 3 allows. Another number is that of its refusal, and no call is made. out[0] and out[1] are as
 // `jobdesk_check` has them. value[0] is the kind of a finished job's value, that of thread 0, (1 number, 2 pair, 3 cell, 4 function, 5 limit, 6 grant) and value[1]
-// what it holds; cells[2i] and cells[2i + 1] are the same of cell i; 0 and 0 where there is no value. Where answers, value, cells or out are too
-// short, 1 is returned and nothing at all is written.
+// what it holds; cells[2i] and cells[2i + 1] are the same of cell i; 0 and 0 where there is no value. Where the last call is cut short, or answers, value,
+// cells or out are too short, 1 is returned and nothing at all is written.
 #[no_mangle]
 pub extern "C" fn jobdesk_session(
     job: &[u8],

@@ -4,7 +4,7 @@ use mathlib.Core.Path.{_≡_, refl, _∙_}
 use mathlib.Core.Option.{some}
 use mathlib.Core.List.{List, _++_}
 use native.Mathlib.Omega.{arith}
-use lib.ListN.{length, length-append}
+use lib.ListN.{length, length-append, getD}
 use lib.Seq.{take-all}
 use Rattle.order.specs.Effects.{Effect}
 use Rattle.syntax.specs.Types.{Ty, num, pair, cell, fn, lim, grant}
@@ -42,18 +42,18 @@ pub accepted-line : (T : Ty) (s : Effect) → acceptedAs s (typeSort T) ≡ acce
 unfolding acceptedAs acceptedLine
 accepted-line T s = rw type-word
 
--- its second line: a job that is done with a value, all steps spent, no room
-pub done-line : (n : ℕ) (m : System) (v : Value) → valueOf m ≡ some v → doneAs n (kindSort (v .kind)) (kindNumber (v .kind)) ≡ ranLine finished n m
+-- its second line: a job that is done with a value, spent, no room
+pub done-line : (c : List ℕ) (i : ℕ) (m : System) (v : Value) → valueOf m ≡ some v → doneAs (getD c 0 0) (kindSort (v .kind)) (kindNumber (v .kind)) ≡ ranLine finished c i m
 unfolding doneAs ranLine handed
-done-line n m v e = simp (e, value-words)
+done-line c i m v e = simp (e, value-words)
 
-pub spent-line : (n : ℕ) (m : System) → spentAs n ≡ ranLine spent n m
+pub spent-line : (c : List ℕ) (i : ℕ) (m : System) → spentAs (getD c 0 0) ≡ ranLine spent c i m
 unfolding spentAs ranLine
-spent-line n m = refl
+spent-line c i m = refl
 
-pub no-room-line : (n : ℕ) (m : System) → noRoomAs n ≡ ranLine noroom n m
+pub no-room-line : (c : List ℕ) (i : ℕ) (m : System) → noRoomAs (getD c i 0) ≡ ranLine noroom c i m
 unfolding noRoomAs ranLine
-no-room-line n m = refl
+no-room-line c i m = refl
 
 -- lengths
 pub sort-length : (k : Sort) → length (sortWord k) ≤ 8
@@ -96,16 +96,16 @@ unfolding joined
 two-fit a b h g = take-all text-bytes (a ++ b) (simp length-append (omega arith))
 
 -- what an accepted job prints, with each way its run can end
-module _ (T : Ty) (s : Effect) (n : ℕ) (m : System) where
+module _ (T : Ty) (s : Effect) (c : List ℕ) (i : ℕ) (m : System) where
   pub accepted-done :
       (v : Value) → valueOf m ≡ some v →
-      joined (acceptedAs s (typeSort T)) (doneAs n (kindSort (v .kind)) (kindNumber (v .kind))) ≡ acceptedLine T s ++ ranLine finished n m
+      joined (acceptedAs s (typeSort T)) (doneAs (getD c 0 0) (kindSort (v .kind)) (kindNumber (v .kind))) ≡ acceptedLine T s ++ ranLine finished c i m
   accepted-done v e =
-      two-fit _ _ (accepted-length s (typeSort T)) (done-length n (kindSort (v .kind)) (kindNumber (v .kind)))
-      ∙ simp (accepted-line T s, done-line n m v e)
+      two-fit _ _ (accepted-length s (typeSort T)) (done-length (getD c 0 0) (kindSort (v .kind)) (kindNumber (v .kind)))
+      ∙ simp (accepted-line T s, done-line c i m v e)
 
-  pub accepted-spent : joined (acceptedAs s (typeSort T)) (spentAs n) ≡ acceptedLine T s ++ ranLine spent n m
-  accepted-spent = two-fit _ _ (accepted-length s (typeSort T)) (spent-length n) ∙ simp (accepted-line T s, spent-line n m)
+  pub accepted-spent : joined (acceptedAs s (typeSort T)) (spentAs (getD c 0 0)) ≡ acceptedLine T s ++ ranLine spent c i m
+  accepted-spent = two-fit _ _ (accepted-length s (typeSort T)) (spent-length (getD c 0 0)) ∙ simp (accepted-line T s, spent-line c i m)
 
-  pub accepted-no-room : joined (acceptedAs s (typeSort T)) (noRoomAs n) ≡ acceptedLine T s ++ ranLine noroom n m
-  accepted-no-room = two-fit _ _ (accepted-length s (typeSort T)) (no-room-length n) ∙ simp (accepted-line T s, no-room-line n m)
+  pub accepted-no-room : joined (acceptedAs s (typeSort T)) (noRoomAs (getD c i 0)) ≡ acceptedLine T s ++ ranLine noroom c i m
+  accepted-no-room = two-fit _ _ (accepted-length s (typeSort T)) (no-room-length (getD c i 0)) ∙ simp (accepted-line T s, no-room-line c i m)

@@ -1,7 +1,6 @@
 -- The lines that the functions put together are the desk program's.
 use mathlib.Core.Path.{_≡_, refl, sym, ap, _∙_, fun-ext}
-use Prim.Native.Nat.{ℕ, _%_, _^_, _≤_, _<_}
-use native.Mathlib.Nat.{mod-eq-of-lt}
+use Prim.Native.Nat.{ℕ, _%_, _≤_, _<_}
 use native.Mathlib.Omega.{arith}
 use mathlib.Core.Bool.{Bool, true, false, cond, not, false≢true}
 use mathlib.Core.List.{List, [], _++_, append-nil}
@@ -23,7 +22,7 @@ use Rattle.semantics.specs.Machine.{System, most-threads}
 use Rattle.semantics.specs.Start.{startOf}
 use Rattle.semantics.specs.Room.{doneAt}
 use Rattle.semantics.specs.Threads.{stepsOf, liveThread, allDone, handedOn, valueOf}
-use Rattle.semantics.specs.Calls.{taken, finished, spent, noroom, stuck, denied, run-of, Ran, total, no-steps, together, call}
+use Rattle.semantics.specs.Calls.{taken, finished, spent, noroom, stuck, denied, run-of, Ran, no-steps, allowed, call}
 use Rattle.semantics.specs.TurnLaws.{lawful, done-live, value-is}
 use Rattle.semantics.specs.RunLaws.{RunSays, run-done, run-spent, run-stuck, run-denied, run-noroom, Says, run-says, says-exactly}
 use Rattle.semantics.specs.CountLaws.{run-counted}
@@ -44,7 +43,7 @@ use Rattle.machine.specs.Listed.{listed-length, listed-get}
 use Rattle.machine.specs.View.{seen, answerIn, ranIn}
 use Rattle.format.specs.declared.Sort.{Sort}
 use Rattle.format.specs.declared.Sort.the-variants.{Number, Pair, Cell, Function, Limit, Grant}
-use Rattle.output.specs.Lines.{refusedLine, acceptedLine, ranLine, ranOf, runLine, runRead, reported, deskOf, most-bytes, most-steps, printed}
+use Rattle.output.specs.Lines.{refusedLine, acceptedLine, ranLine, ranOf, runLine, runRead, reported, deskOf, most-bytes, desk-allows, printed}
 use Rattle.format.specs.Text.{joined, typeSort, kindSort, kindNumber, acceptedAs, doneAs, spentAs, noRoomAs}
 use Rattle.format.specs.Laws.{accepted-line, accepted-done, accepted-spent, accepted-no-room}
 use Rattle.checker.specs.declared.Checked.{Checked}
@@ -109,75 +108,68 @@ module _ (m : Machine) (fs : List ℕ) (some-thread : 0 < length (seen m fs .thr
       at true d = absurd (false≢true (sym (done-live (seen m fs .threads) d 0) ∙ ap liveThread first-there ∙ busy))
       at false d = refl
 
-pub finished-hand : (T : Ty) (s : Effect) (o : Outcome) (fs : List ℕ) (w : ℕ) (v : Held) (first second both : List ℕ) (n : ℕ) (k : Sort) (x : ℕ) → first ≡ acceptedAs s (typeSort T) → total (o .counts) < 2 ^ 64
-    → 0 < length (seen (o .machine) fs .threads) → allDone (seen (o .machine) fs .threads) ≡ true → getD (o .machine .threads) 0 idle .now .control ≡ Hand w → valueIn v ≡ wordIn w → n ≡ total (o .counts) % 2 ^ 64
+pub finished-hand : (T : Ty) (s : Effect) (o : Outcome) (fs : List ℕ) (w : ℕ) (v : Held) (first second both : List ℕ) (n : ℕ) (k : Sort) (x : ℕ) → first ≡ acceptedAs s (typeSort T)
+    → 0 < length (seen (o .machine) fs .threads) → allDone (seen (o .machine) fs .threads) ≡ true → getD (o .machine .threads) 0 idle .now .control ≡ Hand w → valueIn v ≡ wordIn w → n ≡ getD (o .counts) 0 0
     → k ≡ kindSort (kindIn (v .kind) (v .payload)) → x ≡ kindNumber (kindIn (v .kind) (v .payload)) → second ≡ doneAs n k x → both ≡ joined first second
-    → both ≡ acceptedLine T s ++ ranLine finished (total (o .counts)) (seen (o .machine) fs)
-finished-hand T s o fs w v first second both n k x a small some-thread done c u count d e f g =
-    rw (g, a, f, d, e, count ∙ mod-eq-of-lt small) (accepted-done T s (total (o .counts)) (seen (o .machine) fs) (valueIn v) (seen-hand (o .machine) fs some-thread w c done ∙ ap some (sym u)))
+    → both ≡ acceptedLine T s ++ ranLine finished (o .counts) (o .thread) (seen (o .machine) fs)
+finished-hand T s o fs w v first second both n k x a some-thread done c u count d e f g =
+    rw (g, a, f, d, e, count) (accepted-done T s (o .counts) (o .thread) (seen (o .machine) fs) (valueIn v) (seen-hand (o .machine) fs some-thread w c done ∙ ap some (sym u)))
 
 pub finished-enter : {A : Type 0} (o : Outcome) (fs : List ℕ) (e : Expr) → getD (o .machine .threads) 0 idle .now .control ≡ Enter e → 0 < length (seen (o .machine) fs .threads)
     → allDone (seen (o .machine) fs .threads) ≡ true → A
 finished-enter o fs e h some-thread d = absurd (false≢true (sym (seen-enter (o .machine) fs some-thread e h) ∙ d))
 
 -- by the answer
-ran-at : (o : Outcome) (fs : List ℕ) (a : Answer) → o .answer ≡ a → ranLine (answerIn a) (total (o .counts)) (seen (o .machine) fs) ≡ ranOf (ranIn o fs)
+ran-at : (o : Outcome) (fs : List ℕ) (a : Answer) → o .answer ≡ a → ranLine (answerIn a) (o .counts) (o .thread) (seen (o .machine) fs) ≡ ranOf (ranIn o fs)
 unfolding ranOf
-ran-at o fs a e = ap (λ z. ranLine (answerIn z) (total (o .counts)) (seen (o .machine) fs)) (sym e)
+ran-at o fs a e = ap (λ z. ranLine (answerIn z) (o .counts) (o .thread) (seen (o .machine) fs)) (sym e)
 
-pub ended-with : (T : Ty) (s : Effect) (o : Outcome) (fs : List ℕ) (a : Answer) (both : List ℕ) → o .answer ≡ a → both ≡ acceptedLine T s ++ ranLine (answerIn a) (total (o .counts)) (seen (o .machine) fs)
+pub ended-with : (T : Ty) (s : Effect) (o : Outcome) (fs : List ℕ) (a : Answer) (both : List ℕ) → o .answer ≡ a → both ≡ acceptedLine T s ++ ranLine (answerIn a) (o .counts) (o .thread) (seen (o .machine) fs)
     → both ≡ acceptedLine T s ++ ranOf (ranIn o fs)
 ended-with T s o fs a both e h = h ∙ ap (λ z. acceptedLine T s ++ z) (ran-at o fs a e)
 
--- a count that is below 2 ^ 64 is told whole
-pub told-whole : (n : ℕ) {k : ℕ} → k ≡ n % 2 ^ 64 → n < 2 ^ 64 → k ≡ n
-told-whole n e h = e ∙ mod-eq-of-lt h
+pub with-spent : (T : Ty) (s : Effect) (c : List ℕ) (i : ℕ) (m : System) (first second both : List ℕ) → first ≡ acceptedAs s (typeSort T) → second ≡ spentAs (getD c 0 0) → both ≡ joined first second
+    → both ≡ acceptedLine T s ++ ranLine spent c i m
+with-spent T s c i m first second both a b e = rw (e, a, b) (accepted-spent T s c i m)
 
-pub with-spent : (T : Ty) (s : Effect) (n : ℕ) (m : System) (first second both : List ℕ) → first ≡ acceptedAs s (typeSort T) → second ≡ spentAs n → both ≡ joined first second
-    → both ≡ acceptedLine T s ++ ranLine spent n m
-with-spent T s n m first second both a b c = rw (c, a, b) (accepted-spent T s n m)
-
-pub with-no-room : (T : Ty) (s : Effect) (n : ℕ) (m : System) (first second both : List ℕ) → first ≡ acceptedAs s (typeSort T) → second ≡ noRoomAs n → both ≡ joined first second
-    → both ≡ acceptedLine T s ++ ranLine noroom n m
-with-no-room T s n m first second both a b c = rw (c, a, b) (accepted-no-room T s n m)
+pub with-no-room : (T : Ty) (s : Effect) (c : List ℕ) (i : ℕ) (m : System) (first second both : List ℕ) → first ≡ acceptedAs s (typeSort T) → second ≡ noRoomAs (getD c i 0) → both ≡ joined first second
+    → both ≡ acceptedLine T s ++ ranLine noroom c i m
+with-no-room T s c i m first second both a b e = rw (e, a, b) (accepted-no-room T s c i m)
 
 pub with-none : (T : Ty) (s : Effect) (first l : List ℕ) → first ≡ acceptedAs s (typeSort T) → l ≡ [] → first ≡ acceptedLine T s ++ l
 with-none T s first l a e = a ∙ accepted-line T s ∙ sym (append-nil (acceptedLine T s)) ∙ ap (λ z. acceptedLine T s ++ z) (sym e)
 
-pub no-taken : (n : ℕ) (m : System) → ranLine taken n m ≡ []
+pub no-taken : (c : List ℕ) (i : ℕ) (m : System) → ranLine taken c i m ≡ []
 unfolding ranLine
-no-taken n m = refl
+no-taken c i m = refl
 
-pub no-stuck : (n : ℕ) (m : System) → ranLine stuck n m ≡ []
+pub no-stuck : (c : List ℕ) (i : ℕ) (m : System) → ranLine stuck c i m ≡ []
 unfolding ranLine
-no-stuck n m = refl
+no-stuck c i m = refl
 
-pub no-denied : (n : ℕ) (m : System) → ranLine denied n m ≡ []
+pub no-denied : (c : List ℕ) (i : ℕ) (m : System) → ranLine denied c i m ≡ []
 unfolding ranLine
-no-denied n m = refl
+no-denied c i m = refl
 
--- a run of the machine: how many steps its threads take together, that it leaves at least the threads that there were, and that it is finished only where all are
-module _ (h p : List ℕ) (n : ℕ) (m : System) (few : length (m .threads) ≤ most-threads) where
-  run-few : (o : Ran) → o ≡ call (stepsOf (codeIn h p)) (run-of n) m → n < 2 ^ 64 → total (o .counts) < 2 ^ 64
-  run-few o e l = let z = run-counted (stepsOf (codeIn h p)) (lawful (codeIn h p)) n m few .most in let y = ap (λ (r : Ran). total (r .counts)) e in omega (arith, z, y, l)
-
-  run-some : (o : Ran) → o ≡ call (stepsOf (codeIn h p)) (run-of n) m → 0 < length (m .threads) → 0 < length (o .machine .threads)
+-- a run of the machine leaves at least the threads that there were, and is finished only where all are
+module _ (h p allow : List ℕ) (m : System) (few : length (m .threads) ≤ most-threads) where
+  run-some : (o : Ran) → o ≡ call (stepsOf (codeIn h p)) (run-of allow) m → 0 < length (m .threads) → 0 < length (o .machine .threads)
   run-some o e l =
-      let z = takes-grown (stepsOf (codeIn h p)) (lawful (codeIn h p)) (run-counted (stepsOf (codeIn h p)) (lawful (codeIn h p)) n m few .takes) in
+      let z = takes-grown (stepsOf (codeIn h p)) (lawful (codeIn h p)) (run-counted (stepsOf (codeIn h p)) (lawful (codeIn h p)) allow m few .takes) in
       let y = ap (λ (r : Ran). length (r .machine .threads)) e in
       omega (arith, z, y, l)
 
-  done-at-end : (o : Ran) → o ≡ call (stepsOf (codeIn h p)) (run-of n) m → o .answer ≡ finished → allDone (o .machine .threads) ≡ true
-  done-at-end o e f = at (says-exactly (codeIn h p) m (run-of n) o few .0 (sym e)) f
+  done-at-end : (o : Ran) → o ≡ call (stepsOf (codeIn h p)) (run-of allow) m → o .answer ≡ finished → allDone (o .machine .threads) ≡ true
+  done-at-end o e f = at (says-exactly (codeIn h p) m (run-of allow) o few .0 (sym e)) f
     where
-      on : {r : Ran} → RunSays (stepsOf (codeIn h p)) (together n) no-steps m r → r .answer ≡ finished → allDone (r .machine .threads) ≡ true
+      on : {r : Ran} → RunSays (stepsOf (codeIn h p)) (allowed allow) no-steps m r → r .answer ≡ finished → allDone (r .machine .threads) ≡ true
       on (run-done x y) e = y
       on (run-spent x y z) e = absurd (let z : _≡_ {A = ℕ} 0 1 = cc in omega arith)
       on (run-stuck x y z) e = absurd (let z : _≡_ {A = ℕ} 0 1 = cc in omega arith)
       on (run-denied x y z) e = absurd (let z : _≡_ {A = ℕ} 0 1 = cc in omega arith)
       on (run-noroom x y z) e = absurd (let z : _≡_ {A = ℕ} 0 1 = cc in omega arith)
 
-      at : {r : Ran} → Says (stepsOf (codeIn h p)) m (run-of n) r → r .answer ≡ finished → allDone (r .machine .threads) ≡ true
+      at : {r : Ran} → Says (stepsOf (codeIn h p)) m (run-of allow) r → r .answer ≡ finished → allDone (r .machine .threads) ≡ true
       at (run-says x) f = on x f
 
 one-thread : (S : Src) → length (startOf S .threads) ≡ 1
@@ -186,22 +178,21 @@ one-thread S = refl
 
 -- the run of a job from its start
 pub record JobRun (o : Ran) : Type 0 where
-  pub small : total (o .counts) < 2 ^ 64
   pub some-thread : 0 < length (o .machine .threads)
   pub ended : o .answer ≡ finished → allDone (o .machine .threads) ≡ true
 
-pub job-run : (J : Job) (h p : List ℕ) (m : System) (o : Ran) → o ≡ call (stepsOf (codeIn h p)) (run-of most-steps) m → m ≡ startOf (sourceOf J) → JobRun o
+pub job-run : (J : Job) (h p : List ℕ) (m : System) (o : Ran) → o ≡ call (stepsOf (codeIn h p)) (run-of desk-allows) m → m ≡ startOf (sourceOf J) → JobRun o
 job-run J h p m o e f =
     let l : length (m .threads) ≡ 1 = ap (λ (s : System). length (s .threads)) f ∙ one-thread (sourceOf J) in
     let few : length (m .threads) ≤ most-threads = omega (arith, l) in
-    record { small = run-few h p most-steps m few o e (omega arith); some-thread = run-some h p most-steps m few o e (omega (arith, l)); ended = done-at-end h p most-steps m few o e }
+    record { some-thread = run-some h p desk-allows m few o e (omega (arith, l)); ended = done-at-end h p desk-allows m few o e }
 
-pub ran-line : (J : Job) (h p : List ℕ) (m : System) (o : Ran) → o ≡ call (stepsOf (codeIn h p)) (run-of most-steps) m → m ≡ startOf (sourceOf J) → ((e : ℕ) → codeIn h p e ≡ exprOf J e) → ranOf o ≡ runLine (sourceOf J)
+pub ran-line : (J : Job) (h p : List ℕ) (m : System) (o : Ran) → o ≡ call (stepsOf (codeIn h p)) (run-of desk-allows) m → m ≡ startOf (sourceOf J) → ((e : ℕ) → codeIn h p e ≡ exprOf J e) → ranOf o ≡ runLine (sourceOf J)
 unfolding runLine
 ran-line J h p m o e f g =
     ap ranOf
-    (e ∙ ap (λ (z : ℕ → Cmd ℕ). call (stepsOf z) (run-of most-steps) m) (fun-ext g) ∙ ap (λ z. call (stepsIn J) (run-of most-steps) z) f
-    ∙ ap (λ K. call K (run-of most-steps) (startOf (sourceOf J))) (sym (same-steps J)))
+    (e ∙ ap (λ (z : ℕ → Cmd ℕ). call (stepsOf z) (run-of desk-allows) m) (fun-ext g) ∙ ap (λ z. call (stepsIn J) (run-of desk-allows) z) f
+    ∙ ap (λ K. call K (run-of desk-allows) (startOf (sourceOf J))) (sym (same-steps J)))
 
 pub told-refused : (bytes : List ℕ) (r : Checked) (w x : Tables) (n p q : ℕ) (text : List ℕ) → CheckTo bytes r w x → r .verdict ≡ verdicts.Refused n p → q ≡ p
     → text ≡ refusedLine (record { number = n; place = q }) → short w ≡ false → text ≡ deskOf bytes

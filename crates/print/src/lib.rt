@@ -7,6 +7,7 @@ use machine::Answer;
 use machine::Control;
 use machine::Outcome;
 use store::Kind;
+use store::MOST_THREADS;
 use store::THREADS_WORDS;
 use table::MOST_BYTES;
 use table::MOST_EXPRESSIONS;
@@ -18,7 +19,7 @@ use table::wide;
 ghost use mathlib.Core.Path.{_≡_};
 ghost use mathlib.Core.Bool.{true};
 ghost use mathlib.Core.List.{List, _++_};
-ghost use Prim.Native.Nat.{ℕ, _<_, _^_};
+ghost use Prim.Native.Nat.{ℕ, _<_};
 ghost use lib.ListN.{length};
 ghost use Rattle.order.specs.Effects.{Effect, ofWord};
 ghost use Rattle.syntax.specs.Types.{Ty, entryTree};
@@ -26,7 +27,6 @@ ghost use Rattle.syntax.specs.Job.{Job, sourceOf};
 ghost use Rattle.syntax.specs.Words.{codeIn, entryBits};
 ghost use Rattle.semantics.specs.Threads.{allDone};
 ghost use Rattle.semantics.specs.Calls as spec;
-ghost use Rattle.semantics.specs.Calls.{total};
 ghost use Rattle.semantics.specs.Demand3.{exprOf};
 ghost use Rattle.store.specs.Meaning.{kindIn};
 ghost use Rattle.machine.specs.View.{seen, answerIn, ranIn};
@@ -35,7 +35,7 @@ ghost use Rattle.format.specs.Text.{textOf, typeSort, kindSort, kindNumber, acc
 ghost use Rattle.checker.specs.Answer.{treeOf};
 ghost use Rattle.start.specs.Starts.{Ready};
 
-// So many steps are run.
+// So many steps are allowed to each thread.
 pub const MOST_STEPS: u64 = 100000;
 
 // The kind of a type, by the command byte of its word.
@@ -81,12 +81,12 @@ fn kind_number(k: Kind, payload: u32) -> u32
 // The second line of a run that came to an end, after the first, with the value of the first thread.
 fn finished(first: Text, o: Outcome) -> Text
     ensures { λ r. ⌜
-        ((T : Ty) (s : Effect) (fs : List ℕ) → textOf first ≡ acceptedAs s (typeSort T) → total (o .counts) < 2 ^ 64 → 0 < length (seen (o .machine) fs .threads)
-        → allDone (seen (o .machine) fs .threads) ≡ true → textOf r ≡ acceptedLine T s ++ ranLine spec.finished (total (o .counts)) (seen (o .machine) fs))
+        ((T : Ty) (s : Effect) (fs : List ℕ) → textOf first ≡ acceptedAs s (typeSort T) → 0 < length (seen (o .machine) fs .threads)
+        → allDone (seen (o .machine) fs .threads) ≡ true → textOf r ≡ acceptedLine T s ++ ranLine spec.finished (o .counts) (o .thread) (seen (o .machine) fs))
         ⌝ }
 {
     let counts = o.counts;
-    let n = calls::steps(counts);
+    let n = counts[0];
     let m = o.machine;
     let threads = m.threads;
     let t = threads[0];
@@ -108,24 +108,26 @@ fn finished(first: Text, o: Outcome) -> Text
 // The second line, if there is one, after the first. An accepted job is never stuck or denied.
 fn ended(first: Text, o: Outcome) -> Text
     ensures { λ r. ⌜
-        ((T : Ty) (s : Effect) (fs : List ℕ) → textOf first ≡ acceptedAs s (typeSort T) → total (o .counts) < 2 ^ 64 → 0 < length (seen (o .machine) fs .threads)
+        ((T : Ty) (s : Effect) (fs : List ℕ) → textOf first ≡ acceptedAs s (typeSort T) → 0 < length (seen (o .machine) fs .threads)
         → (answerIn (o .answer) ≡ spec.finished → allDone (seen (o .machine) fs .threads) ≡ true) → textOf r ≡ acceptedLine T s ++ ranOf (ranIn o fs))
         ⌝ }
 {
     let a = o.answer;
     let counts = o.counts;
-    let n = calls::steps(counts);
     match a {
         Answer::Finished => finished(first, o),
-        Answer::Spent => format::both(first, format::spent(n)),
-        Answer::NoRoom => format::both(first, format::no_room(n)),
+        Answer::Spent => format::both(first, format::spent(counts[0])),
+        Answer::NoRoom => format::both(
+            first,
+            format::no_room(table::at64(&counts, o.thread as usize)),
+        ),
         Answer::Taken => first,
         Answer::Stuck => first,
         Answer::Denied => first,
     }
 }
 
-// An accepted job, with the entry of its type and its effect: it is started and runs 100,000 steps.
+// An accepted job, with the entry of its type and its effect: it is started and runs, with 100,000 steps allowed to each thread.
 fn accepted(
     i: u16,
     s: u64,
@@ -147,7 +149,7 @@ fn accepted(
     let first = format::accepted(s, sort);
     let m = start::built(g, names, types, values);
     let mut frames = [0u64; THREADS_WORDS];
-    let o = m.run(MOST_STEPS, heads, slots, &mut frames);
+    let o = m.run([MOST_STEPS; MOST_THREADS], heads, slots, &mut frames);
     ended(first, o)
 }
 

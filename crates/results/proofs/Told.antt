@@ -1,12 +1,11 @@
 -- Words written one by one: a verdict, the room of a machine by its counts; and which lent slice is too short.
-use mathlib.Core.Path.{_≡_, refl, sym, ap, ap₂, _∙_}
-use Prim.Native.Nat.{ℕ, zero, suc, _+_, _*_, _/_, _<_, _≤_}
+use mathlib.Core.Path.{_≡_, refl, sym, ap, _∙_}
+use Prim.Native.Nat.{ℕ, _+_, _*_, _<_, _≤_}
 use native.Mathlib.Omega.{arith}
-use mathlib.Core.Bool.{Bool, true, false, false≢true}
+use mathlib.Core.Bool.{Bool, true, false, not, false≢true}
 use mathlib.Core.List.{List, [], _∷_, _++_}
 use borrow.Author.Tests.{lt-ltb, le-ltb, ltb-false}
-use lib.ListN.{length, length-set, getD, set, drop}
-use lib.Seq.{sets}
+use lib.ListN.{length, getD, set}
 use native.Mathlib.Numerals.{add-one}
 use lib.Dec.{ltb}
 use Rattle.order.specs.Bools.{_or_}
@@ -22,7 +21,7 @@ use Rattle.machine.specs.declared.Machine.{Machine}
 use Rattle.machine.specs.Scheduled.{partOf, idle, threadAt, listed}
 use Rattle.machine.specs.Listed.{listed-length}
 use Rattle.machine.specs.View.{seen}
-use Rattle.calls.specs.Words.{over}
+use Rattle.calls.specs.Words.{roomFor, over}
 use Rattle.calls.specs.Laws.{sets-over}
 use Rattle.judge.specs.declared.Verdict.{Verdict}
 use Rattle.judge.specs.declared.Verdict.the-variants as verdict
@@ -89,62 +88,17 @@ summing-end {ts} {n} {s} {i} h w fs = w .told fs ∙ ap (λ (k : ℕ). framesOf 
 pub within-few : (m : ℕ) {n : ℕ} → n ≡ capped m most-threads → n ≤ most-threads
 within-few m h = let z = cap-le m most-threads in omega (arith, h, z)
 
--- The steps of each thread
-
-drop-next : (l : List ℕ) (i : ℕ) → i < length l → drop i l ≡ getD l i 0 ∷ drop (suc i) l
-drop-next [] i h = absurd (omega arith)
-drop-next (x ∷ l) zero h = refl
-drop-next (x ∷ l) (suc i) h = drop-next l i (omega arith)
-
-drop-all : (l : List ℕ) (i : ℕ) → length l ≤ i → drop i l ≡ []
-drop-all [] zero h = refl
-drop-all [] (suc i) h = refl
-drop-all (x ∷ l) zero h = absurd (omega arith)
-drop-all (x ∷ l) (suc i) h = drop-all l i (omega arith)
-
--- so many are written; the others are still to be
-pub record Putting (counts before after : List ℕ) (i : ℕ) : Type 0 where
-  pub onward : sets after (7 + i) (drop i counts) ≡ sets before 7 counts
-  pub long : length counts ≡ 8
-  pub same : length after ≡ length before
-
-pub putting-start : (counts s : List ℕ) → length counts ≡ 8 → Putting counts s s 0
-putting-start counts s h = record { onward = refl; long = h; same = refl }
-
-pub putting-on : {counts s a b : List ℕ} {i : ℕ} → i < 8 → b ≡ set a (7 + i) (getD counts i 0) → Putting counts s a i → Putting counts s b (i + 1)
-putting-on {counts} {s} {a} {b} {i} h e w = record {
-  onward =
-      ap (λ (z : List ℕ). sets z (7 + (i + 1)) (drop (i + 1) counts)) e
-      ∙ ap₂ (λ (m k : ℕ). sets (set a (7 + i) (getD counts i 0)) m (drop k counts)) (let y : 7 + (i + 1) ≡ suc (7 + i) = omega arith in y) (add-one i)
-      ∙ ap (λ (z : List ℕ). sets a (7 + i) z) (sym (drop-next counts i (omega (arith, h, w .long))))
-      ∙ w .onward;
-  long = w .long;
-  same = ap length e ∙ length-set a (7 + i) (getD counts i 0) ∙ w .same;
-}
-
-pub putting-end : {counts s a : List ℕ} {i : ℕ} → 8 ≤ i → Putting counts s a i → a ≡ sets s 7 counts
-putting-end {counts} {s} {a} {i} h w = ap (λ (z : List ℕ). sets a (7 + i) z) (sym (drop-all counts i (omega (arith, h, w .long)))) ∙ w .onward
-
--- All of them
-
-sets-more : (l : List ℕ) (i : ℕ) (vs ws : List ℕ) → sets (sets l i vs) (i + length vs) ws ≡ sets l i (vs ++ ws)
-sets-more l i [] ws = ap (λ (k : ℕ). sets l k ws) (let z : i + 0 ≡ i = omega arith in z)
-sets-more l i (v ∷ vs) ws = ap (λ (k : ℕ). sets (sets (set l i v) (suc i) vs) k ws) (let z : i + suc (length vs) ≡ suc i + length vs = omega arith in z) ∙ sets-more (set l i v) (suc i) vs ws
-
 -- the counts are the lengths
-pub rooms-told : (m : Machine) (counts l : List ℕ) {k k' : List ℕ} {f n g : ℕ} → n ≡ capped (m .count) most-threads → g ≡ n → ((fs : List ℕ) → f ≡ framesOf (listed (threadAt (m .threads) fs) n))
-    → k ≡ over l (countWords (m .used) f g) → k' ≡ sets k 7 counts → (fs : List ℕ) → k' ≡ over l (roomWords (seen m fs) counts)
+pub rooms-told : (m : Machine) (l : List ℕ) {k : List ℕ} {f n g : ℕ} → n ≡ capped (m .count) most-threads → g ≡ n → ((fs : List ℕ) → f ≡ framesOf (listed (threadAt (m .threads) fs) n))
+    → k ≡ over l (countWords (m .used) f g) → (fs : List ℕ) → k ≡ over l (roomWords (seen m fs))
 unfolding countWords roomWords
-rooms-told m counts l {f = f} {n} {g = w} hn hw hf h g fs =
-    g
-    ∙ ap (λ (z : List ℕ). sets z 7 counts) (h ∙ sym (sets-over l (countWords (m .used) f w)))
-    ∙ sets-more l 0 (countWords (m .used) f w) counts
-    ∙ sets-over l (countWords (m .used) f w ++ counts)
+rooms-told m l {n = n} hn hw hf h fs =
+    h
     ∙ (λ i.
     over l
     (sym (list-length cellIn (m .cells) (capped (m .used .cells) most-cells)) i ∷ sym (list-length upIn (m .keys) (capped (m .used .keys) most-keys)) i ∷ sym (list-length pairIn (m .pairs) (capped (m .used .pairs) most-pairs)) i
     ∷ sym (list-length functionIn (m .functions) (capped (m .used .functions) most-functions)) i ∷ (hf fs ∙ ap (λ (z : ℕ). framesOf (listed (threadAt (m .threads) fs) z)) hn) i
-    ∷ sym (list-length linkIn (m .bindings) (capped (m .used .bindings) most-bindings)) i ∷ (hw ∙ hn ∙ sym (listed-length (threadAt (m .threads) fs) (capped (m .count) most-threads))) i ∷ counts))
+    ∷ sym (list-length linkIn (m .bindings) (capped (m .used .bindings) most-bindings)) i ∷ (hw ∙ hn ∙ sym (listed-length (threadAt (m .threads) fs) (capped (m .count) most-threads))) i ∷ []))
 
 or-none : (a b : Bool) → (a or b) ≡ false → (a ≡ false) × (b ≡ false)
 unfolding _or_
@@ -153,27 +107,27 @@ or-none false b e = (refl, e)
 
 -- which slice is too short
 module _ (ws a v c o : List ℕ) where
-  pub short-answers : length a / 2 < length ws → true ≡ lentShort ws a v c o
+  pub short-answers : not (roomFor ws a) ≡ true → true ≡ lentShort ws a v c o
   unfolding lentShort _or_
-  short-answers h = let z : length a < 2 * length ws = omega arith in simp (lt-ltb _ _ z)
+  short-answers h = simp h
 
-  pub short-value : length ws ≤ length a / 2 → length v < 2 → true ≡ lentShort ws a v c o
+  pub short-value : not (roomFor ws a) ≡ false → length v < 2 → true ≡ lentShort ws a v c o
   unfolding lentShort _or_
-  short-value h g = let z : 2 * length ws ≤ length a = omega arith in simp (le-ltb _ _ z, lt-ltb _ _ g)
+  short-value h g = simp (h, lt-ltb _ _ g)
 
-  pub short-cells : length ws ≤ length a / 2 → 2 ≤ length v → length c < cell-words → true ≡ lentShort ws a v c o
+  pub short-cells : not (roomFor ws a) ≡ false → 2 ≤ length v → length c < cell-words → true ≡ lentShort ws a v c o
   unfolding lentShort _or_
-  short-cells h g k = let z : 2 * length ws ≤ length a = omega arith in simp (le-ltb _ _ z, le-ltb _ _ g, lt-ltb _ _ k)
+  short-cells h g k = simp (h, le-ltb _ _ g, lt-ltb _ _ k)
 
-  pub short-out : length ws ≤ length a / 2 → 2 ≤ length v → cell-words ≤ length c → ltb (length o) 2 ≡ lentShort ws a v c o
+  pub short-out : not (roomFor ws a) ≡ false → 2 ≤ length v → cell-words ≤ length c → ltb (length o) 2 ≡ lentShort ws a v c o
   unfolding lentShort _or_
-  short-out h g k = let z : 2 * length ws ≤ length a = omega arith in simp (le-ltb _ _ z, le-ltb _ _ g, le-ltb _ _ k)
+  short-out h g k = simp (h, le-ltb _ _ g, le-ltb _ _ k)
 
   -- none is
   pub long-lent : lentShort ws a v c o ≡ false → (2 ≤ length v) × (cell-words ≤ length c) × (2 ≤ length o)
   unfolding lentShort
   long-lent e =
-      let x = or-none (ltb (length a) (2 * length ws) or ltb (length v) 2 or ltb (length c) cell-words) (ltb (length o) 2) e in
-      let y = or-none (ltb (length a) (2 * length ws) or ltb (length v) 2) (ltb (length c) cell-words) (x .0) in
-      let z = or-none (ltb (length a) (2 * length ws)) (ltb (length v) 2) (y .0) in
+      let x = or-none (not (roomFor ws a) or ltb (length v) 2 or ltb (length c) cell-words) (ltb (length o) 2) e in
+      let y = or-none (not (roomFor ws a) or ltb (length v) 2) (ltb (length c) cell-words) (x .0) in
+      let z = or-none (not (roomFor ws a)) (ltb (length v) 2) (y .0) in
       (ltb-false _ _ (z .1), ltb-false _ _ (y .1), ltb-false _ _ (x .1))

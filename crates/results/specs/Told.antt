@@ -1,6 +1,6 @@
 -- What callers from C and Rust are told of a verdict and of the room in use, in words; and how long the slices are that they lend for it.
 use Prim.Native.Nat.{ℕ, _+_, _*_}
-use mathlib.Core.Bool.{Bool}
+use mathlib.Core.Bool.{Bool, not}
 use mathlib.Core.List.{List, [], _∷_}
 use lib.ListN.{length}
 use lib.Dec.{ltb}
@@ -8,6 +8,7 @@ use Rattle.order.specs.Bools.{_or_}
 use Rattle.semantics.specs.Machine.{Thread as SThread, System, most-cells, most-keys, most-pairs, most-functions, most-bindings}
 use Rattle.store.specs.Tables.{capped}
 use Rattle.store.specs.declared.Used.{Used}
+use Rattle.calls.specs.Words.{roomFor}
 use Rattle.judge.specs.declared.Verdict.{Verdict}
 use Rattle.judge.specs.declared.Verdict.the-variants.{Accepted, Refused}
 
@@ -26,12 +27,12 @@ unfoldable pub framesOf : List SThread → ℕ
 framesOf [] = 0
 framesOf (t ∷ l) = length (t .frames) + framesOf l
 
--- the cells, keys, pairs, functions, frames and bindings that a machine uses, and its threads; then the steps of each thread in the last call
-unfoldable pub roomWords : System → List ℕ → List ℕ
-roomWords s counts =
-    length (s .store .cells) ∷ length (s .store .keys) ∷ length (s .store .pairs) ∷ length (s .store .functions) ∷ framesOf (s .threads) ∷ length (s .store .bindings) ∷ length (s .threads) ∷ counts
+-- the cells, keys, pairs, functions, frames and bindings that a machine uses, and its threads
+unfoldable pub roomWords : System → List ℕ
+roomWords s =
+    length (s .store .cells) ∷ length (s .store .keys) ∷ length (s .store .pairs) ∷ length (s .store .functions) ∷ framesOf (s .threads) ∷ length (s .store .bindings) ∷ length (s .threads) ∷ []
 
--- the first of them by the counts of the store, with so many frames and threads
+-- the same by the counts of the store, with so many frames and threads
 unfoldable pub countWords : Used → ℕ → ℕ → List ℕ
 countWords u f n =
     capped (u .cells) most-cells ∷ capped (u .keys) most-keys ∷ capped (u .pairs) most-pairs ∷ capped (u .functions) most-functions ∷ f ∷ capped (u .bindings) most-bindings ∷ n ∷ []
@@ -40,6 +41,6 @@ countWords u f n =
 abbrev pub cell-words : ℕ
 cell-words = 2 * most-cells
 
--- a slice that is lent to a session is too short: two words a call, two for the value, two a cell, two for what is told of the verdict
+-- a slice that is lent to a session is too short: nine words a call, ten for its answer, two for the value, two a cell, two for what is told of the verdict
 unfoldable pub lentShort : List ℕ → List ℕ → List ℕ → List ℕ → List ℕ → Bool
-lentShort words a v c o = ltb (length a) (2 * length words) or ltb (length v) 2 or ltb (length c) cell-words or ltb (length o) 2
+lentShort words a v c o = not (roomFor words a) or ltb (length v) 2 or ltb (length c) cell-words or ltb (length o) 2

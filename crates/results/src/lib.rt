@@ -24,7 +24,6 @@ use table::wide16;
 ghost use mathlib.Core.Path.{_≡_};
 ghost use Prim.Native.Nat.{ℕ, _≤_, _<_};
 ghost use mathlib.Core.List.{List};
-ghost use lib.Seq.{sets};
 ghost use Rattle.semantics.specs.Machine.{most-cells, most-threads};
 ghost use Rattle.semantics.specs.Threads.{handedOn};
 ghost use Rattle.store.specs.Meaning.{kindIn};
@@ -93,31 +92,18 @@ fn put_rooms(u: Used, frames: u64, threads: u64, rooms: &mut [u64])
     put64(rooms, 6, threads);
 }
 
-// The steps of each thread, from place 7 on.
-fn put_steps(counts: [u64; MOST_THREADS], rooms: &mut [u64])
-    ensures { λ _. ⌜ now (rooms .exit) ≡ sets (now (rooms .entry)) 7 counts ⌝ }
-{
-    let mut i: usize = 0;
-    while i < MOST_THREADS {
-        let n = counts[i];
-        put64(rooms, 7 + i, n);
-        i = i + 1;
-    }
-}
-
-// How much of each kind the machine uses, its threads, and the steps of each in the last call, as far as there are places to write it.
-pub fn count(m: Machine, counts: [u64; MOST_THREADS], rooms: &mut [u64])
-    ensures { λ _. ⌜ ((fs : List ℕ) → now (rooms .exit) ≡ over (now (rooms .entry)) (roomWords (seen m fs) counts)) ⌝ }
+// How much of each kind the machine uses, and its threads, as far as there are places to write it.
+pub fn count(m: Machine, rooms: &mut [u64])
+    ensures { λ _. ⌜ ((fs : List ℕ) → now (rooms .exit) ≡ over (now (rooms .entry)) (roomWords (seen m fs))) ⌝ }
 {
     let n = within(m.count);
     let threads = m.threads;
     let frames = frames_of(threads, n);
     let u = m.used;
     put_rooms(u, frames, wide(n), rooms);
-    put_steps(counts, rooms);
 }
 
-// Whether a slice that is lent to a session is too short: two words a call, two for the value, two for each cell, two for what is told.
+// Whether a slice that is lent to a session is too short: nine words a call, ten for its answer, two for the value, two for each cell, two for what is told.
 pub fn is_short<'a>(
     calls: &'a [u64],
     answers: &'a [u64],
@@ -127,7 +113,7 @@ pub fn is_short<'a>(
 ) -> bool
     ensures { λ r. ⌜ r ≡ lentShort (now (calls .entry)) (now (answers .entry)) (now (value .entry)) (now (cells .entry)) (now (out .entry)) ⌝ }
 {
-    if answers.len() / 2 < calls.len() {
+    if calls::lacks_room(calls, answers) {
         return true;
     }
     if value.len() < 2 {

@@ -52,7 +52,7 @@ ranOf g = ranIn (g .outcome) (g .frames)
 -- what the two functions ensure of one call on the machine m with the frames fs, by the words of the job's expressions
 pub data Called (heads slots : List ℕ) (m : Machine) (fs : List ℕ) : Call → Gave → Type 0 where
   by-step : {g : Gave} → ranOf g ≡ call (stepsOf (codeIn heads slots)) one-step (seen m fs) → Called heads slots m fs one-step g
-  by-run : {n : ℕ} {g : Gave} → ranOf g ≡ call (stepsOf (codeIn heads slots)) (run-of n) (seen m fs) → Called heads slots m fs (run-of n) g
+  by-run : {allow : List ℕ} {g : Gave} → ranOf g ≡ call (stepsOf (codeIn heads slots)) (run-of allow) (seen m fs) → Called heads slots m fs (run-of allow) g
 
 -- a list of calls, each on the machine that the last one gave, with the frames as that one left them; the words are the same at each
 pub data AllCalled (heads slots : List ℕ) : Machine → List ℕ → List Call → List Gave → Type 0 where

@@ -1,11 +1,10 @@
 -- The cases of a session: too short answers, a refused job, an accepted job.
 use mathlib.Core.Path.{_≡_, refl, sym, ap, _∙_, subst, fun-ext}
-use Prim.Native.Nat.{ℕ, _*_, _/_, _≤_, _<_}
+use Prim.Native.Nat.{ℕ, _*_}
 use native.Mathlib.Omega.{arith}
 use mathlib.Core.Bool.{true, false}
 use mathlib.Core.List.{List, _++_}
 use lib.ListN.{length, drop}
-use borrow.Author.Tests.{le-leb, lt-leb}
 use Rattle.order.specs.Effects.{ofWord}
 use Rattle.syntax.specs.Types.{Ty}
 use Rattle.syntax.specs.Reading.{Refusal, read}
@@ -19,11 +18,12 @@ use Rattle.semantics.specs.Machine.{System}
 use Rattle.semantics.specs.Start.{startOf}
 use Rattle.semantics.specs.Threads.{Steps, stepsOf}
 use Rattle.semantics.specs.Calls.{calls, lastOf}
+use Rattle.semantics.specs.TurnLaws.{lawful}
 use Rattle.semantics.specs.Demand3.{exprOf, stepsIn, callsOf}
 use Rattle.machine.specs.declared.Machine.{Machine}
 use Rattle.machine.specs.View.{seen}
-use Rattle.calls.specs.Words.{callsIn, resultWords, over}
-use Rattle.calls.specs.Laws.{over-fits, result-length}
+use Rattle.calls.specs.Words.{answer-words, callCount, callsIn, roomFor, resultWords, over}
+use Rattle.calls.specs.Laws.{results-fit}
 use Rattle.calls.specs.Made.{Made}
 use Rattle.checker.specs.declared.Checked.{Checked}
 use Rattle.judge.specs.declared.Verdict.{Verdict as Answer}
@@ -35,51 +35,43 @@ use Rattle.start.specs.Starts.{builtFrom, ready-built}
 use Rattle.safety.specs.Accepting.{Accepting, accepting}
 use Rattle.safety.specs.FromContracts.{threads-of}
 use Rattle.session.specs.declared.Held.{Held}
-use Rattle.session.specs.Session.{roomFor, sessionVerdict, sessionTables, RefusedWith, SessionTo}
+use Rattle.session.specs.Session.{sessionVerdict, sessionTables, RefusedWith, SessionTo}
 
-pub made-from : {K : Steps} {ws a b c : List ℕ} {m n last : System} → m ≡ n → Made K ws m a b last c → Made K ws n a b last c
-made-from {K} {ws} {a} {b} {c} {last = last} e x = subst (λ (z : System). Made K ws z a b last c) e x
+pub made-from : {K : Steps} {ws a b : List ℕ} {m n last : System} → m ≡ n → Made K ws m a b last → Made K ws n a b last
+made-from {K} {ws} {a} {b} {last = last} e x = subst (λ (z : System). Made K ws z a b last) e x
 
 -- the calls from the start of the job that the tables hold, with its expressions
-answers-are : (J : Job) (h p ws a b d : List ℕ) (m last : System) → Made (stepsOf (codeIn h p)) ws m a b last d → m ≡ startOf (sourceOf J) → ((i : ℕ) → codeIn h p i ≡ exprOf J i)
+answers-are : (J : Job) (h p ws a b : List ℕ) (m last : System) → Made (stepsOf (codeIn h p)) ws m a b last → m ≡ startOf (sourceOf J) → ((i : ℕ) → codeIn h p i ≡ exprOf J i)
     → b ≡ over a (resultWords (callsOf J (callsIn ws)))
-answers-are J h p ws a b d m last x e c =
+answers-are J h p ws a b m last x e c =
     x .answers ∙ ap (λ z. over a (resultWords (calls (stepsOf (codeIn h p)) (callsIn ws) z))) e
     ∙ ap (λ (z : ℕ → Cmd ℕ). over a (resultWords (calls (stepsOf z) (callsIn ws) (startOf (sourceOf J))))) (fun-ext c)
 
-last-is : (J : Job) (h p ws a b d : List ℕ) (m last : System) → Made (stepsOf (codeIn h p)) ws m a b last d → m ≡ startOf (sourceOf J) → ((i : ℕ) → codeIn h p i ≡ exprOf J i)
+last-is : (J : Job) (h p ws a b : List ℕ) (m last : System) → Made (stepsOf (codeIn h p)) ws m a b last → m ≡ startOf (sourceOf J) → ((i : ℕ) → codeIn h p i ≡ exprOf J i)
     → last ≡ lastOf (stepsIn J) (callsIn ws) (startOf (sourceOf J))
-last-is J h p ws a b d m last x e c =
+last-is J h p ws a b m last x e c =
     x .machine ∙ ap (λ z. lastOf (stepsOf (codeIn h p)) (callsIn ws) z) e ∙ ap (λ (z : ℕ → Cmd ℕ). lastOf (stepsOf z) (callsIn ws) (startOf (sourceOf J))) (fun-ext c)
 
-room-no : (ws a : List ℕ) → length a / 2 < length ws → roomFor ws a ≡ false
-unfolding roomFor
-room-no ws a h = lt-leb (2 * length ws) (length a) (omega arith)
-
-room-yes : (ws a : List ℕ) → length ws ≤ length a / 2 → roomFor ws a ≡ true
-unfolding roomFor
-room-yes ws a h = le-leb (2 * length ws) (length a) (omega arith)
-
-pub session-short : (bytes ws fs a : List ℕ) (w : Tables) (o : Held) → length a / 2 < length ws → RefusedWith 1 0 o → SessionTo bytes ws o w w fs fs a a
+pub session-short : (bytes ws fs a : List ℕ) (w : Tables) (o : Held) → roomFor ws a ≡ false → RefusedWith 1 0 o → SessionTo bytes ws o w w fs fs a a
 unfolding sessionVerdict sessionTables verdictIn
 session-short bytes ws fs a w o h f =
     record {
-      verdict = rw (f .verdict, room-no ws a h);
-      tables = rw (room-no ws a h);
+      verdict = rw (f .verdict, h);
+      tables = rw (h);
       entry = λ i s e J q. absurd (let g : verdicts.Refused 1 0 ≡ verdicts.Accepted i s = sym (f .verdict) ∙ e in let z : _≡_ {A = ℕ} 0 1 = cc in omega arith);
       refused = λ q e. record { written = refl; frames = refl; machine = f .machine fs };
-      accepted = λ T s e. absurd (let f : refuse (record { number = 1; place = 0 }) ≡ accept T s = rw (room-no ws a h) at e in let z : _≡_ {A = ℕ} 0 1 = cc in omega arith);
+      accepted = λ T s e. absurd (let f : refuse (record { number = 1; place = 0 }) ≡ accept T s = rw (h) at e in let z : _≡_ {A = ℕ} 0 1 = cc in omega arith);
     }
 
-with-room : (bytes ws a : List ℕ) (w : Tables) → length ws ≤ length a / 2 → sessionVerdict (roomFor ws a) w bytes ≡ verdictWith w bytes
+with-room : (bytes ws a : List ℕ) (w : Tables) → roomFor ws a ≡ true → sessionVerdict (roomFor ws a) w bytes ≡ verdictWith w bytes
 unfolding sessionVerdict
-with-room bytes ws a w h = rw (room-yes ws a h)
+with-room bytes ws a w h = rw (h)
 
-tables-room : (bytes ws a : List ℕ) (w : Tables) → length ws ≤ length a / 2 → tablesAfter w bytes ≡ sessionTables (roomFor ws a) w bytes
+tables-room : (bytes ws a : List ℕ) (w : Tables) → roomFor ws a ≡ true → tablesAfter w bytes ≡ sessionTables (roomFor ws a) w bytes
 unfolding sessionTables
-tables-room bytes ws a w h = rw (room-yes ws a h)
+tables-room bytes ws a w h = rw (h)
 
-pub session-refused : (bytes ws fs a : List ℕ) (r : Checked) (w x : Tables) (n p : ℕ) (o : Held) → length ws ≤ length a / 2 → CheckTo bytes r w x → r .verdict ≡ verdicts.Refused n p
+pub session-refused : (bytes ws fs a : List ℕ) (r : Checked) (w x : Tables) (n p : ℕ) (o : Held) → roomFor ws a ≡ true → CheckTo bytes r w x → r .verdict ≡ verdicts.Refused n p
     → RefusedWith n p o → SessionTo bytes ws o w x fs fs a a
 unfolding verdictIn
 session-refused bytes ws fs a r w x n p o h c v f =
@@ -93,11 +85,10 @@ session-refused bytes ws fs a r w x n p o h c v f =
       accepted = λ T s k. absurd (let z : _≡_ {A = ℕ} 0 1 = cc in omega arith);
     }
 
-fits : (J : Job) (ws a : List ℕ) → length ws ≤ length a / 2
-    → over a (resultWords (callsOf J (callsIn ws))) ≡ resultWords (callsOf J (callsIn ws)) ++ drop (2 * length ws) a
-fits J ws a h =
-    let l : length (resultWords (callsOf J (callsIn ws))) ≡ 2 * length ws = result-length (stepsIn J) ws (startOf (sourceOf J)) in
-    over-fits a (resultWords (callsOf J (callsIn ws))) (omega (arith, l)) ∙ ap (λ (k : ℕ). resultWords (callsOf J (callsIn ws)) ++ drop k a) l
+fits : (J : Job) (ws a : List ℕ) → roomFor ws a ≡ true
+    → over a (resultWords (callsOf J (callsIn ws))) ≡ resultWords (callsOf J (callsIn ws)) ++ drop (answer-words * callCount ws) a
+unfolding startOf
+fits J ws a h = results-fit (stepsIn J) (lawful (exprOf J)) ws a (startOf (sourceOf J)) (omega arith) h
 
 never : {A : Type 0} (t u : List ℕ) (i s : ℕ) (q : Refusal) → verdictIn t u (verdicts.Accepted i s) ≡ refuse q → A
 unfolding verdictIn
@@ -107,10 +98,10 @@ counted : (l : List ℕ) (J K : Job) → read J ≡ read K → lastIn l (shapeOf
 unfolding shapeOf
 counted l J K e = let z : J ≡ K = cc in ap (λ (L : Job). lastIn l (length (L .cmds))) z
 
-pub session-accepted : (bytes ws fs fs' a b d : List ℕ) (r : Checked) (w x : Tables) (i s : ℕ) (m : Machine) → length ws ≤ length a / 2 → CheckTo bytes r w x → r .verdict ≡ verdicts.Accepted i s
-    → Made (stepsOf (codeIn (x .job .heads) (x .job .slots))) ws (builtFrom (r .shape) (x .job .names) (x .job .types) (x .job .values)) a b (seen m fs') d
+pub session-accepted : (bytes ws fs fs' a b : List ℕ) (r : Checked) (w x : Tables) (i s : ℕ) (m : Machine) → roomFor ws a ≡ true → CheckTo bytes r w x → r .verdict ≡ verdicts.Accepted i s
+    → Made (stepsOf (codeIn (x .job .heads) (x .job .slots))) ws (builtFrom (r .shape) (x .job .names) (x .job .types) (x .job .values)) a b (seen m fs')
     → Bytes bytes → SessionTo bytes ws (record { verdict = verdicts.Accepted i s; machine = m }) w x fs fs' a b
-session-accepted bytes ws fs fs' a b d r w x i s m h c v f by = go (accepting bytes by r w x i s c v)
+session-accepted bytes ws fs fs' a b r w x i s m h c v f by = go (accepting bytes by r w x i s c v)
   where
     number : Answer → ℕ
     number (verdicts.Accepted j t) = j
@@ -131,8 +122,8 @@ session-accepted bytes ws fs fs' a b d r w x i s m h c v f by = go (accepting by
                 results = callsOf (y .job) (callsIn ws);
                 actual = refl;
                 allowed = y .allowed (callsIn ws);
-                written = answers-are (y .job) _ _ ws a b d _ _ f (ready-built (y .ready)) (y .code) ∙ fits (y .job) ws a h;
-                machine = last-is (y .job) _ _ ws a b d _ _ f (ready-built (y .ready)) (y .code);
-                threads = threads-of bytes (y .job) (y .verdict) (y .is) (callsIn ws) (last-is (y .job) _ _ ws a b d _ _ f (ready-built (y .ready)) (y .code));
+                written = answers-are (y .job) _ _ ws a b _ _ f (ready-built (y .ready)) (y .code) ∙ fits (y .job) ws a h;
+                machine = last-is (y .job) _ _ ws a b _ _ f (ready-built (y .ready)) (y .code);
+                threads = threads-of bytes (y .job) (y .verdict) (y .is) (callsIn ws) (last-is (y .job) _ _ ws a b _ _ f (ready-built (y .ready)) (y .code));
               };
         }

@@ -4,7 +4,6 @@ use Prim.Native.Nat.{ℕ, _*_}
 use mathlib.Core.Bool.{Bool, true, false}
 use mathlib.Core.List.{List, _++_}
 use lib.ListN.{length, drop}
-use lib.Dec.{leb}
 use Rattle.order.specs.Effects.{Effect}
 use Rattle.syntax.specs.Types.{Ty}
 use Rattle.syntax.specs.Job.{Job, sourceOf}
@@ -16,18 +15,14 @@ use Rattle.semantics.specs.Start.{startOf}
 use Rattle.semantics.specs.Calls.{Ran, lastOf}
 use Rattle.semantics.specs.Demand3.{stepsIn, callsOf, Allowed}
 use Rattle.machine.specs.View.{seen}
-use Rattle.calls.specs.Words.{callsIn, resultWords}
+use Rattle.calls.specs.Words.{answer-words, callCount, callsIn, roomFor, resultWords}
 use Rattle.initial.specs.Empty.{emptyMachine}
 use Rattle.judge.specs.declared.Verdict.the-variants.{Accepted, Refused}
 use Rattle.checker.specs.Answer.{verdictIn, lastIn}
 use Rattle.safety.specs.FromContracts.{ThreadsSafe}
 use Rattle.session.specs.declared.Held.{Held}
 
--- the answers have two places for each call
-unfoldable pub roomFor : List ℕ → List ℕ → Bool
-roomFor words answers = leb (2 * length words) (length answers)
-
--- 1 where they have not
+-- 1 where the calls are no whole number, or the answers have no room for them
 unfoldable pub sessionVerdict : Bool → Tables → List ℕ → Verdict
 sessionVerdict true w s = verdictWith w s
 sessionVerdict false w s = refuse (record { number = 1; place = 0 })
@@ -44,7 +39,7 @@ pub record Answered (bytes words before after : List ℕ) (last : System) : Type
   pub results : List Ran
   pub actual : results ≡ callsOf job (callsIn words)
   pub allowed : Allowed job (callsIn words) results
-  pub written : after ≡ resultWords results ++ drop (2 * length words) before
+  pub written : after ≡ resultWords results ++ drop (answer-words * callCount words) before
   pub machine : last ≡ lastOf (stepsIn job) (callsIn words) (startOf (sourceOf job))
   pub threads : ThreadsSafe job last
 

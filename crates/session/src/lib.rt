@@ -1,5 +1,4 @@
 // A whole session on a job's bytes: it is checked and, if it is accepted, started and called.
-use calls::Last;
 use checker::Verdict;
 use job::Shape;
 use machine::Machine;
@@ -19,7 +18,7 @@ pub struct Held {
     pub machine: Machine,
 }
 
-// The calls on the machine at the start of the job that the tables hold. Returns the machine that the last one gave, and the steps of each thread in it.
+// The calls on the machine at the start of the job that the tables hold. Returns the machine that the last one gave.
 fn answer(
     g: Shape,
     names: &[u16],
@@ -30,11 +29,11 @@ fn answer(
     frames: &mut [u64; THREADS_WORDS],
     calls: &[u64],
     answers: &mut [u64],
-) -> Last
+) -> Machine
     ensures { λ r. ⌜
         Made (stepsOf (codeIn (now (heads .entry)) (now (slots .entry)))) (now (calls .entry))
         (builtFrom g (now (names .entry)) (now (types .entry)) (now (values .entry)))
-        (now (answers .entry)) (now (answers .exit)) (seen (r .machine) (now (frames .exit))) (r .counts)
+        (now (answers .entry)) (now (answers .exit)) (seen r (now (frames .exit)))
         ⌝ }
 {
     let m = start::built(g, names, types, values);
@@ -52,10 +51,10 @@ fn refused(n: u8, p: usize) -> Held
     }
 }
 
-// The bytes are checked with the lent tables. An accepted job is started, and the calls are made, each on the machine that the last one gave: 0 is a step,
-// n + 1 a run of n. Of call i the number of its answer goes to place 2i of the answers and the steps of all threads in it to place 2i + 1. The frames may hold
+// The bytes are checked with the lent tables. An accepted job is started, and the calls are made, each on the machine that the last one gave. A call is nine words: 0, for a step, or
+// another number, for a run, and eight allowances. Of call i the number of its answer, its thread and the steps of each of eight threads in it go to the ten places of the answers from 10i on. The frames may hold
 // anything before; where no call is made, they stay, and else those in use are the last machine's, and what the other words hold is left free.
-// Where the answers have no room for all calls, 1 is given and nothing is written.
+// Where the words are no whole number of calls, or the answers have no room for all of them, 1 is given and nothing is written.
 pub fn session(
     job: &[u8],
     names: &mut [u16],
@@ -77,7 +76,7 @@ pub fn session(
         (now (frames .entry)) (now (frames .exit)) (now (answers .entry)) (now (answers .exit))
         ⌝ }
 {
-    if answers.len() / 2 < calls.len() {
+    if calls::lacks_room(calls, answers) {
         return refused(1, 0);
     }
     let c = checker::check(
@@ -96,7 +95,7 @@ pub fn session(
     match v {
         Verdict::Refused(n, p) => refused(n, p),
         Verdict::Accepted(i, s) => {
-            let last = answer(
+            let m = answer(
                 g,
                 names,
                 types,
@@ -107,7 +106,6 @@ pub fn session(
                 calls,
                 answers,
             );
-            let m = last.machine;
             Held {
                 verdict: Verdict::Accepted(i, s),
                 machine: m,

@@ -19,7 +19,7 @@ same-length-2 : tie.Need-same-length-2
 same-length-2 c = search needs
 
 returns : tie.Need-returns
-returns c = record { last = _; counts = _; made = c .before .before .before .before .before .before .before .before .make-calls .ensures; rooms = c .before .before .count .ensures _ }
+returns c = record { last = _; made = c .before .before .before .before .before .before .make-calls .ensures; rooms = c .before .before .count .ensures _ }
 
 pub go-spec : {M : Type 1} → statement M
 go-spec = tie.close (tie.spec make-calls-requires count-requires same-length same-length-2 returns)

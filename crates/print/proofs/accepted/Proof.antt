@@ -42,7 +42,7 @@ returns c =
     accepted-ran (treeOf (c .before .before .before .before .before .before .before .before .before .before .before .before .args .types .now) sets (c .before .before .before .before .before .before .before .before .before .before .before .before .args .i)) (ofWord (c .before .before .before .before .before .before .before .before .before .before .before .before .args .s))
     (c .ended .ensures (treeOf (c .before .before .before .before .before .before .before .before .before .before .before .before .args .types .now) sets (c .before .before .before .before .before .before .before .before .before .before .before .before .args .i)) (ofWord (c .before .before .before .before .before .before .before .before .before .before .before .before .args .s)) _
     (c .before .before .before .before .accepted .ensures ∙ ap (acceptedAs (ofWord (c .before .before .before .before .before .before .before .before .before .before .before .before .args .s))) (sort-is (c .before .before .before .before .before .before .before .before .before .before .before .before .args .types .now) sets (c .before .before .before .before .before .before .before .before .before .before .before .before .args .i) _ _ (c .before .before .before .before .before .type-sort .ensures) (c .before .before .before .before .before .before .at64 .ensures)))
-    (z .small) (z .some-thread) (z .ended))
+    (z .some-thread) (z .ended))
     (ran-line J _ _ _ _ e (c .before .before .before .built .ensures _ ∙ ready-built y) k)
 
 pub accepted-spec : {M : Type 1} → statement M

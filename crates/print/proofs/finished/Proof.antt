@@ -1,17 +1,11 @@
+use mathlib.Core.Path.{refl}
 use Rattle.print.proofs.Prints.{finished-hand, finished-enter}
 use borrow.Author.Needs.{needs}
 use Rattle.print.proofs.finished.Statement.{statement}
 use Rattle.print.proofs.finished.Tie as tie
-use Rattle.print.proofs.finished.Reads as reads
-use Rattle.print.proofs.finished.Lts as lts
-use Rattle.calls.proofs.steps.Reads as steps-reads
-use Rattle.format.proofs.both.Reads as both-reads
-use Rattle.format.proofs.done.Reads as done-reads
-use Rattle.print.proofs.kind_number.Reads as kind-number-reads
-use Rattle.print.proofs.kind_sort.Reads as kind-sort-reads
 
-steps-requires : tie.Need-steps-requires
-steps-requires c κs = search needs
+array-read-n : tie.Need-array-read-n
+array-read-n c = search needs
 
 array-copy-out-t : tie.Need-array-copy-out-t
 array-copy-out-t c = search needs
@@ -38,16 +32,16 @@ enum-told : tie.Need-enum-told
 enum-told c = search needs
 
 returns : tie.Need-returns
-returns c = λ T s fs f small some-thread done. finished-hand T s (c .before .before .before .before .before .before .before .before .before .before .before .before .before .before .args .o) fs _ (c .before .before .before .before .unpack .result) _ _ _ _ _ _ f small some-thread done (c .before .before .before .before .before .before .control .given .1) (c .before .before .before .before .unpack .ensures) (c .before .before .before .before .before .before .before .before .before .before .before .before .steps .ensures) (c .before .before .before .kind-sort .ensures _) (c .before .before .kind-number .ensures) (c .before .done .ensures) (c .both .ensures)
+returns c = λ T s fs f some-thread done. finished-hand T s (c .before .before .before .before .before .before .before .before .before .before .before .before .before .args .o) fs _ (c .before .before .before .before .unpack .result) _ _ _ _ _ _ f some-thread done (c .before .before .before .before .before .before .control .given .1) (c .before .before .before .before .unpack .ensures) refl (c .before .before .before .kind-sort .ensures _) (c .before .before .kind-number .ensures) (c .before .done .ensures) (c .both .ensures)
 
 returns-2 : tie.Need-returns-2
-returns-2 c = λ T s fs f small some-thread done. finished-enter (c .before .before .before .before .before .before .before .before .args .o) fs _ (c .enum-told .given .1) some-thread done
+returns-2 c = λ T s fs f some-thread done. finished-enter (c .before .before .before .before .before .before .before .args .o) fs _ (c .enum-told .given .1) some-thread done
 
 pub finished-spec : {M : Type 1} → statement M
 finished-spec =
     tie.close
     (tie.spec
-    steps-requires
+    array-read-n
     array-copy-out-t
     enum-known-control
     unpack-requires

@@ -2,13 +2,6 @@ use Rattle.results.proofs.Told.{within-few, rooms-told}
 use borrow.Author.Needs.{needs}
 use Rattle.results.proofs.count.Statement.{statement}
 use Rattle.results.proofs.count.Tie as tie
-use Rattle.results.proofs.count.Reads as reads
-use Rattle.results.proofs.count.Lts as lts
-use Rattle.machine.proofs.within.Reads as within-reads
-use Rattle.results.proofs.frames_of.Reads as frames-of-reads
-use Rattle.results.proofs.put_rooms.Reads as put-rooms-reads
-use Rattle.results.proofs.put_steps.Reads as put-steps-reads
-use Rattle.table.proofs.wide.Reads as wide-reads
 
 within-requires : tie.Need-within-requires
 within-requires c κs = search needs
@@ -22,14 +15,11 @@ wide-requires c κs = search needs
 put-rooms-requires : tie.Need-put-rooms-requires
 put-rooms-requires c κs = search needs
 
-put-steps-requires : tie.Need-put-steps-requires
-put-steps-requires c κs = search needs
-
 same-length : tie.Need-same-length
 same-length c = search needs
 
 returns : tie.Need-returns
-returns c = rooms-told (c .before .before .before .before .before .before .before .before .before .before .before .before .before .before .args .m) _ _ (c .before .before .before .before .before .before .before .before .before .before .before .before .within .ensures) (c .before .before .before .before .before .before .before .before .wide .ensures) (c .before .before .before .before .before .before .before .before .before .before .frames-of .ensures) (c .before .before .before .before .before .before .put-rooms .ensures) (c .before .before .put-steps .ensures)
+returns c = rooms-told (c .before .before .before .before .before .before .before .before .before .before .args .m) _ (c .before .before .before .before .before .before .before .before .within .ensures) (c .before .before .before .before .wide .ensures) (c .before .before .before .before .before .before .frames-of .ensures) (c .before .before .put-rooms .ensures)
 
 pub count-spec : {M : Type 1} → statement M
 count-spec =
@@ -39,6 +29,5 @@ count-spec =
     frames-of-requires
     wide-requires
     put-rooms-requires
-    put-steps-requires
     same-length
     returns)
