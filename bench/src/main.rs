@@ -1,9 +1,10 @@
 //! Measures the proved code beside the second implementation.
 //!
-//! `bench check JOB WHO [TIMES]`, the same with `read`, `write` or `sheet`, `bench start WHO [TIMES]`
-//! and `bench run WHO [TIMES]`, and `bench start threads WHO [TIMES]` and `bench run threads WHO [TIMES]`
-//! do one thing so many times, for a tool that counts instructions. `bench times` prints a line for each
-//! thing: its name, the job's bytes, and the nanoseconds of the proved code and of the second.
+//! `bench check JOB WHO [TIMES]`, the same with `read`, `write` or `sheet`, `bench start WHO [TIMES]`,
+//! `bench run WHO [TIMES]` and `bench turns WHO [TIMES]`, and `bench start threads WHO [TIMES]` and
+//! `bench run threads WHO [TIMES]` do one thing so many times, for a tool that counts instructions.
+//! `bench times` prints a line for each thing: its name, the job's bytes, and the nanoseconds of the proved
+//! code and of the second.
 #![forbid(unsafe_code)]
 
 mod jobs;
@@ -12,11 +13,13 @@ use std::hint::black_box;
 use std::process::ExitCode;
 use std::time::Instant;
 
-use jobdesk::{BYTES, Call, Counts, Tables, lent};
-use second::{Fields, Machine};
+use jobdesk::{ANSWER_WORDS, BYTES, Call, Counts, THREADS, Tables, lent};
+use second::{Answer, Fields, Machine, Reply};
 
-/// The steps of a run.
+/// The steps of a run, of one thread and of each of eight; and the turns that are taken one by one.
 const STEPS: u64 = 100_000;
+const STEPS_OF_EIGHT: u64 = STEPS / THREADS as u64;
+const TURNS: usize = 1_000;
 
 #[derive(Clone, Copy, PartialEq, Eq)]
 enum Who {
@@ -33,8 +36,8 @@ enum What {
     Write,
     /// The sheet of a job into a buffer.
     Sheet,
-    /// A start and a run of so many steps; a start alone makes no call.
-    Run(u64),
+    /// A start and some calls.
+    Calls,
 }
 
 /// One thing to measure. Tables are lent again as the last call left them.
@@ -47,19 +50,42 @@ struct Work {
     counts: Counts,
     buffer: Vec<u8>,
     fields: Fields,
+    /// The calls as either side takes them, and words for the answers.
+    words: Vec<u64>,
+    answers: Vec<u64>,
+    calls: Vec<second::Call>,
 }
 
 impl Work {
     /// The tables hold the job, where it can be read.
     fn new(what: What, job: Vec<u8>) -> Self {
+        Self::with_calls(what, job, &[])
+    }
+
+    /// The same with calls.
+    fn with_calls(what: What, job: Vec<u8>, calls: &[Call]) -> Self {
         let mut tables = Tables::new();
         let counts = tables.read(&job).unwrap_or_default();
         let fields = second::read(&job).map_or_else(|_| Fields::default(), |job| Fields::of(&job));
-        Work { what, job, tables, counts, buffer: vec![0; BYTES], fields }
+        let call = |&call: &Call| match call {
+            Call::Step => second::Call::Step,
+            Call::Run(allowances) => second::Call::Run(allowances),
+        };
+        Work {
+            what,
+            job,
+            tables,
+            counts,
+            buffer: vec![0; BYTES],
+            fields,
+            words: Call::all_words(calls),
+            answers: vec![0; ANSWER_WORDS * calls.len()],
+            calls: calls.iter().map(call).collect(),
+        }
     }
 
-    /// Does it once. The result is the same for both: a refusal's number, and the steps taken or the
-    /// bytes written, those of a sheet too.
+    /// Does it once. The result is the same for both: a refusal's number, and the steps of the last call
+    /// or the bytes written, those of a sheet too.
     fn once(&mut self, who: Who) -> (u64, u64) {
         match who {
             Who::Proved => self.once_proved(),
@@ -81,12 +107,11 @@ impl Work {
                 written.map(|length| length as u64)
             }
             What::Sheet => return self.once_sheet(),
-            What::Run(steps) => {
-                let mut answers = [0; 2];
-                let count = (steps > 0) as usize;
-                let calls = &[Call::Run(steps).word()][..count];
-                let ran = self.tables.run_words(job, calls, &mut answers[..2 * count]);
-                ran.map(|_| answers[1])
+            What::Calls => {
+                let ran = self.tables.run_words(job, &self.words, &mut self.answers);
+                black_box(&self.answers);
+                let last = self.answers.as_chunks::<ANSWER_WORDS>().0.last();
+                ran.map(|_| last.map_or(0, |[_, _, steps @ ..]| steps.iter().sum()))
             }
         };
         told.map_or_else(|refusal| (refusal.number.into(), 0), |told| (0, told))
@@ -110,10 +135,13 @@ impl Work {
                 written.map(|bytes| bytes.len() as u64)
             }
             What::Sheet => Ok(black_box(second::sheet(job)).len() as u64),
-            What::Run(steps) => Machine::start(job).map(|mut machine| {
-                let taken = if steps > 0 { machine.run(steps).1 } else { 0 };
+            What::Calls => Machine::start(job).map(|mut machine| {
+                let mut last = 0;
+                for &call in &self.calls {
+                    last = steps(black_box(machine.call(call)));
+                }
                 black_box(&machine);
-                taken
+                last
             }),
         };
         told.map_or_else(|refusal| (refusal.number.into(), 0), |told| (0, told))
@@ -152,6 +180,19 @@ impl Work {
     }
 }
 
+/// The steps of a call by its reply.
+fn steps(reply: Reply) -> u64 {
+    match reply {
+        Reply::Step(answer, _) => (answer == Answer::Taken) as u64,
+        Reply::Run(run) => run.counts.iter().sum(),
+    }
+}
+
+/// A start of a job, and calls.
+fn calls(job: &str, calls: &[Call]) -> Option<Work> {
+    Some(Work::with_calls(What::Calls, jobs::job(job)?, calls))
+}
+
 /// The thing of a name, if there is one.
 fn work(name: &[&str]) -> Option<Work> {
     Some(match name {
@@ -159,16 +200,17 @@ fn work(name: &[&str]) -> Option<Work> {
         ["read", job] => Work::new(What::Read, jobs::job(job)?),
         ["write", job] => Work::new(What::Write, jobs::job(job)?),
         ["sheet", job] => Work::new(What::Sheet, jobs::job(job)?),
-        ["start"] => Work::new(What::Run(0), jobs::job("loop")?),
-        ["run"] => Work::new(What::Run(STEPS), jobs::job("loop")?),
-        ["start", "threads"] => Work::new(What::Run(0), jobs::job("threads")?),
-        ["run", "threads"] => Work::new(What::Run(STEPS), jobs::job("threads")?),
+        ["start"] => calls("loop", &[])?,
+        ["run"] => calls("loop", &[Call::run_each(STEPS)])?,
+        ["turns"] => calls("loop", &[Call::Step; TURNS])?,
+        ["start", "threads"] => calls("threads", &[])?,
+        ["run", "threads"] => calls("threads", &[Call::run_each(STEPS_OF_EIGHT)])?,
         _ => return None,
     })
 }
 
 /// Every thing that is measured.
-const ALL: [&[&str]; 15] = [
+const ALL: [&[&str]; 16] = [
     &["check", "small"],
     &["check", "medium"],
     &["check", "largest"],
@@ -182,6 +224,7 @@ const ALL: [&[&str]; 15] = [
     &["sheet", "medium"],
     &["start"],
     &["run"],
+    &["turns"],
     &["start", "threads"],
     &["run", "threads"],
 ];
@@ -221,7 +264,7 @@ fn main() -> ExitCode {
     let (Some(who), Some(mut work)) = (who, work(&words)) else {
         eprintln!(
             "usage: bench times | bench check|read|write|sheet JOB WHO [TIMES] | \
-             bench start|run [threads] WHO [TIMES]\n\
+             bench start|run [threads] WHO [TIMES] | bench turns WHO [TIMES]\n\
              JOB is small, medium, largest or ladder; WHO is proved or second"
         );
         return ExitCode::from(2);

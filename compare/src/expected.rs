@@ -1,12 +1,11 @@
 //! What the second implementation gives, in the proved code's words.
 
-use jobdesk::{Answer, Call, THREADS};
-use second::{Machine, Outcome, Rooms, Value};
-
-use crate::proved::ROOMS;
+use jobdesk::{ANSWER_WORDS, Answer, ROOM_WORDS, THREADS};
+use second::machine::one_step;
+use second::{Call, Machine, Outcome, Reply, Rooms, Run, Value};
 
 /// The answer that an outcome of a run is.
-pub fn outcome(outcome: Outcome) -> Answer {
+fn outcome(outcome: Outcome) -> Answer {
     match outcome {
         Outcome::Done => Answer::Done,
         Outcome::Spent => Answer::Spent,
@@ -27,36 +26,20 @@ fn answer(answer: second::Answer) -> Answer {
     }
 }
 
-/// The steps of each thread in a call.
-pub type Steps = [u64; THREADS];
-
-/// Makes the calls, and gives an answer and the steps taken for each, and those of each thread in the
-/// last one.
-pub fn run(machine: &mut Machine, calls: &[Call]) -> (Vec<u64>, Steps) {
-    let mut answers = Vec::with_capacity(2 * calls.len());
-    let mut last = [0; THREADS];
-    for &call in calls {
-        let answer;
-        (answer, last) = match call {
-            Call::Step => turn(machine),
-            Call::Run(steps) => {
-                let (ended, taken) = machine.run_threads(steps);
-                (outcome(ended), taken)
-            }
-        };
-        answers.extend([answer.number(), last.iter().sum()]);
-    }
-    (answers, last)
+/// The words of what a call answers: the number, the thread, and the steps of each thread.
+pub fn reply(reply: Reply) -> [u64; ANSWER_WORDS] {
+    let (answer, thread, steps) = match reply {
+        Reply::Step(second::Answer::Taken, thread) => (Answer::Taken, thread, one_step(thread)),
+        Reply::Step(failed, thread) => (answer(failed), thread, [0; THREADS]),
+        Reply::Run(Run { outcome: end, counts, thread }) => (outcome(end), thread, counts),
+    };
+    let [a, b, c, d, e, f, g, h] = steps;
+    [answer.number(), thread as u64, a, b, c, d, e, f, g, h]
 }
 
-/// One turn.
-fn turn(machine: &mut Machine) -> (Answer, Steps) {
-    let (whose, mut steps) = (machine.turn(), [0; THREADS]);
-    let answer = answer(machine.step());
-    if let (Answer::Taken, Some(thread)) = (answer, whose) {
-        steps[thread] = 1;
-    }
-    (answer, steps)
+/// Makes the calls, and gives the words of their answers.
+pub fn run(machine: &mut Machine, calls: &[Call]) -> Vec<u64> {
+    calls.iter().flat_map(|&call| reply(machine.call(call))).collect()
 }
 
 /// The two words of a value, or of none.
@@ -64,13 +47,8 @@ pub fn value(value: Option<Value>) -> [u64; 2] {
     value.map_or([0; 2], |value| [value.kind() as u64 + 1, value.data() as u64])
 }
 
-/// Cells, keys, pairs, functions, frames, bindings in use, threads that were started, and the steps of
-/// each thread in the last call.
-pub fn rooms(rooms: Rooms, steps: Steps) -> [u64; ROOMS] {
+/// Cells, keys, pairs, functions, frames and bindings in use, and threads that were started.
+pub fn rooms(rooms: Rooms) -> [u64; ROOM_WORDS] {
     let Rooms { cells, keys, pairs, functions, frames, bindings, threads, .. } = rooms;
-    let counts = [cells, keys, pairs, functions, frames, bindings, threads];
-    let mut words = [0; ROOMS];
-    words.iter_mut().zip(counts).for_each(|(word, count)| *word = count as u64);
-    words[counts.len()..].copy_from_slice(&steps);
-    words
+    [cells, keys, pairs, functions, frames, bindings, threads].map(|count| count as u64)
 }

@@ -1,9 +1,10 @@
-//! What the comparison and the benchmark share: calls into the proved code, and what the second
-//! implementation expects of them.
+//! What the programs share: calls into the proved code, and what the second implementation expects of
+//! them.
 #![forbid(unsafe_code)]
 
 pub mod expected;
 pub mod lending;
+pub mod lines;
 pub mod probe;
 pub mod proved;
 pub mod words;

@@ -1,10 +1,11 @@
 //! Compares the proved code with the second implementation on generated jobs and tables.
 //!
-//! `compare [COUNT] [SEED]` compares verdicts, tables, answers, rooms, what is written, and sheets; it
-//! fails on the first difference, and if a refusal, an answer or a kind of room was not met.
+//! `compare [COUNT] [SEED]` compares verdicts, tables, answers, rooms, the desk's lines, what is written,
+//! and sheets; it fails on the first difference, and if something was not met that must be.
 #![forbid(unsafe_code)]
 
 mod generated;
+mod runs;
 mod sessions;
 mod sheets;
 mod writing;

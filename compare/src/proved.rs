@@ -1,7 +1,8 @@
 //! The proved code, and dirty tables to lend it.
 
 use jobdesk::lent::{self, Lent, Results};
-use jobdesk::{Call, LENGTHS, THREADS};
+use jobdesk::{ANSWER_WORDS, CALL_WORDS, LENGTHS};
+use second::Call;
 use second::generate::Rng;
 
 use crate::words::Words;
@@ -17,8 +18,13 @@ pub struct Tables {
     pub words: Words,
 }
 
-/// How many entries stand behind the lent part of each table.
+/// How many entries stand behind the lent part of each table and slice.
 const GUARD: usize = 8;
+
+/// So many dirty words to be lent, and some behind them.
+pub fn dirty(length: usize, rng: &mut Rng) -> Vec<u64> {
+    (0..length + GUARD).map(|_| rng.word()).collect()
+}
 
 impl Tables {
     /// Zero tables of the least lengths.
@@ -32,7 +38,7 @@ impl Tables {
         Self::of(
             lent,
             |length| (0..length + GUARD).map(|_| rng.word() as u16).collect(),
-            |length| (0..length + GUARD).map(|_| other.word()).collect(),
+            |length| dirty(length, &mut other),
         )
     }
 
@@ -125,39 +131,34 @@ pub fn check(job: &[u8], tables: &mut Tables) -> (u64, [u64; 2]) {
     (lent::check(job, lent, entries, effects, &mut out), out)
 }
 
-/// How many words there are of what a run tells: the room in use, and each thread's steps in the last
-/// call.
-pub const ROOMS: usize = 7 + THREADS;
+/// The words of calls. Those that a turn does not look at are any, and so is the number of a run, but 0.
+pub fn words_of(calls: &[Call], rng: &mut Rng) -> Vec<u64> {
+    let mut words = Vec::with_capacity(CALL_WORDS * calls.len());
+    for call in calls {
+        match call {
+            Call::Step => {
+                words.extend((0..CALL_WORDS).map(|at| if at > 0 { rng.word() } else { 0 }))
+            }
+            Call::Run(allowances) => {
+                words.push(rng.pick(&[1, 1, 2, 1 << 8, 1 << 32, u64::MAX]));
+                words.extend(allowances);
+            }
+        }
+    }
+    words
+}
 
-/// Starts a job and makes the calls: 0 or a refusal's number, the words of `answers`, which were
-/// `before`, and those of `rooms`.
+/// Starts a job and makes the calls: 0 or a refusal's number.
 pub fn run(
     job: &[u8],
     tables: &mut Tables,
-    calls: &[Call],
-    before: u64,
-) -> (u64, Vec<u64>, [u64; ROOMS]) {
-    run_telling(job, tables, calls, before, ROOMS)
-}
-
-/// The same with so many words of `rooms` lent.
-pub fn run_telling(
-    job: &[u8],
-    tables: &mut Tables,
-    calls: &[Call],
-    before: u64,
-    words: usize,
-) -> (u64, Vec<u64>, [u64; ROOMS]) {
-    let calls: Vec<u64> = calls.iter().map(|call| call.word()).collect();
-    let mut answers = vec![before; 2 * calls.len()];
-    let mut rooms = [DIRTY; ROOMS];
+    calls: &[u64],
+    answers: &mut [u64],
+    rooms: &mut [u64],
+) -> u64 {
     let (lent, _, _) = tables.lend();
-    let number = lent::run(job, lent, &calls, &mut answers, &mut rooms[..words]);
-    (number, answers, rooms)
+    lent::run(job, lent, calls, answers, rooms)
 }
-
-/// What words hold that a run does not write.
-pub const DIRTY: u64 = 0xDEAD;
 
 /// The least lengths of what a session gives, after the answers: value, cells, out.
 pub const RESULTS: [usize; 3] = [2, 512, 2];
@@ -174,13 +175,12 @@ pub struct Held {
 impl Held {
     /// Dirty words for so many calls.
     pub fn dirty(calls: usize, rng: &mut Rng) -> Self {
-        let mut words = |length: usize| (0..length + GUARD).map(|_| rng.word()).collect();
         let [value, cells, out] = RESULTS;
         Held {
-            answers: words(2 * calls),
-            value: words(value),
-            cells: words(cells),
-            out: words(out),
+            answers: dirty(ANSWER_WORDS * calls, rng),
+            value: dirty(value, rng),
+            cells: dirty(cells, rng),
+            out: dirty(out, rng),
         }
     }
 }
@@ -189,11 +189,10 @@ impl Held {
 pub fn session(
     job: &[u8],
     tables: &mut Tables,
-    calls: &[Call],
+    calls: &[u64],
     held: &mut Held,
     lengths: [usize; 4],
 ) -> u64 {
-    let calls: Vec<u64> = calls.iter().map(|call| call.word()).collect();
     let results = Results {
         answers: &mut held.answers[..lengths[0]],
         value: &mut held.value[..lengths[1]],
@@ -201,5 +200,5 @@ pub fn session(
         out: &mut held.out[..lengths[3]],
     };
     let (lent, entries, effects) = tables.lend();
-    lent::session(job, lent, entries, effects, &calls, results)
+    lent::session(job, lent, entries, effects, calls, results)
 }

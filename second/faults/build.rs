@@ -7,7 +7,7 @@ use std::path::{Path, PathBuf};
 use std::{env, fs};
 
 /// The files of edits, each named after the file that its edits change unless they say another.
-const PARTS: [&str; 7] = ["read", "tree", "check", "thread", "machine", "write", "sheet"];
+const PARTS: [&str; 8] = ["read", "tree", "check", "thread", "machine", "desk", "write", "sheet"];
 
 /// A text to be put in place of another.
 #[derive(Default)]
@@ -134,6 +134,8 @@ fn write_entry(fault: &Fault, made: &BTreeMap<String, String>, list: &mut String
         "Tables"
     } else if made.contains_key("sheet") {
         "Sheets"
+    } else if made.contains_key("desk") {
+        "Lines"
     } else {
         "Jobs"
     };
@@ -148,6 +150,7 @@ fn write_entry(fault: &Fault, made: &BTreeMap<String, String>, list: &mut String
         ("tree", "tree"),
         ("check", "check_job"),
         ("machine", "runs"),
+        ("desk", "desk"),
         ("write", "write"),
         ("sheet", "sheet"),
     ];

@@ -2,11 +2,11 @@
 
 use crate::check::check;
 use crate::job::{Kind, Refusal};
-use crate::machine::{Machine, Outcome};
+use crate::machine::{Machine, Outcome, Run, THREADS};
 
 /// How much of the input the desk reads.
 pub const INPUT: u64 = 16_384;
-/// The steps that the desk runs.
+/// The steps that the desk allows each thread.
 pub const STEPS: u64 = 100_000;
 
 /// The lines that the desk prints for a job, each with its line end.
@@ -24,13 +24,14 @@ pub fn desk(job: &[u8]) -> String {
 }
 
 /// The line of a refused job, with its line end.
-pub fn refused(Refusal { number, place }: Refusal) -> String {
-    format!("refused {number} at {place}\n")
+pub fn refused(refusal: Refusal) -> String {
+    format!("{refusal}\n")
 }
 
+/// The line of a run: thread 0's count, or that of the thread without room.
 fn run_line(machine: &mut Machine) -> String {
-    let (outcome, steps) = machine.run(STEPS);
-    let line = format!("{} {steps}", outcome.words());
+    let Run { outcome, counts, thread } = machine.run([STEPS; THREADS]);
+    let line = format!("{} {}", outcome.words(), counts[thread]);
     match machine.result() {
         Some(value) if outcome == Outcome::Done => {
             let number = match value.kind() {

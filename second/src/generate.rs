@@ -1,6 +1,8 @@
-//! A seeded generator of jobs: most of them well typed, many damaged; and one of tables.
+//! A seeded generator of jobs: most of them well typed, many damaged; one of tables; and one of lists
+//! of calls.
 
 mod build;
+mod calls;
 mod damage;
 mod divisions;
 mod hosts;
@@ -134,5 +136,6 @@ pub fn looped(rng: &mut Rng) -> Job {
     build::job(rng, true)
 }
 
+pub use calls::{calls, calls_of};
 pub use limits::{heavy, heavy_threads, ladder, largest, tower};
 pub use tables::{COMMANDS, MOST, Writing, commands, room, tables};

@@ -1,5 +1,7 @@
 //! The tables of a job.
 
+use std::fmt;
+
 use crate::names::Names;
 
 /// The most declared types a job may have.
@@ -26,6 +28,12 @@ impl Refusal {
     /// The refusal of a number at a place.
     pub fn at(number: u32, place: usize) -> Self {
         Refusal { number, place: place as u32 }
+    }
+}
+
+impl fmt::Display for Refusal {
+    fn fmt(&self, f: &mut fmt::Formatter) -> fmt::Result {
+        write!(f, "refused {} at {}", self.number, self.place)
     }
 }
 

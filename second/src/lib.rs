@@ -7,6 +7,7 @@
 #![forbid(unsafe_code)]
 #![warn(missing_docs)]
 
+pub mod allowances;
 pub mod check;
 pub mod code;
 pub mod desk;
@@ -35,7 +36,7 @@ pub use machine::Machine;
 pub use read::read;
 pub use sheet::sheet;
 pub use tree::tree;
-pub use value::{Answer, Outcome, Rooms, Value};
+pub use value::{Answer, Call, Outcome, Reply, Rooms, Run, Value};
 pub use verdict::{Accepted, Typed};
 pub use write::{bytes_of, write};
 

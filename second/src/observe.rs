@@ -1,37 +1,29 @@
-//! What can be seen of a job: its verdict with all tables, and its runs.
+//! What can be seen of a job: its verdict with all tables, and its calls.
 
 use std::collections::BTreeSet;
 use std::fmt;
 
 use crate::check::check_job;
+use crate::desk::desk;
 use crate::fields::Fields;
 use crate::job::{Expr, Job, Kind, Refusal, Shape, Type};
 use crate::machine::{Machine, runs};
 use crate::read::read;
 use crate::sheet::sheet;
 use crate::tree::tree;
-use crate::value::{Answer, Outcome, PAIRS, Rooms, THREADS, Value};
+use crate::value::{Answer, Call, PAIRS, Reply, Rooms, Value};
 use crate::verdict::Accepted;
 use crate::write::write;
 
-/// How a run ended.
+/// What is seen of a call.
 #[derive(Clone, Copy, Debug, PartialEq, Eq)]
 pub struct Ran {
-    /// What the run says.
-    pub outcome: Outcome,
-    /// The steps that each thread took.
-    pub counts: [u64; THREADS],
+    /// What it answers.
+    pub reply: Reply,
     /// The room in use after it.
     pub rooms: Rooms,
     /// The value, where the machine has ended.
     pub result: Option<Value>,
-}
-
-impl Ran {
-    /// The steps that all threads took.
-    pub fn steps(&self) -> u64 {
-        self.counts.iter().sum()
-    }
 }
 
 /// All that is seen of a job.
@@ -39,7 +31,7 @@ impl Ran {
 pub struct Seen {
     /// What the check answers.
     pub verdict: Result<Accepted, Refusal>,
-    /// The start's refusal, or what each run from the start, one after another, gave.
+    /// The start's refusal, or what each call from the start, one after another, gave.
     pub runs: Result<Vec<Ran>, Refusal>,
 }
 
@@ -52,8 +44,10 @@ pub struct Parts {
     pub tree: fn(&Job) -> Result<(), Refusal>,
     /// Refusals 11 to 14 and 16.
     pub check: fn(&Job) -> Result<Accepted, Refusal>,
-    /// The start and some runs.
-    pub run: fn(&Job, &[u64]) -> Vec<Ran>,
+    /// The start and some calls.
+    pub run: fn(&Job, &[Call]) -> Vec<Ran>,
+    /// What the desk prints for a job.
+    pub desk: fn(&[u8]) -> String,
     /// The bytes of tables, with room for so many; refusals 2, 3, 5, 6 and 15.
     pub write: fn(&Fields, usize) -> Result<Vec<u8>, Refusal>,
     /// What the sheet program prints for a job.
@@ -62,21 +56,36 @@ pub struct Parts {
 
 impl Parts {
     /// The parts of this crate.
-    pub const OWN: Parts = Parts { read, tree, check: check_job, run: runs, write, sheet };
+    pub const OWN: Parts = Parts { read, tree, check: check_job, run: runs, desk, write, sheet };
 
-    /// Checks a job and runs it for the given numbers of steps, one run after the other.
-    pub fn observe(&self, job: &[u8], steps: &[u64]) -> Seen {
+    /// Checks a job, and starts it and makes the given calls, one after the other.
+    pub fn observe(&self, job: &[u8], calls: &[Call]) -> Seen {
         let formed = (self.read)(job).and_then(|job| (self.tree)(&job).map(|()| job));
         match formed {
-            Ok(job) => Seen { verdict: (self.check)(&job), runs: Ok((self.run)(&job, steps)) },
+            Ok(job) => Seen { verdict: (self.check)(&job), runs: Ok((self.run)(&job, calls)) },
             Err(refusal) => Seen { verdict: Err(refusal), runs: Err(refusal) },
         }
     }
 }
 
-/// What is seen of a job, checked and run for the given numbers of steps, one run after the other.
-pub fn observe(job: &[u8], steps: &[u64]) -> Seen {
-    Parts::OWN.observe(job, steps)
+/// What is seen of a job that is checked, and started for the given calls, one after the other.
+pub fn observe(job: &[u8], calls: &[Call]) -> Seen {
+    Parts::OWN.observe(job, calls)
+}
+
+/// What calls from a job's start come to, in a line: their answers, the value at the end and the cells.
+pub fn session(job: &[u8], calls: &[Call]) -> Result<String, Refusal> {
+    let mut machine = Machine::start(job)?;
+    let replies: Vec<String> = calls.iter().map(|&call| machine.call(call).to_string()).collect();
+    let words = |value: &Value, parted: &str| match value.kind() {
+        Kind::Number => format!("{parted}{}", value.data()),
+        kind => kind.word().to_string(),
+    };
+    let value = machine.result().map_or("-".to_string(), |value| words(&value, "number "));
+    let cells = machine.cells().iter().enumerate();
+    let cells: Vec<String> =
+        cells.map(|(cell, held)| format!("{cell}={}", words(held, ""))).collect();
+    Ok(format!("{} / {value} / {}", replies.join("; "), cells.join(" ")))
 }
 
 /// The command that a refusal is at, in words; of 13 also that it is around a look or a division, of
@@ -154,6 +163,9 @@ pub fn made(job: &Job, accepted: &Accepted) -> Option<&'static str> {
 
 const TWO_ENTRIES: &str = "divide makes two entries";
 
+/// The branches of looks.
+const BRANCHES: [&str; 2] = ["look takes its first branch", "look takes its second branch"];
+
 /// Sums and differences, by how near they come to the end at which they stop.
 const SUMS: [&str; 4] =
     ["sum above 4294967295", "sum of 4294967295", "sum of 4294967294", "sum below 4294967294"];
@@ -181,35 +193,41 @@ const FAILED: [&str; 8] = [
     "divide has no room",
 ];
 
-/// What the looks, sums, differences and divisions of a job come to in a run, in words. The job is
-/// free of refusals 8 to 10.
-pub fn acts(job: &Job, steps: u64) -> BTreeSet<&'static str> {
-    let branches = branches(job);
+/// What the looks, sums, differences and divisions of a job come to in so many turns, in words. The
+/// job is free of refusals 8 to 10.
+pub fn acts(job: &Job, turns: u64) -> BTreeSet<&'static str> {
+    let branches = branches(job, BRANCHES);
     let mut seen = BTreeSet::new();
     let mut machine = Machine::of(job);
-    let mut left = steps;
-    let answer = loop {
-        seen.extend(machine.entering().and_then(|expr| branches[expr as usize]));
-        let reckoned = reckoned(job, &machine);
+    for _ in 0..turns {
+        let Some(thread) = machine.turn() else { break };
+        seen.extend(machine.entering(thread).and_then(|expr| branches[expr as usize]));
+        let reckoned = reckoned(job, &machine, thread);
         match machine.step() {
-            Answer::Taken if left > 0 => left -= 1,
-            answer => break answer,
+            (Answer::Taken, _) => seen.extend(reckoned),
+            (answer, _) => {
+                seen.extend(failed(job, &machine, thread, answer));
+                break;
+            }
         }
-        seen.extend(reckoned);
-    };
-    match (machine.waiting().map(|expr| job.exprs[expr as usize]), answer) {
-        (Some(Expr::Look(..)), Answer::Stuck) => _ = seen.insert("look is stuck"),
-        (Some(Expr::Look(..)), Answer::Denied) => _ = seen.insert("look is denied"),
-        (Some(Expr::Divide(..)), _) => seen.extend(failed(&machine, answer)),
-        _ => {}
     }
     seen
 }
 
-/// The words for a division that answers so.
-fn failed(machine: &Machine, answer: Answer) -> Vec<&'static str> {
-    let Some((_, dividend, divisor)) = machine.acting() else { return Vec::new() };
-    let closed = [dividend, divisor].map(|operand| !machine.opens(operand));
+/// The words for a look or a division in a thread that answers so.
+fn failed(job: &Job, machine: &Machine, thread: usize, answer: Answer) -> Vec<&'static str> {
+    match (machine.waiting(thread).map(|expr| job.exprs[expr as usize]), answer) {
+        (Some(Expr::Look(..)), Answer::Stuck) => vec!["look is stuck"],
+        (Some(Expr::Look(..)), Answer::Denied) => vec!["look is denied"],
+        (Some(Expr::Divide(..)), _) => undivided(machine, thread, answer),
+        _ => Vec::new(),
+    }
+}
+
+/// The words for a division in a thread that answers so.
+fn undivided(machine: &Machine, thread: usize, answer: Answer) -> Vec<&'static str> {
+    let Some((_, dividend, divisor)) = machine.acting(thread) else { return Vec::new() };
+    let closed = [dividend, divisor].map(|operand| !machine.opens(thread, operand));
     let full = machine.rooms().pairs == PAIRS;
     let words = match answer {
         Answer::Stuck => [
@@ -224,21 +242,22 @@ fn failed(machine: &Machine, answer: Answer) -> Vec<&'static str> {
     words.into_iter().flatten().collect()
 }
 
-/// For each expression, the words for it if it is a branch of a look.
-fn branches(job: &Job) -> Vec<Option<&'static str>> {
+/// For each expression, the words for it if it is the first or the second branch of a look.
+pub fn branches(job: &Job, words: [&'static str; 2]) -> Vec<Option<&'static str>> {
     let mut branches = vec![None; job.exprs.len()];
     for expr in &job.exprs {
         if let Expr::Look(_, enabled, other, _) = *expr {
-            branches[enabled as usize] = Some("look takes its first branch");
-            branches[other as usize] = Some("look takes its second branch");
+            [enabled, other].into_iter().zip(words).for_each(|(branch, word)| {
+                branches[branch as usize] = Some(word);
+            });
         }
     }
     branches
 }
 
-/// The words for the sum, difference or division that is next.
-fn reckoned(job: &Job, machine: &Machine) -> Option<&'static str> {
-    let (expr, a, b) = machine.acting()?;
+/// The words for the sum, difference or division that is next in a thread.
+fn reckoned(job: &Job, machine: &Machine, thread: usize) -> Option<&'static str> {
+    let (expr, a, b) = machine.acting(thread)?;
     let (a, b) = (i64::from(a.data()), i64::from(b.data()));
     let near = |distance: i64| (distance + 1).clamp(0, 3) as usize;
     match job.exprs[expr as usize] {
@@ -297,21 +316,19 @@ fn wanted_of_looks() -> Vec<String> {
     let mut wanted: Vec<String> = (3..=6).map(|number| format!("refused {number} at 40")).collect();
     wanted.extend([8, 10, 11, 12, 14].map(|number| format!("refused {number} at Look")));
     wanted.push("refused 13 around Look".to_string());
-    let branches = ["first", "second"].map(|branch| format!("look takes its {branch} branch"));
-    wanted.extend(branches.iter().cloned());
-    wanted.extend(branches.map(|branch| format!("accepted, {branch}")));
+    wanted.extend(BRANCHES.map(str::to_string));
+    wanted.extend(BRANCHES.map(|branch| format!("accepted, {branch}")));
     wanted.extend(["look is stuck", "look is denied"].map(str::to_string));
     wanted
 }
 
+/// What it answers, the rooms in use, and the thread that stepped in a turn or that failed.
 impl fmt::Display for Ran {
     fn fmt(&self, f: &mut fmt::Formatter) -> fmt::Result {
-        let r = self.rooms;
-        let words = self.outcome.words();
-        write!(f, "{words} {} {} {} {}", self.steps(), r.cells, r.keys, r.pairs)?;
+        let Ran { reply, rooms: r, .. } = self;
+        write!(f, "{reply} {} {} {}", r.cells, r.keys, r.pairs)?;
         write!(f, " {} {} {}", r.functions, r.frames, r.bindings)?;
-        let counts: Vec<String> = self.counts.iter().take(r.threads).map(u64::to_string).collect();
-        write!(f, " threads {}: {}", r.threads, counts.join(","))
+        reply.thread().map_or(Ok(()), |thread| write!(f, " thread {thread}"))
     }
 }
 
@@ -321,7 +338,7 @@ impl fmt::Display for Seen {
             Ok(accepted) => {
                 write!(f, "accepted {:016x} {}", accepted.effect, accepted.kind.word())?
             }
-            Err(refusal) => write!(f, "refused {} at {}", refusal.number, refusal.place)?,
+            Err(refusal) => write!(f, "{refusal}")?,
         }
         for run in self.runs.iter().flatten() {
             write!(f, " | {run}")?;

@@ -159,14 +159,16 @@ impl Thread {
     pub fn run(&mut self, store: &mut Store, steps: u64) -> (u64, Option<Stop>) {
         // The control is kept at hand and put back at the end.
         let mut control = self.control;
-        for taken in 0..steps {
+        let mut left = steps;
+        while left > 0 {
             match self.advance(store, control) {
                 Ok(next) => control = next,
                 Err(stop) => {
                     self.control = control;
-                    return (taken, Some(stop));
+                    return (steps - left, Some(stop));
                 }
             }
+            left -= 1;
         }
         self.control = control;
         (steps, self.result().map(|_| Stop::Done))

@@ -2,9 +2,11 @@
 
 use std::collections::BTreeSet;
 
+use crate::allowances::{self, Allowed, Turn};
 use crate::job::{Expr, Job, Kind};
 use crate::machine::Machine;
-use crate::value::{Answer, CELLS, FRAMES, THREADS};
+use crate::observe::branches;
+use crate::value::{Answer, CELLS, Call, FRAMES, THREADS};
 
 /// How many threads a job has started.
 const COUNTS: [&str; THREADS] = [
@@ -46,11 +48,7 @@ const VALUES: [&str; 6] = [
     "a thread ends with a grant key",
 ];
 /// How a call ends that leaves several threads.
-const LEFT: [&str; 3] = [
-    "a call ends within a round",
-    "a call ends with a round",
-    "a call is spent with thread 0 at its end",
-];
+const LEFT: [&str; 2] = ["a call ends within a round", "a call ends with a round"];
 /// What threads do that are not thread 0, and with each other.
 const BESIDE: [&str; 4] = [
     "a thread takes a look's first branch",
@@ -77,12 +75,15 @@ pub fn wanted() -> Vec<String> {
     let mut wanted: Vec<String> =
         both.iter().chain(&failed).map(|word| format!("accepted, {word}")).collect();
     wanted.extend(FAILED.concat().iter().map(|word| word.to_string()));
+    wanted.extend(allowances::wanted());
     wanted
 }
 
 /// A machine whose turns are watched.
 struct Watch<'a> {
     job: &'a Job,
+    /// For each expression, the words for it if it is a branch of a look.
+    branches: Vec<Option<&'static str>>,
     machine: Machine,
     words: BTreeSet<&'static str>,
     /// The expressions and the threads that have started a thread.
@@ -94,16 +95,18 @@ struct Watch<'a> {
     zero: Option<usize>,
     /// What the last call failed with.
     failed: Option<usize>,
+    allowed: Allowed,
 }
 
-/// What the threads of a job come to in calls for so many steps each. The job is free of refusals 8
-/// to 10; of one without a 42 there is nothing to tell.
-pub fn turns(job: &Job, calls: &[u64]) -> BTreeSet<&'static str> {
+/// What the threads of a job come to in calls. The job is free of refusals 8 to 10; of one without a 42
+/// there is nothing to tell.
+pub fn turns(job: &Job, calls: &[Call]) -> BTreeSet<&'static str> {
     if !job.exprs.iter().any(|expr| matches!(expr, Expr::Spawn(_))) {
         return BTreeSet::new();
     }
     let mut watch = Watch {
         job,
+        branches: branches(job, [BESIDE[0], BESIDE[1]]),
         machine: Machine::of(job),
         words: BTreeSet::new(),
         spawns: BTreeSet::new(),
@@ -111,73 +114,73 @@ pub fn turns(job: &Job, calls: &[u64]) -> BTreeSet<&'static str> {
         writers: [None; CELLS],
         zero: None,
         failed: None,
+        allowed: Allowed::default(),
     };
-    calls.iter().for_each(|&steps| watch.call(steps));
+    calls.iter().for_each(|&call| watch.call(call));
     watch.words.insert(COUNTS[watch.machine.rooms().threads - 1]);
+    watch.words.extend(watch.allowed.words);
     watch.words
 }
 
 impl Watch<'_> {
-    fn call(&mut self, steps: u64) {
-        let before = self.failed.take().filter(|_| steps > 0);
-        for _ in 0..steps {
-            let whose = self.machine.turn();
-            let answer = self.turn();
-            if answer == Answer::Taken {
-                continue;
+    /// Makes a call, turn by turn.
+    fn call(&mut self, call: Call) {
+        let before = self.failed.take();
+        self.allowed.begin(&self.machine, call);
+        while let Some(thread) = self.machine.turn_among(self.allowed.may()) {
+            let answer = self.turn(thread);
+            if answer != Answer::Taken {
+                self.fail(thread, answer, before);
+                return self.allowed.fail(&self.machine, thread, answer);
             }
-            self.failed = whose.filter(|&thread| thread > 0).and_then(|_| self.failure(answer));
-            if let Some(failed) = self.failed {
-                self.words.insert(FAILED[failed][(before == Some(failed)) as usize]);
-            }
-            return;
         }
-        let (live, due) = (self.machine.live(), self.machine.due());
-        if steps > 0 && live.count_ones() > 1 {
-            self.words.insert(LEFT[(due == 0) as usize]);
+        if self.allowed.stepped() && self.machine.live().count_ones() > 1 {
+            self.words.insert(LEFT[(self.machine.due() == 0) as usize]);
         }
-        if steps > 0 && live != 0 && live & 1 == 0 {
-            self.words.insert(LEFT[2]);
+        self.allowed.end(&self.machine);
+    }
+
+    /// A turn of a thread fails; `before` is what the last call failed with.
+    fn fail(&mut self, thread: usize, answer: Answer, before: Option<usize>) {
+        let deep = self.machine.entering(thread).is_some() && self.is_deep(thread);
+        let failed = match answer {
+            Answer::NoRoom if self.spawning(thread).is_some() => 2,
+            Answer::NoRoom if deep => 1,
+            Answer::NoRoom => 0,
+            Answer::Stuck => 3,
+            Answer::Taken | Answer::Done | Answer::Denied => 4,
+        };
+        if thread > 0 {
+            self.words.insert(FAILED[failed][(before == Some(failed)) as usize]);
+            self.failed = Some(failed);
         }
     }
 
-    /// The place of a failure in the list of words for it.
-    fn failure(&self, answer: Answer) -> Option<usize> {
-        let spawns = self.spawning().is_some();
-        match answer {
-            Answer::NoRoom if spawns => Some(2),
-            Answer::NoRoom if self.machine.entering().is_some() && self.is_deep() => Some(1),
-            Answer::NoRoom => Some(0),
-            Answer::Stuck => Some(3),
-            Answer::Denied => Some(4),
-            Answer::Taken | Answer::Done => None,
-        }
-    }
-
-    /// The 42 that is entered next.
-    fn spawning(&self) -> Option<u16> {
+    /// The 42 that a thread enters next.
+    fn spawning(&self, thread: usize) -> Option<u16> {
         let is_spawn = |&expr: &u16| matches!(self.job.exprs[expr as usize], Expr::Spawn(_));
-        self.machine.entering().filter(is_spawn)
+        self.machine.entering(thread).filter(is_spawn)
     }
 
-    fn is_deep(&self) -> bool {
-        self.machine.depth() == FRAMES
+    fn is_deep(&self, thread: usize) -> bool {
+        self.machine.depth(thread) == FRAMES
     }
 
-    /// Takes one turn.
-    fn turn(&mut self) -> Answer {
-        let Some(thread) = self.machine.turn() else { return Answer::Done };
-        let (live, spawning) = (self.machine.live(), self.spawning());
-        let (deep, full) = (self.is_deep(), !self.machine.rooms().full().is_empty());
-        let read = self.reading();
-        let assigned = self.assigning();
-        let branch = self.branch().filter(|_| thread > 0);
-        let answer = self.machine.step();
+    /// Takes the turn of a thread.
+    fn turn(&mut self, thread: usize) -> Answer {
+        let turn = Turn::of(&self.machine, thread);
+        let (spawning, deep) = (self.spawning(thread), self.is_deep(thread));
+        let full = spawning.is_some() && !self.machine.rooms().full().is_empty();
+        let (read, assigned) = (self.reading(thread), self.assigning(thread));
+        let entered = self.machine.entering(thread).filter(|_| thread > 0);
+        let branch = entered.and_then(|expr| self.branches[expr as usize]);
+        let answer = self.machine.step_of(thread);
         if answer != Answer::Taken {
             return answer;
         }
+        self.allowed.taken(&self.machine, turn);
         if let Some(expr) = spawning {
-            self.start(expr, (thread, live), deep, full);
+            self.start(expr, (thread, turn.live), deep, full);
         }
         if self.machine.live() >> thread & 1 == 0 {
             self.end(thread);
@@ -232,27 +235,17 @@ impl Watch<'_> {
         }
     }
 
-    /// The cell that is read next.
-    fn reading(&self) -> Option<usize> {
-        let expr = self.machine.waiting()?;
-        let cell = self.machine.handing().filter(|value| value.is(Kind::Cell))?;
+    /// The cell that a thread reads next.
+    fn reading(&self, thread: usize) -> Option<usize> {
+        let expr = self.machine.waiting(thread)?;
+        let cell = self.machine.handing(thread).filter(|value| value.is(Kind::Cell))?;
         matches!(self.job.exprs[expr as usize], Expr::Read(_)).then_some(cell.index())
     }
 
-    /// The cell that is assigned next.
-    fn assigning(&self) -> Option<usize> {
-        let (expr, cell, _) = self.machine.acting()?;
+    /// The cell that a thread assigns next.
+    fn assigning(&self, thread: usize) -> Option<usize> {
+        let (expr, cell, _) = self.machine.acting(thread)?;
         let assigns = matches!(self.job.exprs[expr as usize], Expr::Assign(..));
         (assigns && cell.is(Kind::Cell)).then_some(cell.index())
-    }
-
-    /// The words for the branch of a look that is entered next.
-    fn branch(&self) -> Option<&'static str> {
-        let entered = self.machine.entering()?;
-        self.job.exprs.iter().find_map(|expr| match *expr {
-            Expr::Look(_, enabled, _, _) if enabled == entered => Some(BESIDE[0]),
-            Expr::Look(_, _, other, _) if other == entered => Some(BESIDE[1]),
-            _ => None,
-        })
     }
 }

@@ -1,6 +1,7 @@
-//! Values, what steps and runs answer, and the machine's room.
+//! Values, calls and what they answer, and the machine's room.
 
 use std::fmt;
+use std::str::FromStr;
 
 use crate::job::Kind;
 
@@ -80,6 +81,42 @@ impl fmt::Debug for Value {
     }
 }
 
+/// A call of the machine. It is written `s`, or `a` and the allowances parted by commas.
+#[derive(Clone, Copy, Debug, PartialEq, Eq)]
+pub enum Call {
+    /// One turn.
+    Step,
+    /// A run with an allowance for each thread number.
+    Run([u64; THREADS]),
+}
+
+impl fmt::Display for Call {
+    fn fmt(&self, f: &mut fmt::Formatter) -> fmt::Result {
+        match self {
+            Call::Step => write!(f, "s"),
+            Call::Run(allowances) => write!(f, "a{}", joined(allowances)),
+        }
+    }
+}
+
+impl FromStr for Call {
+    type Err = ();
+
+    fn from_str(text: &str) -> Result<Self, ()> {
+        if text == "s" {
+            return Ok(Call::Step);
+        }
+        let numbers = text.strip_prefix('a').ok_or(())?.split(',').map(str::parse);
+        let numbers: Vec<u64> = numbers.collect::<Result<_, _>>().map_err(|_| ())?;
+        numbers.try_into().map(Call::Run).map_err(|_| ())
+    }
+}
+
+/// A number for each thread, parted by commas.
+fn joined(numbers: &[u64; THREADS]) -> String {
+    numbers.map(|number| number.to_string()).join(",")
+}
+
 /// What one turn answers: a step of the thread whose turn it is. Every answer but `Taken` leaves the
 /// machine as it was.
 #[derive(Clone, Copy, Debug, PartialEq, Eq)]
@@ -96,12 +133,25 @@ pub enum Answer {
     Denied,
 }
 
+impl Answer {
+    /// The answer in words.
+    pub fn words(self) -> &'static str {
+        match self {
+            Answer::Taken => "taken",
+            Answer::Done => "done",
+            Answer::NoRoom => "no room",
+            Answer::Stuck => "stuck",
+            Answer::Denied => "denied",
+        }
+    }
+}
+
 /// What a run says.
 #[derive(Clone, Copy, Debug, PartialEq, Eq)]
 pub enum Outcome {
     /// Every thread has ended with a value.
     Done,
-    /// All steps asked for are taken, and a thread has not ended.
+    /// Every thread that has not ended has used its allowance to the last step, and there is one.
     Spent,
     /// The next step needs a place that is not there.
     NoRoom,
@@ -120,6 +170,47 @@ impl Outcome {
             Outcome::NoRoom => "no room",
             Outcome::Stuck => "stuck",
             Outcome::Denied => "denied",
+        }
+    }
+}
+
+/// How a run ended.
+#[derive(Clone, Copy, Debug, PartialEq, Eq)]
+pub struct Run {
+    /// What the run says.
+    pub outcome: Outcome,
+    /// The steps that each thread took in it.
+    pub counts: [u64; THREADS],
+    /// The thread that failed, 0 where none did.
+    pub thread: usize,
+}
+
+/// What a call answers.
+#[derive(Clone, Copy, Debug, PartialEq, Eq)]
+pub enum Reply {
+    /// What a turn answers, and which thread stepped or failed; 0 where every one has ended.
+    Step(Answer, usize),
+    /// How a run ended.
+    Run(Run),
+}
+
+impl Reply {
+    /// The thread that stepped in a turn or that failed.
+    pub fn thread(self) -> Option<usize> {
+        match self {
+            Reply::Step(Answer::Done, _) => None,
+            Reply::Run(Run { outcome: Outcome::Done | Outcome::Spent, .. }) => None,
+            Reply::Step(_, thread) | Reply::Run(Run { thread, .. }) => Some(thread),
+        }
+    }
+}
+
+/// The words, and of a run the counts.
+impl fmt::Display for Reply {
+    fn fmt(&self, f: &mut fmt::Formatter) -> fmt::Result {
+        match self {
+            Reply::Step(answer, _) => write!(f, "{}", answer.words()),
+            Reply::Run(run) => write!(f, "{} {}", run.outcome.words(), joined(&run.counts)),
         }
     }
 }

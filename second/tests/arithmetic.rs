@@ -75,6 +75,6 @@ fn a_host_cell_holds_what_stopped() {
     let job = "1000 12000000 200100FEFFFFFF 210000000000000000
         3200 3200 390100 3009000000 3A00 0200 0300 38 0000 0400 FF";
     let mut machine = Machine::start(&from_hex(job).expect("hexadecimal digits")).unwrap();
-    machine.run(100);
+    machine.run([100; 8]);
     assert_eq!(machine.cells()[0].data(), TOP);
 }

@@ -2,7 +2,7 @@
 
 mod common;
 
-use common::{prints, refused, runs};
+use common::{prints, refused, run, runs};
 use second::generate::Rng;
 use second::{Kind, Machine, Outcome, Shape, Type, check, from_hex};
 
@@ -80,7 +80,7 @@ fn nothing_is_lost() {
         let (a, b) = (word(&mut rng).unwrap_or(0), word(&mut rng).unwrap_or(0));
         let [quotient, rest] = [1, 2].map(|place| {
             let mut machine = Machine::start(&job(0, &part(a, b, place))).unwrap();
-            machine.run(100);
+            machine.run([100; 8]);
             machine.result().unwrap().data()
         });
         assert_eq!(u64::from(quotient) * u64::from(b) + u64::from(rest), u64::from(a));
@@ -94,7 +94,7 @@ fn the_pair_takes_one_place() {
     prints(&job, "accepted 0000000000000000 pair\ndone 5 pair\n");
     let mut machine = Machine::start(&job).unwrap();
     let before = machine.rooms();
-    machine.run(100);
+    machine.run([100; 8]);
     assert_eq!(machine.rooms().pairs, before.pairs + 1);
     assert_eq!(machine.rooms().bindings, before.bindings);
     assert_eq!(machine.result().unwrap().key(), 0);
@@ -123,7 +123,7 @@ fn both_numbers_are_touched() {
     for exprs in [first, second] {
         prints(&job(0x08, exprs), "accepted 0000000000000008 pair\ndone 9 pair\n");
         refused(&job(0x10, exprs), 14, 4);
-        assert_eq!(Machine::start(&job(0x10, exprs)).unwrap().run(100).0, Outcome::Denied);
+        runs(&job(0x10, exprs), Outcome::Denied, 8);
     }
     let both = "3009000000 3201 3F 0000 0100 3004000000 3202 3F 0300 0400 41 0200 0500";
     prints(&job(0x04, both), "accepted 0000000000000018 pair\ndone 13 pair\n");
@@ -199,8 +199,8 @@ fn no_room() {
     let job = from_hex(&hex).expect("hexadecimal digits");
     assert_eq!(check(&job).unwrap().kind, Kind::Number);
     let mut machine = Machine::start(&job).unwrap();
-    let (outcome, steps) = machine.run(100_000);
+    let (outcome, steps) = run(&mut machine, 100_000);
     assert_eq!((outcome, machine.rooms().pairs), (Outcome::NoRoom, 512));
-    assert_eq!(machine.run(5), (Outcome::NoRoom, 0));
+    assert_eq!(run(&mut machine, 5), (Outcome::NoRoom, 0));
     assert!(steps > 512 * 7);
 }

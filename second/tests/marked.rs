@@ -1,8 +1,11 @@
 //! The marked cases, the printed example, and what holds of the machine between steps.
 
+mod common;
+
+use common::{refused, run, runs};
 use second::generate::{Rng, job, ladder, typed};
 use second::names::Names;
-use second::{Answer, Machine, Outcome, Refusal, bytes_of, check, desk, from_hex, read, tree};
+use second::{Answer, Machine, Outcome, Refusal, Run, bytes_of, check, from_hex, read, tree};
 
 /// Names 2 under 1, and 3 and 4 under 2.
 fn names() -> Names {
@@ -22,7 +25,7 @@ fn bytes(hex: &str) -> Vec<u8> {
 }
 
 fn prints(hex: &str, lines: &str) {
-    assert_eq!(desk(&bytes(hex)), lines);
+    common::prints(&bytes(hex), lines);
 }
 
 /// Host names 2, 3, 4 as above; types: number, cell of key 3, limit keys of 3 and 4; host values
@@ -49,13 +52,13 @@ fn sets_of_names() {
 fn limits_narrow() {
     // 2 enabled and limit 3 leaves 3.
     let job = keyed(4, "3201 3200 390100 3C01 0000FFFFFFFFFFFF 0200");
-    assert_eq!(Machine::start(&job).unwrap().run(100), (Outcome::Done, 6));
+    runs(&job, Outcome::Done, 6);
     // 3 enabled and limit 4 leaves nothing.
     let job = keyed(8, "3202 3200 390100 3C01 0000FFFFFFFFFFFF 0200");
-    assert_eq!(check(&job), Err(Refusal { number: 13, place: 3 }));
+    refused(&job, 13, 3);
     let mut machine = Machine::start(&job).unwrap();
-    assert_eq!(machine.run(100), (Outcome::Denied, 5));
-    assert_eq!(machine.step(), Answer::Denied);
+    assert_eq!(run(&mut machine, 100), (Outcome::Denied, 5));
+    assert_eq!(machine.step(), (Answer::Denied, 0));
 }
 
 #[test]
@@ -94,7 +97,7 @@ fn keyed_and_unkeyed_reads() {
     );
     // A keyed read inside a limit without keys.
     let job = keyed(2, "3200 390000 3C00FFFFFFFFFFFFFFFF0100");
-    assert_eq!(check(&job), Err(Refusal { number: 13, place: 2 }));
+    refused(&job, 13, 2);
 }
 
 #[test]
@@ -102,10 +105,9 @@ fn example() {
     let example = |rights: &str| {
         bytes(&format!("0101 1000 12020000 20010007000000 21{rights}00000000000000 3200 390000 FF"))
     };
-    assert_eq!(desk(&example("04")), "accepted 0000000000000004 number\ndone 3 number 7\n");
-    assert_eq!(desk(&example("00")), "refused 14 at 1\n");
-    let mut machine = Machine::start(&example("00")).unwrap();
-    assert_eq!(machine.run(100_000), (Outcome::Denied, 2));
+    common::prints(&example("04"), "accepted 0000000000000004 number\ndone 3 number 7\n");
+    common::prints(&example("00"), "refused 14 at 1\n");
+    runs(&example("00"), Outcome::Denied, 2);
 }
 
 #[test]
@@ -125,40 +127,34 @@ fn edges_of_reading() {
     prints("210000000000000000 3240 FF", "refused 6 at 9\n");
 }
 
-/// No accepted job is stuck or denied; a step that is not taken changes nothing; a run is its steps.
+/// No accepted job is stuck or denied; a whole run is its turns, and the turn that is not taken changes
+/// nothing.
 #[test]
-fn steps_and_runs() {
+fn turns_and_runs() {
     for seed in 0..600 {
         let (_, job) = job(seed);
         let Ok(start) = Machine::start(&job) else {
             continue;
         };
         let (mut stepped, mut ran) = (start.clone(), start);
-        let steps = 3_000;
-        let mut taken = 0;
-        let last = loop {
-            if taken == steps {
-                break None;
-            }
-            let before = stepped.clone();
-            match stepped.step() {
-                Answer::Taken => taken += 1,
-                other => {
-                    assert!(stepped == before);
-                    break Some(other);
-                }
-            }
+        let run = ran.run([u64::MAX; 8]);
+        let mut counts = [0; 8];
+        for _ in 0..run.counts.iter().sum() {
+            let (answer, thread) = stepped.step();
+            assert_eq!(answer, Answer::Taken, "seed {seed}");
+            counts[thread] += 1;
+        }
+        assert!(ran == stepped, "seed {seed}");
+        let (answer, thread) = stepped.step();
+        let outcome = match answer {
+            Answer::Taken => Outcome::Spent,
+            Answer::Done => Outcome::Done,
+            Answer::NoRoom => Outcome::NoRoom,
+            Answer::Stuck => Outcome::Stuck,
+            Answer::Denied => Outcome::Denied,
         };
-        let outcome = match last {
-            None if stepped.is_done() => Outcome::Done,
-            None => Outcome::Spent,
-            Some(Answer::Done) => Outcome::Done,
-            Some(Answer::NoRoom) => Outcome::NoRoom,
-            Some(Answer::Stuck) => Outcome::Stuck,
-            Some(_) => Outcome::Denied,
-        };
-        assert_eq!(ran.run(steps), (outcome, taken));
-        assert!(ran == stepped);
+        assert_eq!(run, Run { outcome, counts, thread }, "seed {seed}");
+        assert!(ran == stepped, "seed {seed}");
         let failed = matches!(outcome, Outcome::Stuck | Outcome::Denied);
         assert!(!failed || check(&job).is_err(), "seed {seed}");
     }

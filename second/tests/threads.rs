@@ -1,42 +1,17 @@
 //! Command 42: threads, their turns and their room.
 
 mod common;
+mod setting;
 
-use common::{prints, refused, runs};
-use second::generate::{heavy, job as generated};
-use second::job::{HostValue, UNUSED};
-use second::names::Names;
-use second::{Answer, Expr, Job, Kind, Machine, Outcome, Shape, Type};
-use second::{bytes_of, check, from_hex, read};
+use common::{prints, refused, run, runs};
+use second::job::UNUSED;
+use second::{Answer, Expr, Kind, Machine, Outcome, Run, Shape, Type, check, from_hex, read};
+use setting::{job, machine};
 
 use Expr::{
     Apply, Assign, Associate, Function, Grant, Limit, Look, NewCell, NewKey, Number, Pair, Part,
     Read, Spawn, Sum, Test, Top, Variable,
 };
-
-/// Host names 2 under 1, and 3 under 2; local name 4 under 2. Types: 0 number, 1 cell of key 3, 2
-/// cell without a key, 3 limit key of 2, 4 grant key of 3, 5 function from numbers to numbers, 6 cell
-/// of it, 7 number of key 3. Variables 0 to 3 are of the types 1 to 4; the cells hold 7 and 8.
-fn job(rights: u64, exprs: &[Expr]) -> Vec<u8> {
-    let mut names = Names::default();
-    names.declare(1, true);
-    names.declare(2, true);
-    names.declare(2, false);
-    let number = Type::unkeyed(Shape::Number);
-    let types = vec![
-        number,
-        Type { key: 3, shape: Shape::Cell(0) },
-        Type::unkeyed(Shape::Cell(0)),
-        Type::unkeyed(Shape::Limit(2)),
-        Type::unkeyed(Shape::Grant(3)),
-        Type::unkeyed(Shape::Function(0, 0, 0)),
-        Type::unkeyed(Shape::Cell(5)),
-        Type { key: 3, shape: Shape::Number },
-    ];
-    let host = |(ty, number)| HostValue { ty, number };
-    let hosts = [(1, 7), (2, 8), (3, 0), (4, 0)].map(host).to_vec();
-    bytes_of(&Job { names, types, hosts, rights, exprs: exprs.to_vec(), ..Job::default() })
-}
 
 /// The keyed cell, the other one, a limit key and a grant key.
 const KEYED: Expr = Variable(0);
@@ -44,24 +19,26 @@ const CELL: Expr = Variable(1);
 const LIMIT: Expr = Variable(2);
 const GRANT: Expr = Variable(3);
 
-fn machine(exprs: &[Expr]) -> Machine {
-    Machine::start(&job(0, exprs)).expect("a job that starts")
-}
-
 /// The threads that step, one after another.
 fn order(exprs: &[Expr], turns: usize) -> Vec<usize> {
     let mut machine = machine(exprs);
     let turn = |_| {
-        let whose = machine.turn();
-        (machine.step() == Answer::Taken).then_some(whose).flatten()
+        let (answer, thread) = machine.step();
+        (answer == Answer::Taken).then_some(thread)
     };
     (0..turns).map_while(turn).collect()
+}
+
+/// A run with so many steps for each thread, of which the first three took these.
+fn ends(machine: &mut Machine, each: u64, outcome: Outcome, [a, b, c]: [u64; 3], thread: usize) {
+    let counts = [a, b, c, 0, 0, 0, 0, 0];
+    assert_eq!(machine.run([each; 8]), Run { outcome, counts, thread });
 }
 
 /// Takes turns until a thread has the next one.
 fn until(machine: &mut Machine, thread: usize) {
     while machine.turn() != Some(thread) {
-        assert_eq!(machine.step(), Answer::Taken);
+        assert_eq!(machine.step().0, Answer::Taken);
     }
 }
 
@@ -69,10 +46,12 @@ fn until(machine: &mut Machine, thread: usize) {
 fn a_thread_and_its_number() {
     // Thread 0 ends by its first step; thread 1 has one step to take.
     let exprs = [Number(5), Spawn(0)];
-    prints(&job(0, &exprs), "accepted 0000000000000000 number\ndone 2 number 0\n");
+    prints(&job(0, &exprs), "accepted 0000000000000000 number\ndone 1 number 0\n");
+    runs(&job(0, &exprs), Outcome::Done, 2);
     // 0 is a number like any other: 3 and 0 is 3.
     let exprs = [Number(3), Number(5), Spawn(1), Sum(0, 2)];
-    prints(&job(0, &exprs), "accepted 0000000000000000 number\ndone 6 number 3\n");
+    prints(&job(0, &exprs), "accepted 0000000000000000 number\ndone 5 number 3\n");
+    runs(&job(0, &exprs), Outcome::Done, 6);
 }
 
 #[test]
@@ -92,18 +71,19 @@ fn the_body_has_no_effect() {
     // Whatever the rights: the thread has no key, and is denied.
     for rights in [0b10, 0b100, 0b1000] {
         let mut machine = Machine::start(&job(rights, &keyed)).unwrap();
-        assert_eq!(machine.run_threads(100), (Outcome::Denied, [1, 2, 0, 0, 0, 0, 0, 0]));
+        ends(&mut machine, 100, Outcome::Denied, [1, 2, 0], 1);
         assert_eq!(machine.turn(), Some(1));
     }
     // A grant drops the effect, and enables the key.
     let granted = [GRANT, KEYED, Read(1), Grant(0, 2), Spawn(3)];
-    prints(&job(0, &granted), "accepted 0000000000000000 number\ndone 7 number 0\n");
+    prints(&job(0, &granted), "accepted 0000000000000000 number\ndone 1 number 0\n");
+    ends(&mut machine(&granted), 100, Outcome::Done, [1, 6, 0], 0);
     // A value's own key is not touched.
     let held = [Number(1), LIMIT, Associate(0, 1), Spawn(2)];
     assert_eq!(check(&job(0, &held)).unwrap().effect, 0);
     // A function has no effect until it is applied.
     let function = [KEYED, Read(0), Function(9, 0, 1), Spawn(2)];
-    prints(&job(0, &function), "accepted 0000000000000000 number\ndone 2 number 0\n");
+    prints(&job(0, &function), "accepted 0000000000000000 number\ndone 1 number 0\n");
 }
 
 #[test]
@@ -119,18 +99,22 @@ fn sixteen_among_the_others() {
     // A 42 around it has no effect of its own.
     let effect = [KEYED, Read(0), Number(1), Spawn(2), Sum(1, 3)];
     refused(&job(0, &effect), 14, 4);
-    prints(&job(0b1000, &effect), "accepted 0000000000000008 number\ndone 8 number 7\n");
+    prints(&job(0b1000, &effect), "accepted 0000000000000008 number\ndone 7 number 7\n");
 }
 
 #[test]
 fn keys_are_not_handed_on() {
     // The thread looks at a key that thread 0 has: it takes the other branch, and is ended sooner.
     let looks = [LIMIT, KEYED, Read(1), Number(1), Look(0, 2, 3, 0), Spawn(4)];
-    prints(&job(0b100, &looks), "accepted 0000000000000000 number\ndone 5 number 0\n");
+    assert_eq!(check(&job(0b100, &looks)).unwrap().effect, 0);
+    let mut machine = Machine::start(&job(0b100, &looks)).unwrap();
+    ends(&mut machine, 100, Outcome::Done, [1, 4, 0], 0);
     // Under a grant as well.
     let granted =
         [GRANT, LIMIT, KEYED, Read(2), Number(1), Look(1, 3, 4, 0), Spawn(5), Grant(0, 6)];
-    prints(&job(0b100, &granted), "accepted 0000000000000000 number\ndone 8 number 0\n");
+    assert_eq!(check(&job(0b100, &granted)).unwrap().effect, 0);
+    let mut machine = Machine::start(&job(0b100, &granted)).unwrap();
+    ends(&mut machine, 100, Outcome::Done, [4, 4, 0], 0);
 }
 
 #[test]
@@ -139,14 +123,14 @@ fn bindings_are_those_in_force() {
     let exprs =
         [CELL, Variable(9), Assign(0, 1), Spawn(2), Function(9, 0, 3), Number(5), Apply(4, 5)];
     let mut called = machine(&exprs);
-    assert_eq!(called.run(100), (Outcome::Done, 11));
+    ends(&mut called, 100, Outcome::Done, [6, 5, 0], 0);
     assert_eq!(called.cells()[1].data(), 5);
     // A new key is used by a thread that is started in its body.
     let own = [Variable(9), Part(0, 2), Number(1), Variable(9), Part(3, 1), Associate(2, 4)];
     let used = [Number(2), Sum(5, 6), Grant(1, 7), Spawn(8), LIMIT, NewKey(9, 4, 10, 9, 0)];
     let job = job(0, &[&own[..], &used].concat());
     assert_eq!(check(&job).unwrap().effect, 0);
-    assert_eq!(Machine::start(&job).unwrap().run(100), (Outcome::Done, 20));
+    runs(&job, Outcome::Done, 20);
 }
 
 #[test]
@@ -168,9 +152,9 @@ fn ended_threads_take_no_turn() {
     let exprs = [Number(1), Spawn(0), Number(2), Number(3), Sum(2, 3), Spawn(4), Sum(1, 5)];
     assert_eq!(order(&exprs, 20), [0, 0, 0, 1, 0, 0, 2, 2, 2, 2, 2]);
     let mut machine = machine(&exprs);
-    assert_eq!(machine.run_threads(100), (Outcome::Done, [5, 1, 5, 0, 0, 0, 0, 0]));
-    assert_eq!(machine.step(), Answer::Done);
-    assert_eq!(machine.run_threads(3), (Outcome::Done, [0; 8]));
+    ends(&mut machine, 100, Outcome::Done, [5, 1, 5], 0);
+    assert_eq!(machine.step(), (Answer::Done, 0));
+    ends(&mut machine, 3, Outcome::Done, [0; 3], 0);
 }
 
 #[test]
@@ -178,37 +162,13 @@ fn done_when_all_are() {
     // Thread 0 ends first, and its value is the job's.
     let exprs = [Number(1), Number(2), Sum(0, 1), Spawn(2)];
     let mut machine = machine(&exprs);
-    for turn in 1..=5 {
-        assert_eq!(machine.run(1), (Outcome::Spent, 1), "{turn}");
+    for thread in [0, 1, 1, 1, 1] {
+        assert_eq!(machine.step(), (Answer::Taken, thread));
         assert_eq!(machine.result(), None);
     }
-    assert_eq!(machine.run(0), (Outcome::Spent, 0));
-    assert_eq!(machine.run(1), (Outcome::Done, 1));
+    ends(&mut machine, 0, Outcome::Spent, [0; 3], 0);
+    ends(&mut machine, 1, Outcome::Done, [0, 1, 0], 0);
     assert_eq!(machine.result().map(|value| (value.kind(), value.data())), Some((Kind::Number, 0)));
-    // Out of steps with thread 0 at its end.
-    let mut job = heavy(40);
-    job.exprs.push(Spawn(job.last() as u16));
-    prints(&bytes_of(&job), "accepted 0000000000000000 number\nspent 100000\n");
-}
-
-#[test]
-fn a_run_is_its_turns() {
-    let mut steps = [1, 2, 3, 5, 7].into_iter().cycle();
-    for seed in 0..800 {
-        let (_, bytes) = generated(seed);
-        let Ok(start) = Machine::start(&bytes) else { continue };
-        let (mut once, mut parts) = (start.clone(), start);
-        let (mut outcome, mut counts, mut left) = (Outcome::Spent, [0; 8], 3_000);
-        while outcome == Outcome::Spent && left > 0 {
-            let most = left.min(steps.next().unwrap_or(1));
-            let taken;
-            (outcome, taken) = parts.run_threads(most);
-            counts.iter_mut().zip(taken).for_each(|(count, more)| *count += more);
-            left -= most;
-        }
-        assert_eq!(once.run_threads(3_000), (outcome, counts), "seed {seed}");
-        assert!(once == parts, "seed {seed}");
-    }
 }
 
 /// A thread that is stuck ends the run; the machine stays, and the same thread is asked again.
@@ -217,11 +177,11 @@ fn a_thread_that_fails() {
     let stuck = [Top, Number(1), Sum(0, 1), Spawn(2), Number(5), Number(6), Sum(4, 5), Sum(3, 6)];
     refused(&job(0, &stuck), 11, 2);
     let mut machine = machine(&stuck);
-    assert_eq!(machine.run_threads(100), (Outcome::Stuck, [7, 4, 0, 0, 0, 0, 0, 0]));
+    ends(&mut machine, 100, Outcome::Stuck, [7, 4, 0], 1);
     let before = machine.clone();
-    assert_eq!((machine.turn(), machine.step()), (Some(1), Answer::Stuck));
-    assert_eq!(machine.run_threads(5), (Outcome::Stuck, [0; 8]));
-    assert_eq!(machine.run(0), (Outcome::Spent, 0));
+    assert_eq!(machine.step(), (Answer::Stuck, 1));
+    ends(&mut machine, 5, Outcome::Stuck, [0; 3], 1);
+    ends(&mut machine, 0, Outcome::Spent, [0; 3], 0);
     assert!(machine == before);
 }
 
@@ -261,16 +221,16 @@ fn eight_threads() {
         let job = job(0, &starting(count, Number(4)));
         assert_eq!(check(&job).unwrap().kind, Kind::Number);
         let mut machine = Machine::start(&job).unwrap();
-        let (ended, _) = machine.run(100_000);
+        let (ended, _) = run(&mut machine, 100_000);
         assert_eq!((ended.words(), machine.rooms().threads), (outcome, threads));
         // Those that have ended count, too.
         assert_eq!(machine.live().count_ones(), (outcome == "no room") as u32);
     }
     let mut machine = machine(&starting(9, Number(4)));
-    let (_, taken) = machine.run(100_000);
+    let (_, taken) = run(&mut machine, 100_000);
     let before = machine.clone();
-    assert_eq!(machine.run(5), (Outcome::NoRoom, 0));
-    assert_eq!(machine.step(), Answer::NoRoom);
+    ends(&mut machine, 5, Outcome::NoRoom, [0; 3], 0);
+    assert_eq!(machine.step(), (Answer::NoRoom, 0));
     assert!(machine == before);
     runs(&job(0, &starting(9, Number(4))), Outcome::NoRoom, taken);
 }
@@ -289,7 +249,7 @@ fn frames_are_each_threads_own() {
     for (frames, outcome) in [(256, Outcome::Done), (257, Outcome::NoRoom)] {
         let mut exprs = vec![Number(1), Spawn(0)];
         tower(&mut exprs, frames);
-        assert_eq!(machine(&exprs).run(10_000).0, outcome, "{frames}");
+        assert_eq!(machine(&exprs).run([10_000; 8]).outcome, outcome, "{frames}");
     }
     // The thread's own frames are used up, those of thread 0 are not.
     let mut exprs = vec![Number(1)];
@@ -300,8 +260,8 @@ fn frames_are_each_threads_own() {
     let last = exprs.len() as u16 - 1;
     exprs.push(Pair(body + 1, last));
     let mut machine = machine(&exprs);
-    let (outcome, counts) = machine.run_threads(10_000);
-    assert_eq!((outcome, counts[1], machine.turn()), (Outcome::NoRoom, 256, Some(1)));
+    let Run { outcome, counts, thread } = machine.run([10_000; 8]);
+    assert_eq!((outcome, counts[1], thread, machine.turn()), (Outcome::NoRoom, 256, 1, Some(1)));
     assert_eq!((machine.rooms().deepest, machine.rooms().full()), (256, vec!["frames"]));
     assert!(machine.rooms().frames > 256);
 }
@@ -330,10 +290,10 @@ fn other_room_is_shared() {
     let job = job(0, &exprs);
     assert!(check(&job).is_ok());
     let mut machine = Machine::start(&job).unwrap();
-    let (outcome, counts) = machine.run_threads(100_000);
+    let Run { outcome, counts, thread } = machine.run([100_000; 8]);
     assert_eq!((outcome, machine.rooms().full()), (Outcome::NoRoom, vec!["pairs"]));
     // Thread 0 takes the last place.
-    assert_eq!(machine.turn(), Some(1));
+    assert_eq!((thread, machine.turn()), (1, Some(1)));
     assert!(counts[0].abs_diff(counts[1]) < 20);
 }
 
@@ -352,7 +312,7 @@ fn values_are_dropped() {
         exprs.push(Spawn(body.len() as u16 - 1));
         assert_eq!(check(&job(0, &exprs)).unwrap().kind, Kind::Number);
         let mut machine = machine(&exprs);
-        assert_eq!(machine.run(100).0, Outcome::Done);
+        assert_eq!(machine.run([100; 8]).outcome, Outcome::Done);
         assert_eq!(machine.result().unwrap().kind(), Kind::Number);
     }
 }
@@ -367,7 +327,7 @@ fn cells_are_shared() {
     exprs.extend(count(7));
     exprs.push(Sum(6, 12));
     let mut machine = machine(&exprs);
-    assert_eq!(machine.run(100).0, Outcome::Done);
+    assert_eq!(machine.run([100; 8]).outcome, Outcome::Done);
     assert_eq!(machine.cells()[1].data(), 9);
 }
 
@@ -396,7 +356,7 @@ fn a_thread_sees_what_is_bound_around_it() {
     refused(&job(0, &outside), 10, 2);
     let mut machine = machine(&[Variable(9), Spawn(0), Function(9, 0, 1), Number(4), Apply(2, 3)]);
     until(&mut machine, 1);
-    assert_eq!(machine.entering(), Some(0));
-    assert_eq!(machine.step(), Answer::Taken);
+    assert_eq!(machine.entering(1), Some(0));
+    assert_eq!(machine.step(), (Answer::Taken, 1));
     assert_eq!(machine.value(1).map(|value| value.data()), Some(4));
 }

@@ -7,28 +7,27 @@ use std::process::ExitCode;
 
 use compare::expected;
 use compare::lending::Lending;
+use compare::lines::lines;
 use compare::probe::probe;
-use compare::proved::{self, Held, RESULTS, ROOMS, Tables};
+use compare::proved::{self, Held, RESULTS, Tables};
 use compare::words::{kind, set_word, type_word};
-use jobdesk::{Call, LENGTHS};
+use jobdesk::{ANSWER_WORDS, LENGTHS, ROOM_WORDS, THREADS};
+use second::desk::STEPS;
 use second::fields::TypeEntry;
-use second::generate::{Rng, Writing, job};
-use second::observe::{Ran, Seen, observe};
-use second::{Expr, Fields, Kind, Refusal, read, sheet, write};
+use second::generate::{Rng, Writing, calls, job};
+use second::observe::{Seen, observe};
+use second::{Call, Fields, Kind, Machine, Refusal, desk, read, sheet, write};
 use second_faults::{ALL, Fault, Told};
 
 /// What is seen of a job on either side.
 #[derive(PartialEq, Eq)]
 struct Observed {
     verdict: Verdict,
-    /// What is told, or number and place of a refusal.
-    runs: Result<Runs, (u64, u64)>,
+    /// The answers to calls and the rooms after the last one, or number and place of a refusal.
+    runs: Result<(Vec<u64>, [u64; ROOM_WORDS]), (u64, u64)>,
     /// The value of an accepted job at the end.
     value: [u64; 2],
 }
-
-/// The answers to calls, and rooms with the steps of each thread.
-type Runs = (Vec<u64>, Vec<[u64; ROOMS]>);
 
 #[derive(PartialEq, Eq)]
 enum Verdict {
@@ -42,9 +41,8 @@ enum Verdict {
     Refused(u64, u64),
 }
 
-/// What the proved code does. Rooms and the steps of each thread are told after the last call alone; so
-/// of a job with threads, calls are made again and again, each time with one more.
-fn proved(job: &[u8], steps: &[u64], threads: bool, tables: &mut Tables) -> Observed {
+/// What the proved code does.
+fn proved(job: &[u8], calls: &[Call], tables: &mut Tables) -> Observed {
     let verdict = match proved::check(job, tables) {
         (0, [entry, effect]) => {
             // No type word and no head is zero.
@@ -61,28 +59,20 @@ fn proved(job: &[u8], steps: &[u64], threads: bool, tables: &mut Tables) -> Obse
         }
         (number, [place, _]) => Verdict::Refused(number, place),
     };
-    let calls: Vec<Call> = steps.iter().map(|&steps| Call::Run(steps)).collect();
-    let runs = match proved::run(job, tables, &calls, 0) {
-        (0, answers, rooms) => {
-            let made = if threads { 1..calls.len() } else { 0..0 };
-            let before = made.map(|made| proved::run(job, tables, &calls[..made], 0).2);
-            Ok((answers, before.chain([rooms]).collect()))
-        }
-        (number, _, rooms) => Err((number, rooms[0])),
+    let words = proved::words_of(calls, &mut Rng::new(1));
+    let (mut answers, mut rooms) = (vec![0; ANSWER_WORDS * calls.len()], [0; ROOM_WORDS]);
+    let runs = match proved::run(job, tables, &words, &mut answers, &mut rooms) {
+        0 => Ok((answers, rooms)),
+        number => Err((number, rooms[0])),
     };
-    Observed { verdict, runs, value: value(job, &calls, tables) }
-}
-
-/// The value that a session ends with.
-fn value(job: &[u8], calls: &[Call], tables: &mut Tables) -> [u64; 2] {
     let mut held = Held::dirty(calls.len(), &mut Rng::new(1));
-    let lengths = [2 * calls.len(), RESULTS[0], RESULTS[1], RESULTS[2]];
-    proved::session(job, tables, calls, &mut held, lengths);
-    [held.value[0], held.value[1]]
+    let lengths = [ANSWER_WORDS * calls.len(), RESULTS[0], RESULTS[1], RESULTS[2]];
+    proved::session(job, tables, &words, &mut held, lengths);
+    Observed { verdict, runs, value: [held.value[0], held.value[1]] }
 }
 
 /// What the second implementation does, in the same words.
-fn second(seen: &Seen, threads: bool) -> Observed {
+fn second(seen: &Seen) -> Observed {
     let verdict = match &seen.verdict {
         Ok(accepted) => Verdict::Accepted {
             last: (accepted.entry as u64, Some(accepted.kind), accepted.effect),
@@ -95,11 +85,9 @@ fn second(seen: &Seen, threads: bool) -> Observed {
     };
     let runs = match &seen.runs {
         Ok(runs) => {
-            let answer = |run: &Ran| [expected::outcome(run.outcome).number(), run.steps()];
-            let answers = runs.iter().flat_map(answer).collect();
-            let told = if threads { &runs[..] } else { &runs[runs.len() - 1..] };
-            let rooms = told.iter().map(|run| expected::rooms(run.rooms, run.counts));
-            Ok((answers, rooms.collect()))
+            let answers = runs.iter().flat_map(|ran| expected::reply(ran.reply)).collect();
+            let rooms = runs.last().map(|ran| expected::rooms(ran.rooms));
+            Ok((answers, rooms.unwrap_or_default()))
         }
         Err(refusal) => Err((refusal.number as u64, refusal.place as u64)),
     };
@@ -109,11 +97,10 @@ fn second(seen: &Seen, threads: bool) -> Observed {
 
 struct Case {
     job: Vec<u8>,
-    steps: Vec<u64>,
-    /// Whether it starts threads.
-    threads: bool,
+    calls: Vec<Call>,
     proved: Observed,
-    /// The sheet that the proved code gives.
+    /// The desk's lines and the sheet, by the proved code.
+    lines: String,
     sheet: String,
 }
 
@@ -123,24 +110,24 @@ fn cases(seed: u64, tables: &mut Tables, cases: &mut Vec<Case>) {
     let mut next = Some(job(seed).1);
     for _ in 0..3 {
         let Some(job) = next.take() else { return };
-        let whole = observe(&job, &[100_000]);
-        let (mut taken, mut result) = (0, None);
-        if let Ok(runs) = whole.runs {
-            (taken, result) = (runs[0].steps(), runs[0].result);
+        let mut counts = [0; THREADS];
+        if let Ok(mut whole) = Machine::start(&job) {
+            counts = whole.run([STEPS; THREADS]).counts;
+            next = whole.result().and_then(|value| probe(&read(&job).ok()?, value, &mut rng));
         }
-        next = result.and_then(|value| probe(&read(&job).ok()?, value, &mut rng));
-        let steps = vec![0, taken / 2, taken - taken / 2, 0, 3, 2];
-        let spawns = |expr: &Expr| matches!(expr, Expr::Spawn(_));
-        let threads = read(&job).is_ok_and(|job| job.exprs.iter().any(spawns));
-        let proved = proved(&job, &steps, threads, tables);
+        let calls = calls(&mut rng, &counts);
+        let proved = proved(&job, &calls, tables);
+        let lines = lines(&job, &mut jobdesk::Tables::new());
         let sheet = jobdesk::sheet(&job).text().to_string();
-        cases.push(Case { job, steps, threads, proved, sheet });
+        cases.push(Case { job, calls, proved, lines, sheet });
     }
 }
 
-/// Whether what is seen of a job by the second implementation is not what the proved code does.
-fn differs(case: &Case, seen: Seen) -> bool {
-    second(&seen, case.threads) != case.proved
+impl Case {
+    /// Whether what is seen of the job by the second implementation is not what the proved code does.
+    fn differs(&self, seen: Seen) -> bool {
+        second(&seen) != self.proved
+    }
 }
 
 /// What writing gives: the bytes, or number and place of a refusal.
@@ -191,7 +178,8 @@ impl Cases {
     /// A difference without a fault, in words.
     fn difference(&self) -> Option<String> {
         let differs_at = |case: &&Case| {
-            differs(case, observe(&case.job, &case.steps)) || sheet(&case.job) != case.sheet
+            let Case { job, calls, lines, sheet: page, .. } = case;
+            case.differs(observe(job, calls)) || desk(job) != *lines || sheet(job) != *page
         };
         let job = self.jobs.iter().find(differs_at);
         let tables = self.tables.iter().find(|case| case.differs(write));
@@ -208,8 +196,9 @@ impl Cases {
             return Some(format!("tables of seed {}", case.seed));
         }
         let differs_at = |case: &&Case| match fault.told {
+            Told::Lines => fault.desk(&case.job) != case.lines,
             Told::Sheets => fault.sheet(&case.job) != case.sheet,
-            _ => differs(case, fault.observe(&case.job, &case.steps)),
+            Told::Jobs | Told::Tables => case.differs(fault.observe(&case.job, &case.calls)),
         };
         let case = self.jobs.iter().find(differs_at)?;
         Some(format!("{:5} bytes", case.job.len()))

@@ -6,11 +6,13 @@
 use std::collections::HashMap;
 use std::process::ExitCode;
 
+use second::allowances::{self, at_desk};
 use second::desk::STEPS;
 use second::generate::{desk_job, example};
 use second::observe::{acts, refused_at};
 use second::turns::turns;
-use second::{Accepted, Expr, Job, Machine, Outcome, Refusal, check, desk, read};
+use second::value::THREADS;
+use second::{Accepted, Call, Expr, Job, Machine, Outcome, Refusal, check, desk, read};
 
 /// The seeds that are tried, the cases wanted, and the bytes that all may take.
 const SEEDS: std::ops::Range<u64> = 1..40_000;
@@ -20,7 +22,7 @@ const BYTES: usize = 65_536;
 const END: u16 = 0xFFFF;
 
 /// What must come up of threads in accepted jobs, and the kinds of room that must be used up.
-const THREADS: [&str; 11] = [
+const OF_THREADS: [&str; 11] = [
     "2 threads",
     "8 threads",
     "a thread is started within a round",
@@ -63,7 +65,8 @@ fn refused(job: &[u8], refusal: Refusal) -> Vec<String> {
 
 /// The same of an accepted job.
 fn runs(mut machine: Machine, job: &Job, accepted: &Accepted) -> Vec<String> {
-    let (outcome, _) = machine.run(STEPS);
+    let run = machine.run([STEPS; THREADS]);
+    let outcome = run.outcome;
     let mut words = vec![outcome.words().to_string()];
     words.push(format!("accepted as {}", accepted.kind.word()));
     if let (Outcome::Done, Some(value)) = (outcome, machine.result()) {
@@ -77,16 +80,22 @@ fn runs(mut machine: Machine, job: &Job, accepted: &Accepted) -> Vec<String> {
     let pure = if accepted.effect == 0 { "no" } else { "an" };
     let with = |expr: &Expr| format!("accepted with {}, {pure} effect", expr.label());
     words.extend(job.exprs.iter().map(with));
-    let (acts, turns) = (acts(job, STEPS), turns(job, &[STEPS]));
-    words.extend(acts.iter().chain(&turns).map(|act| format!("accepted, {act}")));
+    let (acts, turns) = (acts(job, STEPS), turns(job, &[Call::Run([STEPS; THREADS])]));
+    let acts = acts.into_iter().chain(turns).chain(at_desk(&run));
+    words.extend(acts.map(|act| format!("accepted, {act}")));
     words
+}
+
+/// Whether a word tells how a run ends that is mostly long.
+fn is_end(word: &str) -> bool {
+    word == "spent" || word.contains("spent at the desk") || word.contains("no room")
 }
 
 /// How often a word may bring in a case by itself, up to a round. Long runs are kept few.
 fn most(word: &str, round: usize) -> usize {
     match word {
         "spent" => round.min(2),
-        _ if word.contains("no room") => 1,
+        _ if is_end(word) => 1,
         _ if word.starts_with("refused") && !word.contains("at") => 4 * round,
         _ if word.starts_with("accepted as") || word.starts_with("done with") => 4 * round,
         _ => round,
@@ -129,9 +138,10 @@ fn must() -> Vec<String> {
     let reckoned = ["sum above 4294967295", "difference below 0"];
     let divided = ["by 0", "by a higher number", "with a rest", "without a rest", "has no room"];
     let divided = divided.map(|act| format!("divide {act}"));
-    let acts = reckoned.into_iter().chain(THREADS).map(str::to_string);
+    let acts = reckoned.into_iter().chain(OF_THREADS).map(str::to_string);
     let acts = acts.chain(looks).chain(divided);
     must.extend(acts.map(|act| format!("accepted, {act}")));
+    must.extend(allowances::wanted().into_iter().filter(|word| word.contains("at the desk")));
     must
 }
 
@@ -159,9 +169,8 @@ impl Chosen {
     /// Takes a job in if it shows something that came up seldom; whether it is to be tried again.
     fn consider(&mut self, (job, words): &Shown, round: usize) -> bool {
         // A long run comes in for its end alone.
-        let end = |word: &&String| *word == "spent" || word.contains("no room");
-        let long = words.iter().any(|word| end(&word));
-        let mut counted = words.iter().filter(|word| !long || end(word));
+        let long = words.iter().any(|word| is_end(word));
+        let mut counted = words.iter().filter(|word| !long || is_end(word));
         if !counted.any(|word| self.few(word, round)) || self.cases == CASES {
             return true;
         }

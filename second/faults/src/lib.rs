@@ -1,5 +1,5 @@
-//! Single faults in the reader, the checker, the machine, the writer and the sheet of the second
-//! implementation.
+//! Single faults in the reader, the checker, the machine, the desk, the writer and the sheet of the
+//! second implementation.
 //!
 //! A fault is a small edit of the source (`edits/`). The build makes a copy of each file that a
 //! fault changes, with the change, and puts it in place of the part that it is a copy of. So the
@@ -8,13 +8,15 @@
 #![warn(missing_docs)]
 
 use second::observe::{Parts, Seen};
-use second::{Fields, Refusal};
+use second::{Call, Fields, Refusal};
 
 /// What tells a fault from the faultless implementation.
 #[derive(Clone, Copy, Debug, PartialEq, Eq)]
 pub enum Told {
     /// What is seen of jobs.
     Jobs,
+    /// The desk's lines of jobs.
+    Lines,
     /// What is written of tables.
     Tables,
     /// The sheets of jobs.
@@ -37,8 +39,13 @@ pub struct Fault {
 
 impl Fault {
     /// What is seen of a job with the fault.
-    pub fn observe(&self, job: &[u8], steps: &[u64]) -> Seen {
-        self.parts.observe(job, steps)
+    pub fn observe(&self, job: &[u8], calls: &[Call]) -> Seen {
+        self.parts.observe(job, calls)
+    }
+
+    /// The desk's lines of a job with the fault.
+    pub fn desk(&self, job: &[u8]) -> String {
+        (self.parts.desk)(job)
     }
 
     /// What writing tables gives with the fault.

@@ -1,8 +1,8 @@
 //! Every fault is told from the faultless implementation by some generated job or tables.
 
-use second::generate::{job, tables};
+use second::generate::{calls_of, job, tables};
 use second::observe::observe;
-use second::{sheet, write};
+use second::{desk, sheet, write};
 use second_faults::{ALL, Fault, Told};
 
 /// The faults that something tells.
@@ -12,12 +12,25 @@ fn told(by: Told) -> impl Iterator<Item = &'static Fault> {
 
 #[test]
 fn every_fault_is_caught() {
-    let steps = [0, 40, 0, 41, 2_000, 100_000, 3];
     let cases: Vec<_> = (1..12_000).map(|seed| job(seed).1).collect();
-    let seen: Vec<_> = cases.iter().map(|job| observe(job, &steps)).collect();
+    // Other lists of calls than those of the seeds.
+    let calls: Vec<_> = cases.iter().zip(50_000..).map(|(job, seed)| calls_of(seed, job)).collect();
+    let cases: Vec<_> = cases.iter().zip(&calls).collect();
+    let seen: Vec<_> = cases.iter().map(|(job, calls)| observe(job, calls)).collect();
     for fault in told(Told::Jobs) {
         let mut pairs = cases.iter().zip(&seen);
-        assert!(pairs.any(|(job, seen)| fault.observe(job, &steps) != *seen), "{}", fault.text);
+        let caught = pairs.any(|((job, calls), seen)| fault.observe(job, calls) != *seen);
+        assert!(caught, "{}", fault.text);
+    }
+}
+
+#[test]
+fn every_fault_of_the_desk_is_caught() {
+    let cases: Vec<_> = (1..12_000).map(|seed| job(seed).1).collect();
+    let lines: Vec<_> = cases.iter().map(|job| desk(job)).collect();
+    for fault in told(Told::Lines) {
+        let mut pairs = cases.iter().zip(&lines);
+        assert!(pairs.any(|(job, lines)| fault.desk(job) != *lines), "{}", fault.text);
     }
 }
 
@@ -45,5 +58,5 @@ fn every_fault_of_the_sheet_is_caught() {
 #[test]
 fn faults_have_numbers_of_their_own() {
     assert!(ALL.is_sorted_by(|a, b| a.number < b.number));
-    assert_eq!(ALL.len(), 705);
+    assert_eq!(ALL.len(), 815);
 }

@@ -5,6 +5,7 @@ use std::hint::black_box;
 use std::time::Instant;
 
 use second::generate::{Rng, heavy, heavy_threads, job, ladder, looped, tower, typed};
+use second::value::THREADS;
 use second::{Machine, bytes_of, check};
 
 /// The least time of several tries, in nanoseconds for each of `count`.
@@ -20,16 +21,22 @@ fn time(count: u64, mut work: impl FnMut()) -> f64 {
 /// The steps of a run.
 const STEPS: u64 = 100_000;
 
+/// The steps that a run takes with so many for each thread.
+fn taken(start: &Machine, each: u64) -> u64 {
+    start.clone().run([each; THREADS]).counts.iter().sum()
+}
+
 /// Times a step of a run of differences, by one thread and by eight, and the start of that job.
 fn differences() {
     let heavy = bytes_of(&heavy(40));
-    for (what, job) in [("run", heavy.clone()), ("eight threads", bytes_of(&heavy_threads(40, 8)))]
-    {
-        let fresh = Machine::start(&job).expect("a job that starts");
+    let eight = bytes_of(&heavy_threads(40, THREADS));
+    for (what, job, threads) in [("run", &heavy, 1), ("eight threads", &eight, THREADS as u64)] {
+        let fresh = Machine::start(job).expect("a job that starts");
+        let each = STEPS / threads;
         let mut machine = fresh.clone();
-        let step = time(STEPS, || {
+        let step = time(taken(&fresh, each), || {
             machine.clone_from(&fresh);
-            black_box(machine.run(black_box(STEPS)));
+            black_box(machine.run(black_box([each; THREADS])));
         });
         println!("step of {what:18}{step:8.2} ns");
     }
@@ -46,10 +53,10 @@ fn mixed() {
     let mut rng = Rng::new(7);
     let loops: Vec<Machine> =
         (0..200).filter_map(|_| Machine::start(&bytes_of(&looped(&mut rng))).ok()).collect();
-    let taken = loops.iter().map(|start| start.clone().run(STEPS).1).sum();
-    let step = time(taken, || {
+    let steps = loops.iter().map(|start| taken(start, STEPS)).sum();
+    let step = time(steps, || {
         for start in &loops {
-            black_box(start.clone().run(black_box(STEPS)));
+            black_box(start.clone().run(black_box([STEPS; THREADS])));
         }
     });
     println!("step of mixed runs:       {step:8.2} ns");

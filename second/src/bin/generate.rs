@@ -1,17 +1,25 @@
 //! Generates jobs and says what they reach.
 //!
 //! `generate [COUNT] [SEED]` prints how often each refusal, outcome and kind of room is reached, and
-//! what sheets show; it fails if one is not; so for the reasons for which generated tables are not
-//! written. `generate COUNT SEED desk` prints each job and the desk's lines instead, and `generate
-//! COUNT SEED machine STEPS` each job that starts and its run.
+//! what sheets show; it fails if one is not; so for what threads and allowances come to, and for the
+//! reasons for which generated tables are not written. `generate COUNT SEED desk` prints each job and
+//! the desk's lines instead, and `generate COUNT SEED calls` each job, a query of a list of calls and
+//! its answer.
 #![forbid(unsafe_code)]
 
 use std::collections::{BTreeMap, BTreeSet};
 use std::process::ExitCode;
 
-use second::generate::{job, tables};
-use second::observe::{acts, made, observe, refused_at, wanted_of_acts, wanted_of_threads};
-use second::{Expr, Outcome, desk, read, shown, to_hex, tree, turns, write, written};
+use second::desk::STEPS;
+use second::generate::{Rng, calls, calls_of, job, tables};
+use second::observe::{Ran, acts, made, observe, refused_at, session};
+use second::observe::{wanted_of_acts, wanted_of_threads};
+use second::value::THREADS;
+use second::{Call, Expr, Outcome, Reply, Run};
+use second::{allowances, desk, read, shown, to_hex, turns, write, written};
+
+/// The desk's run.
+const WHOLE: Call = Call::Run([STEPS; THREADS]);
 
 /// How often each thing was reached.
 type Reached = BTreeMap<String, u64>;
@@ -19,7 +27,7 @@ type Reached = BTreeMap<String, u64>;
 /// Counts what a job reaches.
 fn reach(seed: u64, reached: &mut Reached) {
     let (source, job) = job(seed);
-    let seen = observe(&job, &[100_000]);
+    let seen = observe(&job, &[WHOLE]);
     let mut reach = |what: String| *reached.entry(what).or_default() += 1;
     let verdict = match &seen.verdict {
         Ok(accepted) => {
@@ -40,30 +48,35 @@ fn reach(seed: u64, reached: &mut Reached) {
         let kinds: BTreeSet<&str> = job.types.iter().map(|ty| ty.kind().word()).collect();
         kinds.into_iter().for_each(|kind| reach(format!("accepted with type {kind}")));
     }
-    let taken = seen.runs.as_ref().map_or(0, |runs| runs[0].steps());
-    reach_acts(&job, seen.verdict.is_ok(), taken, &mut reach);
     shown::words(&job).into_iter().for_each(&mut reach);
-    for run in seen.runs.iter().flatten() {
-        let accepted = if seen.verdict.is_ok() { "accepted" } else { "refused" };
-        reach(format!("outcome of {accepted} {}", run.outcome.words()));
-        if run.outcome == Outcome::NoRoom
-            && let [room] = run.rooms.full()[..]
-        {
-            reach(format!("no room in {room} alone"));
-        }
+    if let Ok([ran]) = seen.runs.as_deref() {
+        let calls = |run: &Run| calls(&mut Rng::new(seed), &run.counts);
+        reach_calls(&job, seen.verdict.is_ok(), ran, calls, reach);
     }
 }
 
-/// Counts what the looks, sums, differences, divisions and threads of a job come to that takes so many
-/// steps, if it starts.
-fn reach_acts(job: &[u8], accepted: bool, taken: u64, mut reach: impl FnMut(String)) {
-    let Ok(job) = read(job).and_then(|job| tree(&job).map(|()| job)) else { return };
-    let half = taken / 2;
-    let calls = [half, 1, taken - half, 1, 3];
-    for act in acts(&job, 100_000).into_iter().chain(turns::turns(&job, &calls)) {
-        reach(act.to_string());
+/// Counts what the desk's run of a job comes to, what its looks, sums, differences and divisions do, and
+/// its threads in calls that are drawn for that run.
+fn reach_calls(
+    job: &[u8],
+    accepted: bool,
+    ran: &Ran,
+    calls: impl Fn(&Run) -> Vec<Call>,
+    mut reach: impl FnMut(String),
+) {
+    let (Ok(job), Reply::Run(run)) = (read(job), ran.reply) else { return };
+    let verdict = if accepted { "accepted" } else { "refused" };
+    reach(format!("outcome of {verdict} {}", run.outcome.words()));
+    if run.outcome == Outcome::NoRoom
+        && let [room] = ran.rooms.full()[..]
+    {
+        reach(format!("no room in {room} alone"));
+    }
+    let words = acts(&job, STEPS).into_iter().chain(turns::turns(&job, &calls(&run)));
+    for word in words.chain(allowances::at_desk(&run)) {
+        reach(word.to_string());
         if accepted {
-            reach(format!("accepted, {act}"));
+            reach(format!("accepted, {word}"));
         }
     }
 }
@@ -126,13 +139,13 @@ fn main() -> ExitCode {
                 println!("{}\t{}", to_hex(&job), desk(&job).trim_end().replace('\n', " | "));
             }
         }
-        Some("machine") => {
-            let steps = number(3, 1000);
+        Some("calls") => {
             for seed in seed..seed + count {
                 let (_, job) = job(seed);
-                if let Ok(runs) = observe(&job, &[steps]).runs {
-                    println!("{}\t{steps}\t{}", to_hex(&job), runs[0]);
-                }
+                let calls = calls_of(seed, &job);
+                let query: Vec<String> = calls.iter().map(Call::to_string).collect();
+                let answer = session(&job, &calls).unwrap_or_else(|refusal| refusal.to_string());
+                println!("{}\tcalls {}\t{answer}", to_hex(&job), query.join(" "));
             }
         }
         _ => return coverage(count, seed),

@@ -8,7 +8,7 @@ use crate::write::bytes_of;
 /// A job at a limit, or one past it, or near a condition of the reader or of scopes.
 pub fn job(rng: &mut Rng) -> Vec<u8> {
     let past = rng.below(2);
-    match rng.below(33) {
+    match rng.below(34) {
         0 => repeated(rng, &[], &[0x01, 1], &[0x01, 0], 62 + past),
         1 => repeated(rng, &[], &[0x10, 0], &[0x10, 77], 256 + past),
         2 => {
@@ -24,7 +24,7 @@ pub fn job(rng: &mut Rng) -> Vec<u8> {
         }
         6 | 7 => sets(rng),
         8 => bytes_of(&ladder(8 + 8 * past, 1 + 20 * past, rng.below(3))),
-        9 => bytes_of(&heavy(40)),
+        9 | 31 => bytes_of(&busy(rng)),
         10 => host_values(rng),
         11 => full(rng),
         12..18 => bytes_of(&brink(rng)),
@@ -272,6 +272,21 @@ pub fn heavy_threads(differences: usize, threads: usize) -> Job {
     let last = e.add(Expr::Part(pair, 2));
     held(&mut e, last);
     Job { types: loop_types(), exprs: e.0, ..Job::default() }
+}
+
+/// A loop of about as many steps as the desk allows: in thread 0, by itself or beside a thread that
+/// ends soon, in another thread, or in two or three.
+fn busy(rng: &mut Rng) -> Job {
+    let mut job = heavy(40);
+    let last = job.last() as u16;
+    match rng.below(6) {
+        0 => {}
+        1 => job.exprs.push(Expr::Spawn(last)),
+        2 => job.exprs.extend([Expr::Number(1), Expr::Spawn(last + 1), Expr::Sum(last + 2, last)]),
+        3 => job = heavy_threads(80, 2),
+        _ => job = heavy_threads(40, 2 + rng.below(2)),
+    }
+    job
 }
 
 /// A number of differences.

@@ -172,8 +172,15 @@ impl Threads<'_> {
                 let content = self.work(depth);
                 self.add(Expr::NewCell(PLAIN, content))
             }
+            6 if self.rng.chance(40) => self.wrong(),
             _ => self.work(depth),
         }
+    }
+
+    /// A sum with an operand of the wrong kind, after some work.
+    fn wrong(&mut self) -> u16 {
+        let (top, other) = (self.add(Expr::Top), self.work(0));
+        self.add(Expr::Sum(top, other))
     }
 
     /// A number that some work comes to.
@@ -188,10 +195,7 @@ impl Threads<'_> {
             4 | 5 => self.counted(),
             6 => self.granted(),
             7 if self.rng.chance(25) => self.read(4),
-            7 if self.rng.chance(10) => {
-                let (top, other) = (self.add(Expr::Top), self.literal());
-                self.add(Expr::Sum(top, other))
-            }
+            7 if self.rng.chance(10) => self.wrong(),
             7 | 8 => self.known(),
             9 => self.called(),
             10 => self.keyed(),

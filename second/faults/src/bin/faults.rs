@@ -1,34 +1,34 @@
-//! Puts one fault after another into the reader, checker, machine, writer and sheet, and looks
+//! Puts one fault after another into the reader, checker, machine, desk, writer and sheet, and looks
 //! whether generated jobs and tables tell it from the faultless one.
 //!
 //! `faults [COUNT] [SEED]` prints for each fault its number, what it is, the shortest job that
-//! catches it, the steps asked for, and what is seen without and with the fault, parted by tabs. Of a
-//! fault in the writer it prints the seed of the tables and the room in place of job and steps, of one
-//! in the sheet `sheet` in place of the steps. It fails if a fault is not caught.
+//! catches it, the calls made, and what is seen without and with the fault, parted by tabs. Of a fault
+//! in the writer it prints the seed of the tables and the room in place of job and calls, of one in
+//! the desk or in the sheet `desk` or `sheet` in place of the calls. It fails if a fault is not caught.
 #![forbid(unsafe_code)]
 
 use std::process::ExitCode;
 
-use second::generate::{Writing, job, tables};
+use second::generate::{Writing, calls_of, job, tables};
 use second::observe::{Seen, observe};
-use second::{Refusal, sheet, to_hex, write};
+use second::{Call, Refusal, desk, sheet, to_hex, write};
 use second_faults::{ALL, Fault, Told};
 
+/// A job, the calls made from its start, and what it comes to.
 struct Case {
     job: Vec<u8>,
-    steps: Vec<u64>,
+    calls: Vec<Call>,
     seen: Seen,
+    lines: String,
     sheet: String,
 }
 
 impl Case {
-    /// A job, run from its start in two parts that meet its end, and then twice some steps more.
-    fn new(job: Vec<u8>) -> Self {
-        let whole = observe(&job, &[100_000]);
-        let taken = whole.runs.map_or(0, |runs| runs[0].steps());
-        let steps = vec![0, taken / 2, taken - taken / 2, 0, 3, 2];
-        let (seen, sheet) = (observe(&job, &steps), sheet(&job));
-        Case { job, steps, seen, sheet }
+    fn new(seed: u64) -> Self {
+        let (_, job) = job(seed);
+        let calls = calls_of(seed, &job);
+        let (seen, lines, sheet) = (observe(&job, &calls), desk(&job), sheet(&job));
+        Case { job, calls, seen, lines, sheet }
     }
 }
 
@@ -36,11 +36,11 @@ impl Case {
 fn caught(fault: &Fault, cases: &[Case]) -> bool {
     let Fault { number, text, .. } = fault;
     for case in cases {
-        let faulty = fault.observe(&case.job, &case.steps);
+        let faulty = fault.observe(&case.job, &case.calls);
         if faulty != case.seen {
-            let steps: Vec<String> = case.steps.iter().map(u64::to_string).collect();
-            let (job, steps) = (to_hex(&case.job), steps.join(","));
-            println!("caught\t{number}\t{text}\t{job}\t{steps}\t{}\t{faulty}", case.seen);
+            let calls: Vec<String> = case.calls.iter().map(Call::to_string).collect();
+            let (job, calls) = (to_hex(&case.job), calls.join(" "));
+            println!("caught\t{number}\t{text}\t{job}\t{calls}\t{}\t{faulty}", case.seen);
             return true;
         }
     }
@@ -48,13 +48,19 @@ fn caught(fault: &Fault, cases: &[Case]) -> bool {
     false
 }
 
-/// The same for a fault in the sheet.
-fn caught_by_sheets(fault: &Fault, cases: &[Case]) -> bool {
+/// The same for a fault in what is printed.
+fn caught_by_text(
+    fault: &Fault,
+    what: &str,
+    cases: &[Case],
+    both: impl Fn(&Case) -> (&str, String),
+) -> bool {
     let Fault { number, text, .. } = fault;
-    for Case { job, sheet, .. } in cases {
-        let faulty = fault.sheet(job);
-        if faulty != *sheet {
-            println!("caught\t{number}\t{text}\t{}\tsheet\t{sheet:?}\t{faulty:?}", to_hex(job));
+    for case in cases {
+        let (printed, faulty) = both(case);
+        if faulty != printed {
+            let job = to_hex(&case.job);
+            println!("caught\t{number}\t{text}\t{job}\t{what}\t{printed:?}\t{faulty:?}");
             return true;
         }
     }
@@ -82,7 +88,7 @@ fn caught_by_tables(fault: &Fault, cases: &[Tables]) -> bool {
     let Fault { number, text, .. } = fault;
     let shown = |written: &Result<Vec<u8>, Refusal>| match written {
         Ok(bytes) => format!("written {}", to_hex(bytes)),
-        Err(refusal) => format!("refused {} at {}", refusal.number, refusal.place),
+        Err(refusal) => refusal.to_string(),
     };
     for Tables { seed, writing, written } in cases {
         let faulty = fault.write(&writing.fields, writing.room);
@@ -100,13 +106,18 @@ fn main() -> ExitCode {
     let mut numbers = std::env::args().skip(1).map(|text| text.parse().ok());
     let count = numbers.next().flatten().unwrap_or(10_000);
     let seed = numbers.next().flatten().unwrap_or(1);
-    let mut cases: Vec<Case> = (seed..seed + count).map(|seed| Case::new(job(seed).1)).collect();
+    let mut cases: Vec<Case> = (seed..seed + count).map(Case::new).collect();
     cases.sort_by_key(|case| case.job.len());
     let tables: Vec<Tables> = (seed..seed + count).map(Tables::new).collect();
     let is_caught = |fault: &&Fault| match fault.told {
         Told::Jobs => caught(fault, &cases),
+        Told::Lines => {
+            caught_by_text(fault, "desk", &cases, |case| (&case.lines, fault.desk(&case.job)))
+        }
         Told::Tables => caught_by_tables(fault, &tables),
-        Told::Sheets => caught_by_sheets(fault, &cases),
+        Told::Sheets => {
+            caught_by_text(fault, "sheet", &cases, |case| (&case.sheet, fault.sheet(&case.job)))
+        }
     };
     let missed = ALL.iter().filter(|fault| !is_caught(fault)).count();
     println!("{} caught, {missed} missed", ALL.len() - missed);
