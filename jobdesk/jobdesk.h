@@ -36,13 +36,14 @@ extern "C" {
 /* The most threads that a job can have, with thread 0: a command 42 (hexadecimal) starts one more. */
 #define JOBDESK_THREADS 8
 
-/* How many words there are of what is told of a verdict, of a job that is read, of room in use (seven
- * kinds of it, then the last call's steps of each of JOBDESK_THREADS threads), of the answer to each call,
- * of a value, and of what the cells hold: a value for each of 256 cells. */
+/* How many words there are of what is told of a verdict, of a job that is read, of room in use, of a call
+ * and of the answer to it (both have one for each of JOBDESK_THREADS threads), of a value, and of what the
+ * cells hold: a value for each of 256 cells. */
 #define JOBDESK_OUT 2
 #define JOBDESK_COUNTS 5
-#define JOBDESK_ROOMS 15
-#define JOBDESK_ANSWER 2
+#define JOBDESK_ROOMS 7
+#define JOBDESK_CALL 9
+#define JOBDESK_ANSWER 10
 #define JOBDESK_VALUE 2
 #define JOBDESK_CELLS 512
 
@@ -53,7 +54,7 @@ extern "C" {
 /* What a function returns: 0, or the number of a refusal. The place of 1 and of 15 is 0, that of 2 to 7
  * an offset in the job's bytes, that of 8 to 14 and of 16 the number of an expression. */
 #define JOBDESK_OK 0
-#define JOBDESK_SHORT_TABLE 1       /* a lent work table, or the text of a sheet, is too short */
+#define JOBDESK_SHORT_TABLE 1       /* a lent table or other slice is too short, or a call is cut short */
 #define JOBDESK_NO_COMMAND 2        /* a byte is no command */
 #define JOBDESK_WRONG_SECTION 3     /* a command stands outside its section */
 #define JOBDESK_CUT_OFF 4           /* the input ends too soon */
@@ -70,20 +71,41 @@ extern "C" {
 #define JOBDESK_SHORT_BUFFER 15     /* the buffer is too short for the job's bytes */
 #define JOBDESK_SPAWN_EFFECT 16     /* a thread's body has an effect */
 
-/* Calls: one turn, or a run of up to n steps, those of all threads counted together, n below 2^64 - 1.
+/* Calls: one turn, or a run with an allowance for each thread number, each of up to 2^64 - 1 steps. The
+ * JOBDESK_CALL words of a call are 0 for a turn and any other number for a run, then the allowances of
+ * threads 0 to 7, at which a turn does not look. JOBDESK_STEP is a turn, JOBDESK_RUN a run with these
+ * allowances, and JOBDESK_RUN_EACH one that allows every thread n, an expression that is written eight
+ * times. They stand in the initializer of an array of uint64_t:
+ *
+ *     const uint64_t calls[] = { JOBDESK_STEP, JOBDESK_RUN_EACH(100000) };
  *
  * A turn is a step of the thread whose turn it is. In a round each thread that was there when the round
  * began and has not ended takes one step, by ascending number; a thread that is started has its first turn
  * in the next round. Each call goes on where the last one left the round. A job without threads has one,
- * thread 0, and a turn is a step of it. */
-#define JOBDESK_STEP UINT64_C(0)
-#define JOBDESK_RUN(n) ((uint64_t)(n) + 1)
+ * thread 0, and a turn is a step of it.
+ *
+ * A run takes turns until every thread has ended or has used its allowance to the last step, or one fails.
+ * A thread at its allowance is passed over like one that has ended, and the others go on; a thread that is
+ * started in the run has the allowance of its number. The round and who stepped last change by steps alone:
+ * after the run a thread that was passed over still has its turn in the round, unless one with a higher
+ * number has stepped since. Allowances are of one run. Nothing of them carries over, and a turn has none. */
+#define JOBDESK_STEP UINT64_C(0), 0, 0, 0, 0, 0, 0, 0, 0
+#define JOBDESK_RUN(a0, a1, a2, a3, a4, a5, a6, a7) \
+    UINT64_C(1), (uint64_t)(a0), (uint64_t)(a1), (uint64_t)(a2), (uint64_t)(a3), \
+        (uint64_t)(a4), (uint64_t)(a5), (uint64_t)(a6), (uint64_t)(a7)
+#define JOBDESK_RUN_EACH(n) JOBDESK_RUN(n, n, n, n, n, n, n, n)
 
-/* Answers to calls. The next step is that of the thread whose turn it is: where it cannot be taken, no
- * other thread steps in its place, and the next call asks the same thread again. */
-#define JOBDESK_TAKEN 0     /* the step is taken */
+/* Answers to calls. The JOBDESK_ANSWER words of an answer are its number; the thread that took the step of a
+ * turn or that failed, 0 where none did; then how many steps each of threads 0 to 7 took in the call, 0
+ * where there is no such thread.
+ *
+ * The next step is that of the thread whose turn it is. Where it cannot be taken, that thread fails: the
+ * call ends, no other thread steps in its place, and nothing is changed, the round neither. So the next call
+ * asks the same thread again, unless it passes over that thread, or does not pass over one that this call
+ * has passed over. */
+#define JOBDESK_TAKEN 0     /* the step of a turn is taken */
 #define JOBDESK_DONE 1      /* every thread has ended; the job's value is that of thread 0 */
-#define JOBDESK_SPENT 2     /* the run has taken all its steps, and a thread has not ended */
+#define JOBDESK_SPENT 2     /* every thread that has not ended has used its allowance, and there is one */
 #define JOBDESK_NO_ROOM 3   /* the next step needs a place that is not there */
 #define JOBDESK_STUCK 4     /* an operand is of a kind that the next step cannot use */
 #define JOBDESK_DENIED 5    /* the next step needs a key that is not enabled */
@@ -154,8 +176,9 @@ uint64_t jobdesk_check(
  *
  * Returns 0 if the job is accepted. Then `out` and the tables are as after jobdesk_check, and of
  * call i (from 0)
- *   answers[2 * i]      is the answer, never JOBDESK_STUCK or JOBDESK_DENIED, in whichever thread,
- *   answers[2 * i + 1]  is how many steps all threads took in it.
+ *   answers[10 * i]          is the answer, never JOBDESK_STUCK or JOBDESK_DENIED, in whichever thread,
+ *   answers[10 * i + 1]      is the thread that took the step of a turn or that has no room, else 0,
+ *   answers[10 * i + 2 + t]  is how many steps thread t took in it.
  * `value` is the job's value, that of thread 0, where every thread has ended, and JOBDESK_NO_VALUE and 0
  * where one has not; cells[2 * i] and cells[2 * i + 1] are the value that cell i holds, and
  * JOBDESK_NO_VALUE and 0 where there is no cell i. The host values that are cells have the first numbers,
@@ -164,8 +187,9 @@ uint64_t jobdesk_check(
  * Returns 1 to 14 or 16, the number of the refusal, if the job is refused. Then `out` and the tables are as
  * after jobdesk_check, no answer is written, and `value` and `cells` are zero.
  *
- * Returns 1 too where there are not JOBDESK_ANSWER answers for each call, or `value`, `cells` or `out`
- * is shorter than JOBDESK_VALUE, JOBDESK_CELLS or JOBDESK_OUT. Then nothing at all is written.
+ * Returns 1 too where the words of `calls` are no whole number of calls, where `answers` has fewer than
+ * JOBDESK_ANSWER words for each, or `value`, `cells` or `out` is shorter than JOBDESK_VALUE, JOBDESK_CELLS
+ * or JOBDESK_OUT. Then nothing at all is written.
  */
 uint64_t jobdesk_session(
     const uint8_t *job, size_t job_length,
@@ -190,8 +214,9 @@ uint64_t jobdesk_session(
  * JOBDESK_STUCK or JOBDESK_DENIED. So check first, and run only what is accepted.
  *
  * Returns 0 if the job is started. Then of call i (from 0)
- *   answers[2 * i]      is the answer,
- *   answers[2 * i + 1]  is how many steps all threads took in it;
+ *   answers[10 * i]          is the answer,
+ *   answers[10 * i + 1]      is the thread that took the step of a turn or that failed, else 0,
+ *   answers[10 * i + 2 + t]  is how many steps thread t took in it;
  * of what is in use after the last call
  *   rooms[0] to rooms[3]  are the cells (of 256), keys (of 128, with 0 and 1), pairs (of 512) and
  *                         functions (of 512), which all threads share,
@@ -199,15 +224,14 @@ uint64_t jobdesk_session(
  *   rooms[5]              is the bindings (of 1,024), which are shared too,
  *   rooms[6]              is the threads, of JOBDESK_THREADS: thread 0, and each that was started, also
  *                         one that has ended;
- * rooms[7 + i] is how many steps thread i took in the last call, 0 where there was no call or no such
- * thread; and the six tables hold the job as after a check, `types` and `sets` the declared types alone.
+ * and the six tables hold the job as after a check, `types` and `sets` the declared types alone.
  *
  * Returns 1 to 10, the number of the refusal, if it is not started. Then rooms[0] is its place and
  * no answer is written; after 1 no table is written to, after 2 to 10 the six tables are zero to
  * their ends.
  *
- * Returns 1 too where there are not JOBDESK_ANSWER answers for each call. Then rooms[0] is 0, and
- * nothing else is written.
+ * Returns 1 too where the words of `calls` are no whole number of calls, or `answers` has fewer than
+ * JOBDESK_ANSWER words for each. Then rooms[0] is 0, and nothing else is written.
  *
  * Where `rooms` has fewer than JOBDESK_ROOMS entries, it gets those that it has.
  */
@@ -364,8 +388,8 @@ static inline uint64_t jobdesk_check_in(
         JOBDESK_ENTRIES, t->effects, JOBDESK_EFFECTS, out, JOBDESK_OUT);
 }
 
-/* jobdesk_session with tables of the least lengths; `answers` has JOBDESK_ANSWER entries for each of
- * `count` calls. It never returns 1. */
+/* jobdesk_session with tables of the least lengths; `calls` has JOBDESK_CALL entries and `answers` has
+ * JOBDESK_ANSWER for each of `count` calls. It never returns 1. */
 static inline uint64_t jobdesk_session_in(
     struct jobdesk_tables *t, const uint8_t *job, size_t job_length, const uint64_t *calls,
     size_t count, uint64_t *answers, uint64_t value[JOBDESK_VALUE], uint64_t cells[JOBDESK_CELLS],
@@ -374,20 +398,20 @@ static inline uint64_t jobdesk_session_in(
     return jobdesk_session(
         job, job_length, t->names, JOBDESK_NAMES, t->types, JOBDESK_TYPES, t->sets, JOBDESK_SETS,
         t->values, JOBDESK_VALUES, t->heads, JOBDESK_HEADS, t->slots, JOBDESK_SLOTS, t->entries,
-        JOBDESK_ENTRIES, t->effects, JOBDESK_EFFECTS, calls, count, answers, JOBDESK_ANSWER * count,
-        value, JOBDESK_VALUE, cells, JOBDESK_CELLS, out, JOBDESK_OUT);
+        JOBDESK_ENTRIES, t->effects, JOBDESK_EFFECTS, calls, JOBDESK_CALL * count, answers,
+        JOBDESK_ANSWER * count, value, JOBDESK_VALUE, cells, JOBDESK_CELLS, out, JOBDESK_OUT);
 }
 
-/* jobdesk_run with tables of the least lengths; `answers` has JOBDESK_ANSWER entries for each of
- * `count` calls. It never returns 1. */
+/* jobdesk_run with tables of the least lengths; `calls` has JOBDESK_CALL entries and `answers` has
+ * JOBDESK_ANSWER for each of `count` calls. It never returns 1. */
 static inline uint64_t jobdesk_run_in(
     struct jobdesk_tables *t, const uint8_t *job, size_t job_length, const uint64_t *calls,
     size_t count, uint64_t *answers, uint64_t rooms[JOBDESK_ROOMS])
 {
     return jobdesk_run(
         job, job_length, t->names, JOBDESK_NAMES, t->types, JOBDESK_TYPES, t->sets, JOBDESK_SETS,
-        t->values, JOBDESK_VALUES, t->heads, JOBDESK_HEADS, t->slots, JOBDESK_SLOTS, calls, count,
-        answers, JOBDESK_ANSWER * count, rooms, JOBDESK_ROOMS);
+        t->values, JOBDESK_VALUES, t->heads, JOBDESK_HEADS, t->slots, JOBDESK_SLOTS, calls,
+        JOBDESK_CALL * count, answers, JOBDESK_ANSWER * count, rooms, JOBDESK_ROOMS);
 }
 
 /* jobdesk_read with tables of the least lengths; it never returns 1. */

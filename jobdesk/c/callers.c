@@ -43,6 +43,13 @@ static int all_bytes(int byte)
 /* Makes the tables dirty. */
 static void soil(void) { memset(&tables, 0xA5, sizeof tables); }
 
+/* The words of an answer: its number, the thread, and the steps of threads 0 and 1; no other has any. */
+static void same_answer(const char *what, const uint64_t *answer, const uint64_t wanted[4])
+{
+    for (size_t i = 0; i < JOBDESK_ANSWER; i++)
+        same(what, answer[i], i < 4 ? wanted[i] : 0);
+}
+
 static void accepted(void)
 {
     uint64_t out[JOBDESK_OUT];
@@ -84,15 +91,16 @@ static void refused(void)
 
 static void runs(void)
 {
-    const uint64_t calls[] = { JOBDESK_STEP, JOBDESK_RUN(0), JOBDESK_RUN(100000), JOBDESK_STEP };
-    const uint64_t wanted[] = { JOBDESK_TAKEN, 1, JOBDESK_SPENT, 0, JOBDESK_DONE, 2, JOBDESK_DONE, 0 };
-    /* One cell, three keys, two bindings, one thread; and no step in the last call. */
+    const uint64_t calls[] = { JOBDESK_STEP, JOBDESK_RUN_EACH(0), JOBDESK_RUN_EACH(100000), JOBDESK_STEP };
+    const uint64_t wanted[][4] = { { JOBDESK_TAKEN, 0, 1 }, { JOBDESK_SPENT }, { JOBDESK_DONE, 0, 2 },
+                                   { JOBDESK_DONE } };
+    /* One cell, three keys, two bindings, one thread. */
     const uint64_t in_use[JOBDESK_ROOMS] = { 1, 3, 0, 0, 0, 2, 1 };
-    uint64_t answers[8], rooms[JOBDESK_ROOMS];
+    uint64_t answers[4 * JOBDESK_ANSWER], rooms[JOBDESK_ROOMS];
     soil();
     same("run", jobdesk_run_in(&tables, example, sizeof example, calls, 4, answers, rooms), JOBDESK_OK);
-    for (size_t i = 0; i < 8; i++)
-        same("answers of a run", answers[i], wanted[i]);
+    for (size_t i = 0; i < 4; i++)
+        same_answer("answers of a run", answers + JOBDESK_ANSWER * i, wanted[i]);
     for (size_t i = 0; i < JOBDESK_ROOMS; i++)
         same("rooms of a run", rooms[i], in_use[i]);
     same("entries not lent to a run", tables.entries[0], 0xA5A5);
@@ -101,15 +109,14 @@ static void runs(void)
 /* A start is no verdict: the job without rights starts, and is denied. One that is cut off does not. */
 static void runs_refused(void)
 {
-    const uint64_t calls[] = { JOBDESK_RUN(100000) };
+    const uint64_t calls[] = { JOBDESK_RUN_EACH(100000) }, denied[4] = { JOBDESK_DENIED, 0, 2 };
     uint8_t job[sizeof example];
-    uint64_t answers[2], rooms[JOBDESK_ROOMS];
+    uint64_t answers[JOBDESK_ANSWER], rooms[JOBDESK_ROOMS];
     memcpy(job, example, sizeof example);
     job[RIGHTS] = 0;
     same("no rights, run", jobdesk_run_in(&tables, job, sizeof job, calls, 1, answers, rooms), JOBDESK_OK);
-    same("no rights, answer", answers[0], JOBDESK_DENIED);
-    same("no rights, steps", answers[1], 2);
-    answers[0] = answers[1] = 99;
+    same_answer("no rights, answer", answers, denied);
+    answers[0] = 99;
     same("no end, run", jobdesk_run_in(&tables, job, 20, calls, 1, answers, rooms), JOBDESK_CUT_OFF);
     same("no end, run, place", rooms[0], 15);
     same("no end, no answer", answers[0], 99);
@@ -125,12 +132,13 @@ static uint64_t check_with(const size_t lengths[8], uint64_t out[JOBDESK_OUT])
 }
 
 /* A run of the example with tables of these lengths. */
-static uint64_t run_with(const size_t lengths[6], uint64_t answers[2], uint64_t rooms[JOBDESK_ROOMS])
+static uint64_t run_with(const size_t lengths[6], uint64_t answers[JOBDESK_ANSWER],
+                         uint64_t rooms[JOBDESK_ROOMS])
 {
     const uint64_t calls[] = { JOBDESK_STEP };
     return jobdesk_run(example, sizeof example, tables.names, lengths[0], tables.types, lengths[1],
                        tables.sets, lengths[2], tables.values, lengths[3], tables.heads, lengths[4],
-                       tables.slots, lengths[5], calls, 1, answers, JOBDESK_ANSWER, rooms,
+                       tables.slots, lengths[5], calls, JOBDESK_CALL, answers, JOBDESK_ANSWER, rooms,
                        JOBDESK_ROOMS);
 }
 
@@ -140,7 +148,7 @@ static void short_tables(void)
     size_t lengths[8] = { JOBDESK_NAMES, JOBDESK_TYPES, JOBDESK_SETS, JOBDESK_VALUES, JOBDESK_HEADS,
                           JOBDESK_SLOTS, JOBDESK_ENTRIES, JOBDESK_EFFECTS };
     for (size_t table = 0; table < 8; table++) {
-        uint64_t out[JOBDESK_OUT] = { 99, 99 }, answers[2] = { 99, 99 }, rooms[JOBDESK_ROOMS];
+        uint64_t out[JOBDESK_OUT] = { 99, 99 }, answers[JOBDESK_ANSWER] = { 99, 99 }, rooms[JOBDESK_ROOMS];
         lengths[table]--;
         soil();
         same("short table", check_with(lengths, out), JOBDESK_SHORT_TABLE);
@@ -157,14 +165,14 @@ static void short_tables(void)
 
 static void sessions(void)
 {
-    const uint64_t calls[] = { JOBDESK_RUN(2), JOBDESK_RUN(100000) };
-    const uint64_t wanted[] = { JOBDESK_SPENT, 2, JOBDESK_DONE, 1 };
-    uint64_t answers[4], value[JOBDESK_VALUE], cells[JOBDESK_CELLS], out[JOBDESK_OUT];
+    const uint64_t calls[] = { JOBDESK_RUN_EACH(2), JOBDESK_RUN_EACH(100000) };
+    const uint64_t wanted[][4] = { { JOBDESK_SPENT, 0, 2 }, { JOBDESK_DONE, 0, 1 } };
+    uint64_t answers[2 * JOBDESK_ANSWER], value[JOBDESK_VALUE], cells[JOBDESK_CELLS], out[JOBDESK_OUT];
     soil();
     same("session", jobdesk_session_in(&tables, example, sizeof example, calls, 2, answers, value,
                                        cells, out), JOBDESK_OK);
-    for (size_t i = 0; i < 4; i++)
-        same("answers of a session", answers[i], wanted[i]);
+    for (size_t i = 0; i < 2; i++)
+        same_answer("answers of a session", answers + JOBDESK_ANSWER * i, wanted[i]);
     same("effect of a session", out[1], 1u << 2);
     same("kind of the value", value[0], JOBDESK_NUMBER);
     same("value", value[1], 7);
@@ -194,8 +202,8 @@ static const uint8_t asking[] = {
 
 static void asks(void)
 {
-    const uint64_t calls[] = { JOBDESK_RUN(100000) };
-    uint64_t answers[2], value[JOBDESK_VALUE], cells[JOBDESK_CELLS], out[JOBDESK_OUT];
+    const uint64_t calls[] = { JOBDESK_RUN_EACH(100000) };
+    uint64_t answers[JOBDESK_ANSWER], value[JOBDESK_VALUE], cells[JOBDESK_CELLS], out[JOBDESK_OUT];
     uint8_t job[sizeof asking];
     memcpy(job, asking, sizeof asking);
     for (uint64_t lent = 0; lent < 2; lent++) {
@@ -203,8 +211,7 @@ static void asks(void)
         same("asking", jobdesk_session_in(&tables, job, sizeof job, calls, 1, answers, value, cells, out),
              JOBDESK_OK);
         same("asking, effect", out[1], 0);
-        same("asking, answer", answers[0], JOBDESK_DONE);
-        same("asking, steps", answers[1], lent ? 6 : 4);
+        same_answer("asking, answer", answers, (const uint64_t[4]){ JOBDESK_DONE, 0, lent ? 6 : 4 });
         same("asking, value", value[1], lent ? 7 : 5);
     }
 }
@@ -224,8 +231,8 @@ static void stops(void)
         0x30, 5, 0, 0, 0,
         0x3A, 1, 0, 0, 1, 0, 0xFF,
     };
-    const uint64_t calls[] = { JOBDESK_RUN(100000) };
-    uint64_t answers[2], value[JOBDESK_VALUE], cells[JOBDESK_CELLS], out[JOBDESK_OUT];
+    const uint64_t calls[] = { JOBDESK_RUN_EACH(100000) };
+    uint64_t answers[JOBDESK_ANSWER], value[JOBDESK_VALUE], cells[JOBDESK_CELLS], out[JOBDESK_OUT];
     same("sum", jobdesk_session_in(&tables, sum, sizeof sum, calls, 1, answers, value, cells, out), JOBDESK_OK);
     same("sum, kind", value[0], JOBDESK_NUMBER);
     same("sum, value", value[1], UINT32_MAX);
@@ -249,14 +256,15 @@ static void divides(void)
         0x41, 0, 0, 1, 0,                /* expression 2: the first divided by the second */
         0x34, 2, 0, 1, 0xFF,             /* expression 3: part 1 */
     };
-    const uint64_t calls[] = { JOBDESK_RUN(100000) }, wanted[] = { 282, 5, 0, 1979 };
-    uint64_t answers[2], value[JOBDESK_VALUE], cells[JOBDESK_CELLS], out[JOBDESK_OUT];
+    const uint64_t calls[] = { JOBDESK_RUN_EACH(100000) }, done[4] = { JOBDESK_DONE, 0, 7 };
+    const uint64_t wanted[] = { 282, 5, 0, 1979 };
+    uint64_t answers[JOBDESK_ANSWER], value[JOBDESK_VALUE], cells[JOBDESK_CELLS], out[JOBDESK_OUT];
     for (size_t i = 0; i < 4; i++) {
         job[DIVISOR] = i < 2 ? 7 : 0;
         job[PART] = (uint8_t)(1 + i % 2);
         same("division", jobdesk_session_in(&tables, job, sizeof job, calls, 1, answers, value, cells, out),
              JOBDESK_OK);
-        same("division, steps", answers[1], 7);
+        same_answer("division, answer", answers, done);
         same("division, kind", value[0], JOBDESK_NUMBER);
         same("division, value", value[1], wanted[i]);
     }
@@ -267,7 +275,8 @@ static void divides(void)
     same("division, no more types", tables.types[4], 0);
 }
 
-/* A thread for the sum of 5 and 6, while thread 0 adds its number, which is 0, to 7. */
+/* A thread for the sum of 5 and 6, while thread 0 adds its number, which is 0, to 7. Each takes five steps;
+ * the second of thread 0 starts thread 1. */
 static const uint8_t threads[] = {
     0x21, 0, 0, 0, 0, 0, 0, 0, 0,    /* no rights */
     0x30, 5, 0, 0, 0,                /* expression 0: 5 */
@@ -278,47 +287,88 @@ static const uint8_t threads[] = {
     0x3A, 0, 3, 0, 4, 0, 0xFF,       /* expression 5: the sum of 3 and 4 */
 };
 
+/* A run that allows threads 0 and 1 so much, and the others nothing. */
+#define RUN_TWO(first, second) JOBDESK_RUN(first, second, 0, 0, 0, 0, 0, 0)
+
 /* Thread 1 has its first turn in the fourth step; each call goes on where the last one left off. */
 static void spawns(void)
 {
-    const uint64_t calls[] = { JOBDESK_RUN(3), JOBDESK_STEP, JOBDESK_RUN(2), JOBDESK_RUN(100), JOBDESK_RUN(9) };
-    const uint64_t wanted[] = { JOBDESK_SPENT, 3, JOBDESK_TAKEN, 1, JOBDESK_SPENT, 2, JOBDESK_DONE, 4,
-                                JOBDESK_DONE, 0 };
-    /* For each count of calls: frames, threads, and the steps of the last call in threads 0 and 1. */
-    const uint64_t after[6][4] = { { 0, 1, 0, 0 }, { 1, 2, 3, 0 }, { 2, 2, 0, 1 }, { 2, 2, 1, 1 },
-                                   { 0, 2, 1, 3 }, { 0, 2, 0, 0 } };
-    uint64_t answers[10], rooms[JOBDESK_ROOMS];
+    const uint64_t calls[] = { RUN_TWO(3, 0), JOBDESK_STEP, RUN_TWO(1, 1), JOBDESK_RUN_EACH(100),
+                               JOBDESK_RUN_EACH(9) };
+    const uint64_t wanted[][4] = { { JOBDESK_SPENT, 0, 3, 0 }, { JOBDESK_TAKEN, 1, 0, 1 },
+                                   { JOBDESK_SPENT, 0, 1, 1 }, { JOBDESK_DONE, 0, 1, 3 }, { JOBDESK_DONE } };
+    /* For each count of calls: frames, threads. */
+    const uint64_t after[][2] = { { 0, 1 }, { 1, 2 }, { 2, 2 }, { 2, 2 }, { 0, 2 }, { 0, 2 } };
+    uint64_t answers[5 * JOBDESK_ANSWER], rooms[JOBDESK_ROOMS];
     for (size_t made = 0; made <= 5; made++) {
         same("threads", jobdesk_run_in(&tables, threads, sizeof threads, calls, made, answers, rooms), JOBDESK_OK);
-        for (size_t i = 0; i < 2 * made; i++)
-            same("threads, answers", answers[i], wanted[i]);
+        for (size_t i = 0; i < made; i++)
+            same_answer("threads, answers", answers + JOBDESK_ANSWER * i, wanted[i]);
         same("threads, frames", rooms[4], after[made][0]);
         same("threads started", rooms[6], after[made][1]);
-        same("steps of thread 0", rooms[7], after[made][2]);
-        same("steps of thread 1", rooms[8], after[made][3]);
-        for (size_t i = 2; i < JOBDESK_THREADS; i++)
-            same("steps of no thread", rooms[7 + i], 0);
     }
 }
 
+/* A run of the two threads, how it ends, the thread of the turn after it, and whether there is a value. */
+static void allows(const char *what, const uint64_t run[JOBDESK_CALL], const uint64_t wanted[4], uint64_t next)
+{
+    const uint64_t turn[JOBDESK_CALL] = { JOBDESK_STEP };
+    uint64_t calls[2 * JOBDESK_CALL], answers[2 * JOBDESK_ANSWER];
+    uint64_t value[JOBDESK_VALUE], cells[JOBDESK_CELLS], out[JOBDESK_OUT];
+    int done = wanted[0] == JOBDESK_DONE;
+    memcpy(calls, run, sizeof turn);
+    memcpy(calls + JOBDESK_CALL, turn, sizeof turn);
+    same(what, jobdesk_session_in(&tables, threads, sizeof threads, calls, 2, answers, value, cells, out),
+         JOBDESK_OK);
+    same_answer(what, answers, wanted);
+    same(what, answers[JOBDESK_ANSWER], done ? JOBDESK_DONE : JOBDESK_TAKEN);
+    same(what, answers[JOBDESK_ANSWER + 1], next);
+    same(what, value[0], done ? JOBDESK_NUMBER : JOBDESK_NO_VALUE);
+}
+
+/* Each thread has an allowance of its own, and is passed over when it has used it. */
+static void allowances(void)
+{
+    static const struct {
+        const char *what;
+        uint64_t run[JOBDESK_CALL], wanted[4], next;
+    } cases[] = {
+        { "nothing allowed", { JOBDESK_RUN_EACH(0) }, { JOBDESK_SPENT }, 0 },
+        { "allowed to no thread", { JOBDESK_RUN(0, 1, 2, 3, 4, 5, 6, 7) }, { JOBDESK_SPENT }, 0 },
+        { "nothing to the started", { RUN_TWO(2, 0) }, { JOBDESK_SPENT, 0, 2, 0 }, 0 },
+        { "more to the started", { RUN_TWO(2, UINT64_MAX) }, { JOBDESK_SPENT, 0, 2, 5 }, 0 },
+        { "passed over, with its turn kept", { RUN_TWO(4, 1) }, { JOBDESK_SPENT, 0, 4, 1 }, 1 },
+        { "thread 0 ended", { RUN_TWO(100, 2) }, { JOBDESK_SPENT, 0, 5, 2 }, 1 },
+        { "to the last step of each", { RUN_TWO(5, 5) }, { JOBDESK_DONE, 0, 5, 5 }, 0 },
+        { "one left to thread 0", { RUN_TWO(2 + 4, 5) }, { JOBDESK_DONE, 0, 5, 5 }, 0 },
+        { "no end", { JOBDESK_RUN_EACH(UINT64_MAX) }, { JOBDESK_DONE, 0, 5, 5 }, 0 },
+        /* Any number but 0 is a run. */
+        { "another number", { UINT64_MAX, 4, 1 }, { JOBDESK_SPENT, 0, 4, 1 }, 1 },
+        /* A turn looks at no allowance. */
+        { "a turn with other words", { 0, 0, 9, 9, 9, 9, 9, 9, UINT64_MAX }, { JOBDESK_TAKEN, 0, 1 }, 0 },
+    };
+    for (size_t i = 0; i < sizeof cases / sizeof cases[0]; i++)
+        allows(cases[i].what, cases[i].run, cases[i].wanted, cases[i].next);
+}
+
 /* A thread has no keys: its body must need none, whatever the rights; where it is run all the same, it is
- * denied, and asked again. */
+ * denied, and asked again, but where it is passed over. */
 static void spawns_refused(void)
 {
     uint8_t job[sizeof example + 3];
-    const uint64_t calls[] = { JOBDESK_RUN(100), JOBDESK_STEP };
-    uint64_t answers[4], rooms[JOBDESK_ROOMS], out[JOBDESK_OUT];
+    const uint64_t calls[] = { JOBDESK_RUN_EACH(100), JOBDESK_STEP, RUN_TWO(100, 0), JOBDESK_RUN_EACH(1) };
+    const uint64_t wanted[][4] = { { JOBDESK_DENIED, 1, 1, 2 }, { JOBDESK_DENIED, 1 }, { JOBDESK_SPENT },
+                                   { JOBDESK_DENIED, 1 } };
+    uint64_t answers[4 * JOBDESK_ANSWER], rooms[JOBDESK_ROOMS], out[JOBDESK_OUT];
     memcpy(job, example, sizeof example - 1);
     memcpy(job + sizeof example - 1, (const uint8_t[]){ 0x42, 1, 0, 0xFF }, 4);
     soil();
     same("effect of a thread", jobdesk_check_in(&tables, job, sizeof job, out), JOBDESK_SPAWN_EFFECT);
     same("effect of a thread, place", out[0], 2);
     same("effect of a thread, tables zero", (uint64_t)all_bytes(0), 1);
-    same("effect of a thread, run", jobdesk_run_in(&tables, job, sizeof job, calls, 2, answers, rooms), JOBDESK_OK);
-    same("thread denied", answers[0], JOBDESK_DENIED);
-    same("thread denied, steps", answers[1], 3);
-    same("thread denied again", answers[2], JOBDESK_DENIED);
-    same("thread denied again, steps", answers[3] | rooms[7] | rooms[8], 0);
+    same("effect of a thread, run", jobdesk_run_in(&tables, job, sizeof job, calls, 4, answers, rooms), JOBDESK_OK);
+    for (size_t i = 0; i < 4; i++)
+        same_answer("thread denied", answers + JOBDESK_ANSWER * i, wanted[i]);
 }
 
 /* A refused job is not run. */
@@ -326,7 +376,8 @@ static void sessions_refused(void)
 {
     const uint64_t calls[] = { JOBDESK_STEP };
     uint8_t job[sizeof example];
-    uint64_t answers[2] = { 99, 99 }, value[JOBDESK_VALUE], cells[JOBDESK_CELLS], out[JOBDESK_OUT];
+    uint64_t answers[JOBDESK_ANSWER] = { 99, 99 }, value[JOBDESK_VALUE], cells[JOBDESK_CELLS];
+    uint64_t out[JOBDESK_OUT];
     memcpy(job, example, sizeof example);
     job[RIGHTS] = 0;
     soil();
@@ -340,69 +391,85 @@ static void sessions_refused(void)
     same("no rights, session, tables zero", (uint64_t)all_bytes(0), 1);
 }
 
-/* A session of the example with results of these lengths: answers, value, cells, out. */
-static uint64_t session_with(const size_t lengths[4], uint64_t results[JOBDESK_CELLS + 6])
+#define DIRTY UINT64_C(0xA5A5A5A5A5A5A5A5)
+#define RESULTS (JOBDESK_ANSWER + JOBDESK_VALUE + JOBDESK_CELLS + JOBDESK_OUT)
+
+/* A session of the example with slices of these lengths: calls, answers, value, cells, out. */
+static uint64_t session_with(const size_t lengths[5], uint64_t results[RESULTS])
 {
-    const uint64_t calls[] = { JOBDESK_STEP };
+    const uint64_t calls[] = { JOBDESK_STEP, JOBDESK_STEP };
+    uint64_t *value = results + JOBDESK_ANSWER, *cells = value + JOBDESK_VALUE, *out = cells + JOBDESK_CELLS;
     return jobdesk_session(example, sizeof example, tables.names, JOBDESK_NAMES, tables.types,
                            JOBDESK_TYPES, tables.sets, JOBDESK_SETS, tables.values, JOBDESK_VALUES,
                            tables.heads, JOBDESK_HEADS, tables.slots, JOBDESK_SLOTS, tables.entries,
-                           JOBDESK_ENTRIES, tables.effects, JOBDESK_EFFECTS, calls, 1, results,
-                           lengths[0], results + 2, lengths[1], results + 4, lengths[2],
-                           results + 4 + JOBDESK_CELLS, lengths[3]);
+                           JOBDESK_ENTRIES, tables.effects, JOBDESK_EFFECTS, calls, lengths[0], results,
+                           lengths[1], value, lengths[2], cells, lengths[3], out, lengths[4]);
 }
 
-/* Each result in turn is one word too short: 1, and nothing is written. */
+/* Each slice in turn is one word too short, and then the calls one too long: 1, and nothing is written. */
 static void short_sessions(void)
 {
-    size_t lengths[4] = { JOBDESK_ANSWER, JOBDESK_VALUE, JOBDESK_CELLS, JOBDESK_OUT };
-    static uint64_t results[JOBDESK_CELLS + 6];
-    for (size_t result = 0; result < 4; result++) {
+    size_t lengths[5] = { JOBDESK_CALL, JOBDESK_ANSWER, JOBDESK_VALUE, JOBDESK_CELLS, JOBDESK_OUT };
+    static uint64_t results[RESULTS];
+    for (size_t slice = 0; slice < 6; slice++) {
+        size_t *length = &lengths[slice % 5], whole = *length;
         soil();
         memset(results, 0xA5, sizeof results);
-        lengths[result]--;
-        same("short result", session_with(lengths, results), JOBDESK_SHORT_TABLE);
-        lengths[result]++;
-        same("short result, tables not written", (uint64_t)all_bytes(0xA5), 1);
-        for (size_t i = 0; i < JOBDESK_CELLS + 6; i++)
-            same("short result, nothing written", results[i], UINT64_C(0xA5A5A5A5A5A5A5A5));
+        *length = slice < 5 ? whole - 1 : whole + 1;
+        same("short session", session_with(lengths, results), JOBDESK_SHORT_TABLE);
+        *length = whole;
+        same("short session, tables not written", (uint64_t)all_bytes(0xA5), 1);
+        for (size_t i = 0; i < RESULTS; i++)
+            same("short session, nothing written", results[i], DIRTY);
     }
-    same("results just long enough", session_with(lengths, results), JOBDESK_OK);
+    same("slices just long enough", session_with(lengths, results), JOBDESK_OK);
 }
 
-/* Answers that are too few: 1, and the tables stay. */
-static void short_answers(void)
+/* A run of a job of two threads with so many words of calls, answers and rooms, of which there are two
+ * calls, two answers and the rooms. */
+static uint64_t run_lent(const size_t lengths[3], uint64_t *answers, uint64_t *rooms)
 {
-    const uint64_t calls[] = { JOBDESK_STEP, JOBDESK_STEP };
-    uint64_t answers[3] = { 99, 99, 99 }, rooms[JOBDESK_ROOMS];
-    memset(rooms, 0xA5, sizeof rooms);
-    soil();
-    same("short answers", jobdesk_run(example, sizeof example, tables.names, JOBDESK_NAMES, tables.types,
-                                      JOBDESK_TYPES, tables.sets, JOBDESK_SETS, tables.values,
-                                      JOBDESK_VALUES, tables.heads, JOBDESK_HEADS, tables.slots,
-                                      JOBDESK_SLOTS, calls, 2, answers, 3, rooms, JOBDESK_ROOMS),
-         JOBDESK_SHORT_TABLE);
-    same("short answers, place", rooms[0], 0);
-    for (size_t i = 1; i < JOBDESK_ROOMS; i++)
-        same("short answers, other rooms", rooms[i], UINT64_C(0xA5A5A5A5A5A5A5A5));
-    same("short answers, no answer", answers[0] & answers[1] & answers[2], 99);
-    same("short answers, nothing written", (uint64_t)all_bytes(0xA5), 1);
+    const uint64_t calls[] = { RUN_TWO(4, 1), JOBDESK_STEP };
+    return jobdesk_run(threads, sizeof threads, tables.names, JOBDESK_NAMES, tables.types, JOBDESK_TYPES,
+                       tables.sets, JOBDESK_SETS, tables.values, JOBDESK_VALUES, tables.heads,
+                       JOBDESK_HEADS, tables.slots, JOBDESK_SLOTS, calls, lengths[0], answers, lengths[1],
+                       rooms, lengths[2]);
 }
 
-/* A run of a job of two threads with so many words of `rooms`. */
+/* Calls that are cut short, and answers that are too few: 1, and the tables stay. */
+static void short_runs(void)
+{
+    const size_t lengths[][3] = {
+        { 1, 20, JOBDESK_ROOMS },  { 8, 20, JOBDESK_ROOMS }, { 10, 20, JOBDESK_ROOMS },
+        { 17, 20, JOBDESK_ROOMS }, { 9, 9, JOBDESK_ROOMS },  { 18, 19, JOBDESK_ROOMS },
+        { 18, 0, JOBDESK_ROOMS },  { 17, 0, JOBDESK_ROOMS },
+    };
+    for (size_t i = 0; i < sizeof lengths / sizeof lengths[0]; i++) {
+        uint64_t answers[2 * JOBDESK_ANSWER], rooms[JOBDESK_ROOMS];
+        memset(answers, 0xA5, sizeof answers);
+        memset(rooms, 0xA5, sizeof rooms);
+        soil();
+        same("short run", run_lent(lengths[i], answers, rooms), JOBDESK_SHORT_TABLE);
+        same("short run, place", rooms[0], 0);
+        for (size_t word = 1; word < JOBDESK_ROOMS; word++)
+            same("short run, other rooms", rooms[word], DIRTY);
+        for (size_t word = 0; word < 2 * JOBDESK_ANSWER; word++)
+            same("short run, no answer", answers[word], DIRTY);
+        same("short run, nothing written", (uint64_t)all_bytes(0xA5), 1);
+    }
+}
+
+/* A run with so many words of `rooms`. */
 static void short_rooms(size_t length)
 {
-    const uint64_t calls[] = { JOBDESK_RUN(5) };
-    const uint64_t in_use[JOBDESK_ROOMS] = { 0, 2, 0, 0, 2, 0, 2, 4, 1 };
-    uint64_t answers[2], rooms[JOBDESK_ROOMS];
+    const size_t lengths[3] = { JOBDESK_CALL, JOBDESK_ANSWER, length };
+    const uint64_t in_use[JOBDESK_ROOMS] = { 0, 2, 0, 0, 2, 0, 2 }, spent[4] = { JOBDESK_SPENT, 0, 4, 1 };
+    uint64_t answers[JOBDESK_ANSWER], rooms[JOBDESK_ROOMS];
     memset(rooms, 0xA5, sizeof rooms);
-    same("short rooms", jobdesk_run(threads, sizeof threads, tables.names, JOBDESK_NAMES, tables.types,
-                                    JOBDESK_TYPES, tables.sets, JOBDESK_SETS, tables.values,
-                                    JOBDESK_VALUES, tables.heads, JOBDESK_HEADS, tables.slots,
-                                    JOBDESK_SLOTS, calls, 1, answers, 2, rooms, length), JOBDESK_OK);
-    same("short rooms, answer", answers[0], JOBDESK_SPENT);
+    same("short rooms", run_lent(lengths, answers, rooms), JOBDESK_OK);
+    same_answer("short rooms, answer", answers, spent);
     for (size_t i = 0; i < JOBDESK_ROOMS; i++)
-        same("short rooms, words", rooms[i], i < length ? in_use[i] : UINT64_C(0xA5A5A5A5A5A5A5A5));
+        same("short rooms, words", rooms[i], i < length ? in_use[i] : DIRTY);
 }
 
 /* `out` and `rooms` get no more entries than they have. */
@@ -653,10 +720,11 @@ int main(void)
     stops();
     divides();
     spawns();
+    allowances();
     spawns_refused();
     sessions_refused();
     short_sessions();
-    short_answers();
+    short_runs();
     short_results();
     reads();
     writes();

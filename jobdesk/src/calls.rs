@@ -4,6 +4,13 @@
 /// The most threads that a job can have, with thread 0: a command 0x42 starts one more.
 pub const THREADS: usize = 8;
 
+/// How many words of the library a call is.
+pub const CALL_WORDS: usize = 1 + THREADS;
+/// How many words the answer to a call is.
+pub const ANSWER_WORDS: usize = 2 + THREADS;
+/// How many words the room in use is told in.
+pub const ROOM_WORDS: usize = 7;
+
 /// A call on the machine.
 #[derive(Clone, Copy, Debug, PartialEq, Eq, Hash)]
 pub enum Call {
@@ -11,30 +18,46 @@ pub enum Call {
     /// their numbers; one that is started has its first turn in the next round. Calls go on where the
     /// last one left the round.
     Step,
-    /// A run of up to so many steps, those of all threads counted together; 2^64 - 1 counts as one
-    /// less.
-    Run(u64),
+    /// A run with an allowance for each thread number: turns until every thread has ended or has used
+    /// its allowance, or one fails. A thread at its allowance is passed over like one that has ended,
+    /// and the others go on. The round and who stepped last change by steps alone: after the run a
+    /// thread that was passed over still has its turn, unless one with a higher number has stepped
+    /// since. A thread that is started in the run has the allowance of its number. Nothing of
+    /// allowances carries over to the next call.
+    Run([u64; THREADS]),
 }
 
 impl Call {
-    /// The call as the library takes it: 0 is a turn, n + 1 a run of n.
-    pub fn word(self) -> u64 {
+    /// A run that allows every thread the same.
+    pub fn run_each(allowance: u64) -> Self {
+        Call::Run([allowance; THREADS])
+    }
+
+    /// The call as the library takes it: 0 for a turn and 1 for a run, then the allowances, at which a
+    /// turn does not look.
+    pub fn words(self) -> [u64; CALL_WORDS] {
         match self {
-            Call::Step => 0,
-            Call::Run(steps) => steps.saturating_add(1),
+            Call::Step => [0; CALL_WORDS],
+            Call::Run([a, b, c, d, e, f, g, h]) => [1, a, b, c, d, e, f, g, h],
         }
+    }
+
+    /// The words of a list of calls.
+    pub fn all_words(calls: &[Call]) -> Vec<u64> {
+        calls.iter().flat_map(|call| call.words()).collect()
     }
 }
 
-/// What a call answers. After any but `Taken` and `Spent` no further step can be taken: a thread that
-/// fails is asked again at the next call, and no other is.
+/// What a call answers. A step that cannot be taken changes nothing: the thread that fails is asked again
+/// at the next call, unless that one passes it over, or does not pass over a thread that this one has
+/// passed over.
 #[derive(Clone, Copy, Debug, PartialEq, Eq, Hash)]
 pub enum Answer {
-    /// A step was taken.
+    /// The step of a turn was taken.
     Taken,
     /// Every thread has ended; the job's value is that of thread 0.
     Done,
-    /// A run has taken all its steps, and a thread has not ended.
+    /// Every thread that has not ended has used its allowance, and there is one.
     Spent,
     /// The next step, of whichever thread, needs a place that is not there.
     NoRoom,
@@ -65,18 +88,21 @@ impl Answer {
 pub struct Answered {
     /// The answer.
     pub answer: Answer,
-    /// The steps that all threads took: in a turn 1 or 0.
-    pub steps: u64,
+    /// The thread that took the step of a turn or that failed; 0 where none did.
+    pub thread: usize,
+    /// The steps that each thread took in the call; 0 where there is no such thread.
+    pub steps: [u64; THREADS],
 }
 
 impl Answered {
-    /// What the library's answers say, two words each.
+    /// What the words of an answer say.
+    fn of(&[answer, thread, steps @ ..]: &[u64; ANSWER_WORDS]) -> Self {
+        Answered { answer: Answer::ALL[answer as usize % 6], thread: thread as usize, steps }
+    }
+
+    /// What the words of a list of answers say.
     pub(crate) fn all(words: &[u64]) -> Vec<Self> {
-        let of = |&[answer, steps]: &[u64; 2]| Answered {
-            answer: Answer::ALL[answer as usize % 6],
-            steps,
-        };
-        words.as_chunks().0.iter().map(of).collect()
+        words.as_chunks().0.iter().map(Answered::of).collect()
     }
 }
 
@@ -99,6 +125,14 @@ pub struct Rooms {
     pub threads: u64,
 }
 
+impl Rooms {
+    /// What the words of the room in use say.
+    pub(crate) fn of(words: [u64; ROOM_WORDS]) -> Self {
+        let [cells, keys, pairs, functions, frames, bindings, threads] = words;
+        Rooms { cells, keys, pairs, functions, frames, bindings, threads }
+    }
+}
+
 /// What the calls on a started job gave.
 #[derive(Clone, Debug, PartialEq, Eq)]
 pub struct Ran {
@@ -106,15 +140,4 @@ pub struct Ran {
     pub answers: Vec<Answered>,
     /// The room in use after the last one.
     pub rooms: Rooms,
-    /// The steps that each thread took in the last one; 0 where there was no call or no such thread.
-    pub steps: [u64; THREADS],
-}
-
-/// How many words the library tells of the room in use and of the last call's steps.
-pub(crate) const ROOMS: usize = 7 + THREADS;
-
-/// What these words say.
-pub(crate) fn told(words: [u64; ROOMS]) -> (Rooms, [u64; THREADS]) {
-    let [cells, keys, pairs, functions, frames, bindings, threads, steps @ ..] = words;
-    (Rooms { cells, keys, pairs, functions, frames, bindings, threads }, steps)
 }

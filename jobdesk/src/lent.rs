@@ -127,10 +127,10 @@ pub fn check(
     call!(jobdesk_check, job, lent, part(entries), part(effects), part(out))
 }
 
-/// Starts a job and makes the calls. 0: it is started, `answers` has two words for each call, and
-/// `rooms` what is in use at the end, in seven words, then the steps that each of eight threads took in
-/// the last call. 1 to 10: it is not started, and `rooms[0]` has the place. Where `rooms` has fewer than
-/// fifteen words, it gets those that it has.
+/// Starts a job and makes the calls, nine words each. 0: it is started, `answers` has ten words for each
+/// call, and `rooms` what is in use at the end, in seven. 1 to 10: it is not started, and `rooms[0]` has
+/// the place; 1 too where the words of `calls` are no whole number of calls, or `answers` has too few.
+/// Where `rooms` has fewer than seven words, it gets those that it has.
 pub fn run(job: &[u8], lent: Lent, calls: &[u64], answers: &mut [u64], rooms: &mut [u64]) -> u64 {
     let made = (calls.as_ptr(), calls.len());
     call!(jobdesk_run, job, lent, made, part(answers), part(rooms))
@@ -139,7 +139,7 @@ pub fn run(job: &[u8], lent: Lent, calls: &[u64], answers: &mut [u64], rooms: &m
 /// The slices for what a session gives.
 #[derive(Debug)]
 pub struct Results<'a> {
-    /// Two words for each call.
+    /// Ten words for each call.
     pub answers: &'a mut [u64],
     /// Two words or more.
     pub value: &'a mut [u64],
@@ -149,8 +149,9 @@ pub struct Results<'a> {
     pub out: &'a mut [u64],
 }
 
-/// Checks a job and, where it is accepted, starts it and makes the calls. 0: it is accepted. 1 to
-/// 14 or 16: it is refused; where 1 is for a slice of the results, nothing is written.
+/// Checks a job and, where it is accepted, starts it and makes the calls, nine words each. 0: it is
+/// accepted. 1 to 14 or 16: it is refused; where 1 is for calls that are cut short or for a slice of the
+/// results, nothing is written.
 pub fn session(
     job: &[u8],
     lent: Lent,

@@ -10,7 +10,7 @@
 //! let job = b"\x01\x01\x10\x00\x12\x02\0\0\x20\x01\0\x07\0\0\0\x21\x04\0\0\0\0\0\0\0\x32\0\x39\0\0\xFF";
 //! let mut tables = Tables::new();
 //!
-//! let session = tables.session(job, &[Call::Run(100_000)])?;
+//! let session = tables.session(job, &[Call::run_each(100_000)])?;
 //! assert_eq!(session.accepted.effect(), 1 << 2);
 //! assert_eq!(session.answers[0].answer, Answer::Done);
 //! assert_eq!(session.value, Some(Value { kind: Kind::Number, data: 7 }));
@@ -51,7 +51,8 @@ mod refusal;
 mod sheet;
 mod tables;
 
-pub use calls::{Answer, Answered, Call, Ran, Rooms, THREADS};
+pub use calls::{ANSWER_WORDS, CALL_WORDS, ROOM_WORDS, THREADS};
+pub use calls::{Answer, Answered, Call, Ran, Rooms};
 pub use counts::Counts;
 pub use refusal::{Place, Refusal};
 pub use sheet::{SHEET_BYTES, Sheet, sheet};

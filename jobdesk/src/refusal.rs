@@ -17,7 +17,7 @@ pub struct Refusal {
 /// What a refusal points at.
 #[derive(Clone, Copy, Debug, PartialEq, Eq, Hash)]
 pub enum Place {
-    /// At nothing of the job: a lent table or the lent buffer is too short.
+    /// At nothing of the job: something lent is too short, or a call is cut short.
     Lent,
     /// At a byte of the job, by its offset: of writing, in the bytes that the tables stand for.
     Byte(usize),
@@ -43,7 +43,7 @@ impl Refusal {
     /// What is wrong, in words.
     pub fn reason(&self) -> &'static str {
         match self.number {
-            1 => "a lent table is too short",
+            1 => "a lent table or slice is too short, or a call is cut short",
             2 => "a byte is no command",
             3 => "a command stands outside its section",
             4 => "the input ends too soon",

@@ -1,7 +1,7 @@
 //! Work tables, and the calls that lend them.
 #![forbid(unsafe_code)]
 
-use crate::calls::{self, Answered, Call, ROOMS, Ran, Rooms, THREADS};
+use crate::calls::{ANSWER_WORDS, Answered, Call, ROOM_WORDS, Ran, Rooms};
 use crate::counts::Counts;
 use crate::lent::{self, Held, Lent, Results};
 use crate::refusal::Refusal;
@@ -79,7 +79,7 @@ impl Tables {
     /// let mut tables = Tables::new();
     /// // A new cell that holds 5; 8 is assigned to it.
     /// let job = b"\x10\0\x21\0\0\0\0\0\0\0\0\x30\x05\0\0\0\x37\0\0\0\0\x30\x08\0\0\0\x38\x01\0\x02\0\xFF";
-    /// let session = tables.session(job, &[Call::Run(100_000)])?;
+    /// let session = tables.session(job, &[Call::run_each(100_000)])?;
     /// assert_eq!(session.accepted.kind(), Kind::Number);
     /// assert_eq!(session.answers[0].answer, Answer::Done);
     /// let eight = Value { kind: Kind::Number, data: 8 };
@@ -91,8 +91,8 @@ impl Tables {
     /// # Errors
     /// The job's refusal, of 2 to 14 or 16. No call is made then.
     pub fn session(&mut self, job: &[u8], calls: &[Call]) -> Result<Session<'_>, Refusal> {
-        let words: Vec<u64> = calls.iter().map(|call| call.word()).collect();
-        let mut answers = vec![0; 2 * words.len()];
+        let words = Call::all_words(calls);
+        let mut answers = vec![0; ANSWER_WORDS * calls.len()];
         let (mut value, mut cells, mut out) = ([0; 2], [0; 512], [0; 2]);
         let results =
             Results { answers: &mut answers, value: &mut value, cells: &mut cells, out: &mut out };
@@ -120,13 +120,13 @@ impl Tables {
     /// // The sum of a number and a limit key.
     /// let job = b"\x21\0\0\0\0\0\0\0\0\x30\x05\0\0\0\x31\x3A\0\0\0\x01\0\xFF";
     /// assert_eq!(tables.check(job).unwrap_err().number, 11);
-    /// let ran = tables.run(job, &[Call::Step, Call::Run(9)])?;
+    /// let ran = tables.run(job, &[Call::Step, Call::run_each(9)])?;
     /// assert_eq!(ran.answers[0].answer, Answer::Taken);
     /// assert_eq!(ran.answers[1].answer, Answer::Stuck);
     /// # Ok::<(), jobdesk::Refusal>(())
     /// ```
     ///
-    /// The threads of a job take turns:
+    /// The threads of a job take turns, and a run allows each so many steps:
     ///
     /// ```
     /// use jobdesk::{Answer, Call};
@@ -135,40 +135,44 @@ impl Tables {
     /// // A thread for the sum of 5 and 6; thread 0 adds its number, which is 0, to 7.
     /// let job = b"\x21\0\0\0\0\0\0\0\0\x30\x05\0\0\0\x30\x06\0\0\0\x3A\0\0\0\x01\0\x42\x02\0\
     ///     \x30\x07\0\0\0\x3A\0\x03\0\x04\0\xFF";
-    /// let ran = tables.run(job, &[Call::Step, Call::Run(100)])?;
-    /// assert_eq!((ran.answers[1].answer, ran.answers[1].steps), (Answer::Done, 9));
+    /// let calls = [Call::Step, Call::Run([100, 2, 0, 0, 0, 0, 0, 0]), Call::run_each(100)];
+    /// let ran = tables.run(job, &calls)?;
+    /// let [turn, first, rest] = ran.answers[..] else { panic!("an answer to each call") };
+    /// assert_eq!((turn.answer, turn.thread), (Answer::Taken, 0));
+    /// // Thread 0 has ended, thread 1 has used its allowance.
+    /// assert_eq!((first.answer, &first.steps[..2]), (Answer::Spent, &[4, 2][..]));
+    /// assert_eq!((rest.answer, &rest.steps[..2]), (Answer::Done, &[0, 3][..]));
     /// assert_eq!(ran.rooms.threads, 2);
-    /// assert_eq!(ran.steps[..2], [4, 5]);
     /// # Ok::<(), jobdesk::Refusal>(())
     /// ```
     ///
     /// # Errors
     /// The job's refusal, of 2 to 10. No call is made then.
     pub fn run(&mut self, job: &[u8], calls: &[Call]) -> Result<Ran, Refusal> {
-        let words: Vec<u64> = calls.iter().map(|call| call.word()).collect();
-        let mut answers = vec![0; 2 * words.len()];
-        let (rooms, steps) = self.run_words(job, &words, &mut answers)?;
-        Ok(Ran { answers: Answered::all(&answers), rooms, steps })
+        let words = Call::all_words(calls);
+        let mut answers = vec![0; ANSWER_WORDS * calls.len()];
+        let rooms = self.run_words(job, &words, &mut answers)?;
+        Ok(Ran { answers: Answered::all(&answers), rooms })
     }
 
-    /// The same with calls and answers as words: 0 is a turn, n + 1 a run of n; of each call the number
-    /// of its answer and the steps taken. It gives the room in use and the steps that each thread took
-    /// in the last call.
+    /// The same with calls and answers as words. The [`CALL_WORDS`](crate::CALL_WORDS) of a call are 0
+    /// for a turn and any other number for a run, then the allowances. The [`ANSWER_WORDS`] of an answer
+    /// are its number, the thread, and the steps of each thread. It gives the room in use.
     ///
     /// # Errors
-    /// The job's refusal, of 2 to 10; 1 if there are not two answers for each call. No call is made
-    /// then.
+    /// The job's refusal, of 2 to 10; 1 if the words are no whole number of calls, or there are too few
+    /// for the answers. No call is made then.
     pub fn run_words(
         &mut self,
         job: &[u8],
         calls: &[u64],
         answers: &mut [u64],
-    ) -> Result<(Rooms, [u64; THREADS]), Refusal> {
-        let mut rooms = [0; ROOMS];
+    ) -> Result<Rooms, Refusal> {
+        let mut rooms = [0; ROOM_WORDS];
         let Tables { names, types, sets, values, heads, slots, .. } = self;
         let lent = Lent { names, types, sets, values, heads, slots };
         match lent::run(job, lent, calls, answers, &mut rooms) {
-            0 => Ok(calls::told(rooms)),
+            0 => Ok(Rooms::of(rooms)),
             number => Err(Refusal::of(number, rooms[0])),
         }
     }

@@ -2,8 +2,8 @@
 
 use std::error::Error;
 
-use jobdesk::{Answer, Answered, BYTES, Call, Counts, Kind, LENGTHS};
-use jobdesk::{Place, Refusal, Rooms, SHEET_BYTES, THREADS, Tables, Value, lent};
+use jobdesk::{ANSWER_WORDS, BYTES, CALL_WORDS, LENGTHS, ROOM_WORDS, SHEET_BYTES, THREADS};
+use jobdesk::{Answer, Answered, Call, Counts, Kind, Place, Refusal, Rooms, Tables, Value, lent};
 
 /// The read of a host cell that holds 7 and whose key is name 2, with some rights.
 fn example(rights: u8) -> Vec<u8> {
@@ -35,20 +35,35 @@ fn refused() {
     assert_eq!((refusal.number, refusal.at()), (4, Place::Byte(0)));
 }
 
+/// A number for each thread, of which the first two have one of their own.
+fn two(first: u64, second: u64) -> [u64; THREADS] {
+    [first, second, 0, 0, 0, 0, 0, 0]
+}
+
+/// An answer without a thread, or of thread 0, after so many steps of threads 0 and 1.
+fn answered(answer: Answer, first: u64, second: u64) -> Answered {
+    Answered { answer, thread: 0, steps: two(first, second) }
+}
+
+/// A turn of a thread.
+fn taken(thread: usize) -> Answered {
+    let mut steps = [0; THREADS];
+    steps[thread] = 1;
+    Answered { answer: Answer::Taken, thread, steps }
+}
+
 #[test]
 fn runs() {
     let mut tables = Tables::new();
-    let calls = [Call::Step, Call::Run(0), Call::Run(u64::MAX), Call::Step];
+    let calls = [Call::Step, Call::run_each(0), Call::run_each(u64::MAX), Call::Step];
     let ran = tables.run(&example(4), &calls).expect("a job that starts");
-    let answered = |answer, steps| Answered { answer, steps };
-    let (taken, spent) = (answered(Answer::Taken, 1), answered(Answer::Spent, 0));
-    let (done, again) = (answered(Answer::Done, 2), answered(Answer::Done, 0));
-    assert_eq!(ran.answers, [taken, spent, done, again]);
+    let (spent, done) = (answered(Answer::Spent, 0, 0), answered(Answer::Done, 2, 0));
+    assert_eq!(ran.answers, [taken(0), spent, done, answered(Answer::Done, 0, 0)]);
     let rooms = Rooms { cells: 1, keys: 3, bindings: 2, threads: 1, ..Rooms::default() };
-    assert_eq!((ran.rooms, ran.steps), (rooms, [0; THREADS]));
+    assert_eq!(ran.rooms, rooms);
     // The check refuses this one, and it starts all the same.
-    let denied = tables.run(&example(0), &[Call::Run(9)]).expect("a job that starts");
-    assert_eq!(denied.answers, [answered(Answer::Denied, 2)]);
+    let denied = tables.run(&example(0), &[Call::run_each(9)]).expect("a job that starts");
+    assert_eq!(denied.answers, [answered(Answer::Denied, 2, 0)]);
     // This one does not start.
     assert_eq!(tables.run(&[0x00], &calls), Err(Refusal { number: 2, place: 0 }));
 }
@@ -57,9 +72,9 @@ fn runs() {
 fn sessions() {
     let mut tables = Tables::new();
     let seven = Value { kind: Kind::Number, data: 7 };
-    let session = tables.session(&example(4), &[Call::Run(2), Call::Step]).expect("a session");
-    let answers = session.answers.iter().map(|call| (call.answer, call.steps));
-    assert!(answers.eq([(Answer::Spent, 2), (Answer::Taken, 1)]));
+    let calls = [Call::run_each(2), Call::Step];
+    let session = tables.session(&example(4), &calls).expect("a session");
+    assert_eq!(session.answers, [answered(Answer::Spent, 2, 0), taken(0)]);
     assert_eq!((session.value, &session.cells[..]), (Some(seven), &[seven][..]));
     assert_eq!((session.accepted.effect(), session.accepted.kind()), (4, Kind::Number));
     let session = tables.session(&example(4), &[]).expect("a session");
@@ -81,9 +96,9 @@ fn asking(rights: u8) -> Vec<u8> {
 fn a_job_that_asks() {
     let mut tables = Tables::new();
     for (rights, steps, number) in [(4, 6, 7), (0, 4, 5)] {
-        let session = tables.session(&asking(rights), &[Call::Run(100)]).expect("a session");
+        let session = tables.session(&asking(rights), &[Call::run_each(100)]).expect("a session");
         assert_eq!(session.accepted.effect(), 0);
-        assert_eq!(session.answers, [Answered { answer: Answer::Done, steps }]);
+        assert_eq!(session.answers, [answered(Answer::Done, steps, 0)]);
         assert_eq!(session.value, Some(Value { kind: Kind::Number, data: number }));
     }
 }
@@ -118,9 +133,9 @@ fn sums_and_differences_stop() {
         (1, 3, 5, 0),
         (1, 0, u32::MAX, 0),
     ] {
-        let session = tables.session(&sum(operation, first, second), &[Call::Run(100)]);
+        let session = tables.session(&sum(operation, first, second), &[Call::run_each(100)]);
         let session = session.expect("a session");
-        assert_eq!(session.answers, [Answered { answer: Answer::Done, steps: 5 }]);
+        assert_eq!(session.answers, [answered(Answer::Done, 5, 0)]);
         assert_eq!(session.value, Some(Value { kind: Kind::Number, data: number }));
     }
 }
@@ -144,15 +159,14 @@ fn divisions() {
         (u32::MAX - 1, u32::MAX, 0, u32::MAX - 1),
     ] {
         for (place, number) in [(1, share), (2, rest)] {
-            let session = tables.session(&part(place, dividend, divisor), &[Call::Run(100)]);
+            let session = tables.session(&part(place, dividend, divisor), &[Call::run_each(100)]);
             let session = session.expect("a session");
-            assert_eq!(session.answers, [Answered { answer: Answer::Done, steps: 7 }]);
+            assert_eq!(session.answers, [answered(Answer::Done, 7, 0)]);
             assert_eq!(session.value, Some(Value { kind: Kind::Number, data: number }));
         }
     }
-    let ran = tables.run(&part(1, 1979, 7), &[Call::Run(100)]).expect("a job that starts");
+    let ran = tables.run(&part(1, 1979, 7), &[Call::run_each(100)]).expect("a job that starts");
     assert_eq!(ran.rooms, Rooms { keys: 2, pairs: 1, threads: 1, ..Rooms::default() });
-    assert_eq!(ran.steps, [7, 0, 0, 0, 0, 0, 0, 0]);
 }
 
 /// A division makes two entries of the type table: a number, and the pair of it and itself.
@@ -169,7 +183,8 @@ fn types_of_a_division() {
     assert_eq!(tables.check(&twice), Err(Refusal { number: 11, place: 4 }));
 }
 
-/// A thread for the sum of two numbers, while thread 0 adds its number, which is 0, to 7.
+/// A thread for the sum of two numbers, while thread 0 adds its number, which is 0, to 7. Each takes five
+/// steps; the second of thread 0 starts thread 1.
 fn spawning() -> Vec<u8> {
     let sum = [0x3A, 0, 0, 0, 1, 0, 0x42, 2, 0];
     of_two(5, 6, &[&sum[..], &[0x30, 7, 0, 0, 0, 0x3A, 0, 3, 0, 4, 0]].concat())
@@ -178,29 +193,72 @@ fn spawning() -> Vec<u8> {
 #[test]
 fn threads_take_turns() {
     let mut tables = Tables::new();
-    let calls = [Call::Run(3), Call::Step, Call::Run(2), Call::Run(100), Call::Step];
-    let answered = |answer, steps| Answered { answer, steps };
+    let third = Call::Run(two(1, 1));
+    let calls = [Call::Run(two(3, 0)), Call::Step, third, Call::run_each(100), Call::Step];
     let answers = [
-        answered(Answer::Spent, 3),
-        answered(Answer::Taken, 1),
-        answered(Answer::Spent, 2),
-        answered(Answer::Done, 4),
-        answered(Answer::Done, 0),
+        answered(Answer::Spent, 3, 0),
+        taken(1),
+        answered(Answer::Spent, 1, 1),
+        answered(Answer::Done, 1, 3),
+        answered(Answer::Done, 0, 0),
     ];
-    // After so many calls: frames, threads, and the steps of threads 0 and 1 in the last one.
-    let after = [(0, 1, [0, 0]), (1, 2, [3, 0]), (2, 2, [0, 1]), (2, 2, [1, 1]), (0, 2, [1, 3])];
-    for (made, (frames, threads, steps)) in after.into_iter().enumerate() {
+    // After so many calls: frames and threads.
+    let after = [(0, 1), (1, 2), (2, 2), (2, 2), (0, 2), (0, 2)];
+    for (made, (frames, threads)) in after.into_iter().enumerate() {
         let ran = tables.run(&spawning(), &calls[..made]).expect("a job that starts");
         assert_eq!(ran.answers, answers[..made]);
         assert_eq!(ran.rooms, Rooms { keys: 2, frames, threads, ..Rooms::default() });
-        assert_eq!((&ran.steps[..2], &ran.steps[2..]), (&steps[..], &[0; 6][..]));
     }
     let session = tables.session(&spawning(), &calls).expect("a session");
     assert_eq!(session.answers, answers);
     assert_eq!(session.value, Some(Value { kind: Kind::Number, data: 7 }));
-    // Thread 0 has ended, thread 1 has not.
-    let session = tables.session(&spawning(), &[Call::Run(7)]).expect("a session");
-    assert_eq!((session.answers, session.value), (vec![answered(Answer::Spent, 7)], None));
+}
+
+/// A run with each allowance, how it ends, and the threads of the two turns after it.
+#[test]
+fn each_thread_has_its_allowance() {
+    let mut tables = Tables::new();
+    for (allowances, spent, next) in [
+        // Nothing is allowed, or only to numbers that no thread has.
+        ([0; THREADS], (0, 0), [0, 0]),
+        ([0, 9, 9, 9, 9, 9, 9, u64::MAX], (0, 0), [0, 0]),
+        // The last step that is allowed starts thread 1, which has nothing allowed, something, or enough.
+        (two(2, 0), (2, 0), [0, 1]),
+        (two(2, 3), (2, 3), [0, 1]),
+        (two(2, u64::MAX), (2, 5), [0, 0]),
+        // Thread 1 is passed over, and keeps its turn in the round.
+        (two(4, 1), (4, 1), [1, 0]),
+        (two(3, 0), (3, 0), [1, 0]),
+        // Thread 0 is at its end.
+        (two(u64::MAX, 2), (5, 2), [1, 1]),
+        (two(5, 0), (5, 0), [1, 1]),
+    ] {
+        let calls = [Call::Run(allowances), Call::Step, Call::Step];
+        let session = tables.session(&spawning(), &calls).expect("a session");
+        let spent = answered(Answer::Spent, spent.0, spent.1);
+        assert_eq!(session.answers, [spent, taken(next[0]), taken(next[1])], "{allowances:?}");
+        assert_eq!(session.value, None);
+    }
+    // To the last step of each, with some left, and with as much as there can be.
+    for allowances in [two(5, 5), two(6, 5), two(5, 9), [u64::MAX; THREADS]] {
+        let calls = [Call::Run(allowances), Call::run_each(0)];
+        let session = tables.session(&spawning(), &calls).expect("a session");
+        assert_eq!(session.answers, [(5, 5), (0, 0)].map(|(a, b)| answered(Answer::Done, a, b)));
+        assert!(session.value.is_some());
+    }
+}
+
+/// Nothing of an allowance carries over, and a turn has none.
+#[test]
+fn allowances_are_of_one_run() {
+    let mut tables = Tables::new();
+    let run = |first, second| Call::Run(two(first, second));
+    let calls = [run(3, 0), run(0, 2), Call::Step, run(0, 0), run(0, 1), run(1, 9)];
+    let ran = tables.run(&spawning(), &calls).expect("a job that starts");
+    let spent = |first, second| answered(Answer::Spent, first, second);
+    let done = answered(Answer::Done, 1, 2);
+    let answers = [spent(3, 0), spent(0, 2), taken(0), spent(0, 0), spent(0, 1), done];
+    assert_eq!(ran.answers, answers);
 }
 
 /// The number of a 42 has an entry of its own.
@@ -225,12 +283,11 @@ fn a_thread_without_its_key() {
     let said = "refused 16 at expression 2: a thread's body has an effect";
     assert_eq!(refusal.to_string(), said);
     assert_eq!(tables.session(&job, &[]), Err(refusal));
-    let ran = tables.run(&job, &[Call::Run(100)]).expect("a job that starts");
-    assert_eq!(ran.answers, [Answered { answer: Answer::Denied, steps: 3 }]);
-    assert_eq!(ran.steps[..2], [1, 2]);
-    let ran = tables.run(&job, &[Call::Run(100), Call::Step]).expect("a job that starts");
-    assert_eq!(ran.answers[1], Answered { answer: Answer::Denied, steps: 0 });
-    assert_eq!(ran.steps, [0; THREADS]);
+    let calls = [Call::run_each(100), Call::Step, Call::Run(two(9, 0)), Call::run_each(1)];
+    let ran = tables.run(&job, &calls).expect("a job that starts");
+    let denied = |first, second| Answered { thread: 1, ..answered(Answer::Denied, first, second) };
+    let spent = answered(Answer::Spent, 0, 0);
+    assert_eq!(ran.answers, [denied(1, 2), denied(0, 0), spent, denied(0, 0)]);
 }
 
 /// So many threads, one in another.
@@ -247,44 +304,76 @@ fn nested(threads: u16) -> Vec<u8> {
 #[test]
 fn a_ninth_thread() {
     let mut tables = Tables::new();
-    for (spawns, answer, steps) in [(7, Answer::Done, 8), (8, Answer::NoRoom, 7)] {
-        let session = tables.session(&nested(spawns), &[Call::Run(100)]).expect("a session");
-        assert_eq!(session.answers, [Answered { answer, steps }]);
-        let ran = tables.run(&nested(spawns), &[Call::Run(100)]).expect("a job that starts");
-        assert_eq!(ran.rooms.threads, 8);
-        assert_eq!(ran.steps.iter().sum::<u64>(), steps);
+    let none = [1, 1, 1, 1, 1, 1, 1, 0];
+    for (spawns, answer, thread, steps) in
+        [(7, Answer::Done, 0, [1; THREADS]), (8, Answer::NoRoom, 7, none)]
+    {
+        let session = tables.session(&nested(spawns), &[Call::run_each(100)]).expect("a session");
+        assert_eq!(session.answers, [Answered { answer, thread, steps }]);
+        let ran = tables.run(&nested(spawns), &[Call::run_each(100)]).expect("a job that starts");
+        assert_eq!((ran.rooms.threads, ran.answers[0].thread), (8, thread));
     }
+}
+
+/// A run of a job of two threads, with tables that are long enough and these slices.
+fn run_lent(calls: &[u64], answers: &mut [u64], rooms: &mut [u64]) -> u64 {
+    let [names, types, sets, values, heads, slots, ..] = LENGTHS;
+    let lent = lent::Lent {
+        names: &mut vec![0; names],
+        types: &mut vec![0; types],
+        sets: &mut vec![0; sets],
+        values: &mut vec![0; values],
+        heads: &mut vec![0; heads],
+        slots: &mut vec![0; slots],
+    };
+    lent::run(&spawning(), lent, calls, answers, rooms)
 }
 
 /// `rooms` gets no more words than it has.
 #[test]
 fn short_rooms() {
-    let [names, types, sets, values, heads, slots, ..] = LENGTHS;
-    for length in 0..=16 {
-        let (mut rooms, mut answers) = ([99; 17], [0; 2]);
-        let lent = lent::Lent {
-            names: &mut vec![0; names],
-            types: &mut vec![0; types],
-            sets: &mut vec![0; sets],
-            values: &mut vec![0; values],
-            heads: &mut vec![0; heads],
-            slots: &mut vec![0; slots],
-        };
-        let number = lent::run(&spawning(), lent, &[6], &mut answers, &mut rooms[..length]);
-        assert_eq!((number, answers), (0, [Answer::Spent.number(), 5]));
-        let told = [0, 2, 0, 0, 2, 0, 2, 4, 1, 0, 0, 0, 0, 0, 0];
+    for length in 0..=ROOM_WORDS + 1 {
+        let (mut rooms, mut answers) = ([99; ROOM_WORDS + 2], [0; ANSWER_WORDS]);
+        let calls = Call::Run(two(4, 1)).words();
+        assert_eq!(run_lent(&calls, &mut answers, &mut rooms[..length]), 0);
+        assert_eq!(answers, [Answer::Spent.number(), 0, 4, 1, 0, 0, 0, 0, 0, 0]);
+        let told = [0, 2, 0, 0, 2, 0, 2];
         let written = length.min(told.len());
         assert_eq!(rooms[..written], told[..written]);
         assert!(rooms[written..].iter().all(|&word| word == 99));
     }
 }
 
+/// 0 is a turn, whatever the eight words after it; any other number is a run.
 #[test]
-fn short_answers() {
-    let mut tables = Tables::new();
+fn words_of_calls() {
+    let [mut turn, mut run] = [Call::Step, Call::Run(two(3, 0))].map(Call::words);
+    assert_eq!((turn, run), ([0; CALL_WORDS], [1, 3, 0, 0, 0, 0, 0, 0, 0]));
+    turn[1..].copy_from_slice(&[u64::MAX, 0, 1, 1 << 63, 5, 6, 7, 8]);
+    for number in [1, 2, 1 << 32, u64::MAX] {
+        run[0] = number;
+        let mut answers = [99; 2 * ANSWER_WORDS + 1];
+        assert_eq!(run_lent(&[turn, run].concat(), &mut answers, &mut []), 0);
+        let told = [0, 0, 1, 0, 0, 0, 0, 0, 0, 0, 2, 0, 3, 0, 0, 0, 0, 0, 0, 0];
+        assert_eq!((&answers[..20], answers[20]), (&told[..], 99));
+    }
+}
+
+/// Calls that are cut short, and too few words for the answers: 1, and nothing is written.
+#[test]
+fn short_calls_and_answers() {
+    let calls = Call::all_words(&[Call::Step, Call::run_each(9)]);
+    for (words, room) in [(1, 20), (8, 20), (10, 20), (17, 20), (9, 9), (18, 19), (18, 0), (17, 0)]
+    {
+        let (mut answers, mut rooms) = ([99; 20], [99; ROOM_WORDS]);
+        let number = run_lent(&calls[..words], &mut answers[..room], &mut rooms);
+        assert_eq!((number, answers), (1, [99; 20]), "{words} words, {room} for the answers");
+        assert_eq!((rooms[0], &rooms[1..]), (0, &[99; ROOM_WORDS - 1][..]));
+    }
     let short = Refusal { number: 1, place: 0 };
-    assert_eq!(tables.run_words(&example(4), &[0, 0], &mut [0; 3]), Err(short));
-    assert_eq!(short.to_string(), "refused 1 at no place: a lent table is too short");
+    assert_eq!(Tables::new().run_words(&example(4), &calls[..8], &mut [0; 10]), Err(short));
+    let said = "refused 1 at no place: a lent table or slice is too short, or a call is cut short";
+    assert_eq!(short.to_string(), said);
 }
 
 /// What the tables hold, written.
@@ -307,9 +396,9 @@ fn passed_on() {
     // A check makes more types, and leaves the job in the tables; so do a session and a run.
     assert!(tables.check(&job).expect("an accepted job").types().len() > counts.types);
     assert_eq!(written(&tables, &counts), job);
-    tables.session(&job, &[Call::Run(100)]).expect("a session");
+    tables.session(&job, &[Call::run_each(100)]).expect("a session");
     assert_eq!(written(&tables, &counts), job);
-    tables.run(&job, &[Call::Run(100)]).expect("a job that starts");
+    tables.run(&job, &[Call::run_each(100)]).expect("a job that starts");
     assert_eq!(written(&tables, &counts), job);
 }
 
@@ -364,8 +453,9 @@ fn numbers_of_the_header() {
     assert_eq!(tables.map(defined), LENGTHS);
     let answers = ["TAKEN", "DONE", "SPENT", "NO_ROOM", "STUCK", "DENIED"];
     assert_eq!(answers.map(defined), Answer::ALL.map(|answer| answer.number() as usize));
-    assert_eq!(["OUT", "ANSWER", "VALUE", "CELLS"].map(defined), [2, 2, 2, 512]);
-    assert_eq!(["THREADS", "ROOMS"].map(defined), [THREADS, 7 + THREADS]);
+    assert_eq!(["OUT", "VALUE", "CELLS"].map(defined), [2, 2, 512]);
+    let words = ["CALL", "ANSWER", "ROOMS"].map(defined);
+    assert_eq!((words, defined("THREADS")), ([CALL_WORDS, ANSWER_WORDS, ROOM_WORDS], THREADS));
     assert_eq!(
         ["COUNTS", "BYTES", "SHORT_BUFFER", "SPAWN_EFFECT"].map(defined),
         [5, BYTES, 15, 16]

@@ -78,7 +78,7 @@ fn a_cell_that_a_grant_key_opens() {
     let expressions = [&[0x32, 0][..], &[0x32, 1], &[0x39, 1, 0], &[0x3D, 0, 0, 2, 0]].concat();
     let mut tables = Tables::new();
     let job = job(&[(1, 1)], &[4, 2], 0, &expressions);
-    let session = tables.session(&job, &[jobdesk::Call::Run(100)]).expect("an accepted job");
+    let session = tables.session(&job, &[jobdesk::Call::run_each(100)]).expect("an accepted job");
     assert_eq!(session.value.map(|value| value.data), Some(1));
     assert_eq!(sheet(&job).text(), " 2  1 no    1\n");
 }

@@ -6,7 +6,8 @@ use jobtext::opens::{Open, Reach};
 use jobtext::typing::work_out;
 use jobtext::{assemble, dump, explain};
 use second::generate::Rng;
-use second::{Job, Machine, Outcome, Shape, Value};
+use second::value::THREADS;
+use second::{Job, Machine, Run, Shape, Value};
 
 const START: &str = "\
 host depot under top
@@ -198,12 +199,12 @@ fn generated_jobs() {
     assert!([0, 13, 14].iter().all(|&number| seen[number] > 100), "{seen:?}");
 }
 
-/// The end of a run, its steps and value, and the cells but for one.
-fn end_of_run(job: &Job, but: usize) -> (Outcome, u64, Option<Value>, Vec<Value>) {
+/// A run, the value at its end, and the cells but for one.
+fn end_of_run(job: &Job, but: usize) -> (Run, Option<Value>, Vec<Value>) {
     let mut machine = Machine::start(&second::bytes_of(job)).expect("a job that starts");
-    let (outcome, steps) = machine.run(2_000);
+    let run = machine.run([2_000; THREADS]);
     let cells = machine.cells().iter().enumerate().filter(|(cell, _)| *cell != but);
-    (outcome, steps, machine.result(), cells.map(|(_, &value)| value).collect())
+    (run, machine.result(), cells.map(|(_, &value)| value).collect())
 }
 
 /// What a closed cell holds makes no difference; what an asked one holds does now and then.

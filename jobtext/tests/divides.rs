@@ -5,6 +5,7 @@ use jobtext::decode::decode;
 use jobtext::typing::work_out;
 use jobtext::{assemble, dump, explain};
 use second::generate::Rng;
+use second::value::THREADS;
 use second::{Kind, Machine, Outcome, Shape, Type};
 
 const START: &str = "\
@@ -156,7 +157,7 @@ fn generated_jobs() {
 /// The number that a job without records gives.
 fn gives(job: &str) -> u32 {
     let mut machine = Machine::start(&bytes("{}", job)).expect("a job that starts");
-    assert_eq!(machine.run(1_000).0, Outcome::Done, "{job}");
+    assert_eq!(machine.run([1_000; THREADS]).outcome, Outcome::Done, "{job}");
     let value = machine.result().expect("a value");
     assert!(value.is(Kind::Number) && value.key() == 0, "{job}");
     value.data()

@@ -8,7 +8,9 @@ use std::path::{Path, PathBuf};
 use jobtext::commands::ROWS;
 use jobtext::decode::decode;
 use jobtext::{assemble, dump, explain, hex, sheet};
-use second::{Machine, Outcome};
+use second::desk::STEPS;
+use second::value::THREADS;
+use second::{Machine, Outcome, Run};
 
 /// Every text of a job.
 fn jobs() -> Vec<PathBuf> {
@@ -100,7 +102,11 @@ fn a_week_over_the_shifts() {
     for (name, shifts) in [("week_over_shifts", 7), ("week_without_shifts", 0)] {
         let mut machine = started(name);
         let before = held(&machine);
-        assert_eq!((machine.run(100_000).0, before[6]), (Outcome::Done, shifts), "{name}");
+        assert_eq!(
+            (machine.run([STEPS; THREADS]).outcome, before[6]),
+            (Outcome::Done, shifts),
+            "{name}"
+        );
         let (share, after) = (machine.result().expect("a share").data(), held(&machine));
         let kept = after[5];
         assert_eq!(share * shifts + kept, before[..6].iter().sum(), "{name}");
@@ -114,7 +120,7 @@ fn a_week_over_the_shifts() {
 fn four_drivers_at_a_time() {
     let mut machine = started("four_drivers");
     let before = held(&machine);
-    let (outcome, counts) = machine.run_threads(100_000);
+    let Run { outcome, counts, .. } = machine.run([STEPS; THREADS]);
     assert_eq!((outcome, machine.rooms().threads), (Outcome::Done, 5));
     assert!(counts[1..5].iter().all(|&steps| steps == counts[1]), "{counts:?}");
     let after = held(&machine);
@@ -122,6 +128,22 @@ fn four_drivers_at_a_time() {
     let sums: Vec<u32> = before[..8].chunks(2).map(|days| days.iter().sum()).collect();
     assert_eq!(after[8..12], sums);
     assert_eq!(machine.result().map(|value| value.data()), Some(sums.iter().sum()));
+}
+
+/// Two threads take more steps than the desk allows one, and the short one's are printed, as the guide says.
+#[test]
+fn a_short_extract_beside_long_ones() {
+    let mut machine = started("short_extract");
+    let before = held(&machine);
+    let Run { outcome, counts, .. } = machine.run([STEPS; THREADS]);
+    assert_eq!((outcome, counts[..4].to_vec()), (Outcome::Done, vec![34, 55_496, 55_496, 0]));
+    assert!(counts.iter().sum::<u64>() > STEPS);
+    let guide = fs::read_to_string("../docs/JOBS.md").expect("the guide");
+    assert!(guide.contains("two threads take 55,496 each, and thread 0's 34 steps"));
+    let week = before[..7].iter().sum::<u32>() - before[7..14].iter().sum::<u32>();
+    let after = held(&machine);
+    assert_eq!([after[14], after[16]], [before[14], before[16]].map(|paid| paid + 430 * week));
+    assert_eq!(machine.result().map(|value| value.data()), Some(before[0] - before[7]));
 }
 
 /// The table of commands in the guide has every row.

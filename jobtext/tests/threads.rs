@@ -5,8 +5,10 @@ use jobtext::decode::decode;
 use jobtext::opens::{Open, Reach};
 use jobtext::typing::work_out;
 use jobtext::{assemble, dump, explain};
+use second::desk::STEPS;
 use second::generate::Rng;
-use second::{Answer, Job, Machine, Outcome, Shape, Type, Value};
+use second::value::THREADS;
+use second::{Answer, Job, Machine, Outcome, Run, Shape, Type, Value};
 
 const START: &str = "\
 host depot under top
@@ -124,7 +126,10 @@ fn keys_from_inside() {
         &["refused 14 at 17", "    touched in expression 15, (associate north-1 (first k))"],
     );
     let mut machine = Machine::start(&bytes("{north}", &handed)).expect("a job that starts");
-    assert_eq!((machine.run(1_000).0, machine.cells()[3].data()), (Outcome::Done, 480));
+    assert_eq!(
+        (machine.run([1_000; THREADS]).outcome, machine.cells()[3].data()),
+        (Outcome::Done, 480)
+    );
     // Nothing of a thread joins the effect, and what a limit shuts out it does not use.
     has_lines(
         "{south}",
@@ -296,7 +301,7 @@ fn generated_jobs() {
                     "{text}"
                 );
                 let mut machine = Machine::start(&bytes).expect("a job that starts");
-                let outcome = machine.run(100_000).0;
+                let outcome = machine.run([STEPS; THREADS]).outcome;
                 assert!(matches!(outcome, Outcome::Done | Outcome::NoRoom), "{outcome:?}\n{text}");
                 most = most.max(machine.rooms().threads);
             }
@@ -307,12 +312,12 @@ fn generated_jobs() {
     assert!(most > 4, "at most {most} threads");
 }
 
-/// The end of a run, its steps and value, and the cells but for one.
-fn end_of_run(job: &Job, but: usize) -> (Outcome, u64, Option<Value>, Vec<Value>) {
+/// A run, the value at its end, and the cells but for one.
+fn end_of_run(job: &Job, but: usize) -> (Run, Option<Value>, Vec<Value>) {
     let mut machine = Machine::start(&second::bytes_of(job)).expect("a job that starts");
-    let (outcome, steps) = machine.run(4_000);
+    let run = machine.run([4_000; THREADS]);
     let cells = machine.cells().iter().enumerate().filter(|(cell, _)| *cell != but);
-    (outcome, steps, machine.result(), cells.map(|(_, &value)| value).collect())
+    (run, machine.result(), cells.map(|(_, &value)| value).collect())
 }
 
 /// What a closed cell holds makes no difference, to no thread, although the rights may have its key;
@@ -363,10 +368,10 @@ fn turns() {
     let (mut round, mut rows) = (0, 0);
     while let Some(thread) = machine.turn() {
         round += (machine.due() == 0) as usize;
-        let word = machine.waiting().map(|expr| exprs[expr as usize].row.word);
-        let reads = machine.entering().is_none() && word == Some("read");
+        let word = machine.waiting(thread).map(|expr| exprs[expr as usize].row.word);
+        let reads = machine.entering(thread).is_none() && word == Some("read");
         let (threads, paid) = (machine.rooms().threads, machine.cells()[0].data());
-        assert_eq!(machine.step(), Answer::Taken);
+        assert_eq!(machine.step(), (Answer::Taken, thread));
         let does = match (machine.rooms().threads, machine.cells()[0].data()) {
             (now, _) if now > threads => format!("starts thread {threads}"),
             (_, now) if now != paid => format!("writes {now}"),
@@ -382,9 +387,9 @@ fn turns() {
 }
 
 /// What a run of a job without rights comes to: outcome, steps of each thread, value; and the machine.
-fn run(job: &str) -> (Outcome, [u64; 8], Option<u32>, Machine) {
+fn run(job: &str) -> (Outcome, [u64; THREADS], Option<u32>, Machine) {
     let mut machine = Machine::start(&bytes("{}", job)).expect("a job that starts");
-    let (outcome, counts) = machine.run_threads(100_000);
+    let Run { outcome, counts, .. } = machine.run([STEPS; THREADS]);
     let value = machine.result().map(|value| value.data());
     (outcome, counts, value, machine)
 }
@@ -410,7 +415,7 @@ fn waits_for_ever(tests: usize) -> u64 {
     let text = text.replace(again, &more).replace("(assign ann-sum ", "(assign bob-sum ");
     let bytes = assemble(&text).expect("a text").bytes;
     let mut machine = Machine::start(&bytes).expect("a job that starts");
-    let (outcome, counts) = machine.run_threads(100_000);
+    let Run { outcome, counts, .. } = machine.run([STEPS; THREADS]);
     assert_eq!((outcome, machine.rooms().bindings), (Outcome::NoRoom, 1_024));
     counts[0]
 }
@@ -447,16 +452,22 @@ fn the_ninth() {
     assert_eq!(run(&twice).0, Outcome::NoRoom);
 }
 
-/// Thread 0 is finished after one step, and the job goes on; its value is thread 0's, and the steps
-/// are those of all.
+/// The desk's second line for a job without rights.
+fn ran_line(job: &str) -> String {
+    let desk = second::desk(&bytes("{}", job));
+    desk.lines().nth(1).expect("the line of a run").to_owned()
+}
+
+/// Thread 0 is finished after one step, and the job goes on; its value is thread 0's, and so are the
+/// steps that are printed.
 #[test]
 fn thread_0_first() {
-    let (outcome, counts, value, machine) = run("(spawn (assign kept (sum 1 2 3)))");
+    let job = "(spawn (assign kept (sum 1 2 3)))";
+    let (outcome, counts, value, machine) = run(job);
     assert_eq!((outcome, value, counts[0]), (Outcome::Done, Some(0), 1));
+    assert!(counts[1] > 1, "{counts:?}");
     assert_eq!(machine.cells()[3].data(), 6);
-    let desk = second::desk(&bytes("{}", "(spawn (assign kept (sum 1 2 3)))"));
-    let all: u64 = counts.iter().sum();
-    assert_eq!(desk, format!("accepted 0000000000000000 number\ndone {all} number 0\n"));
+    assert_eq!(ran_line(job), "done 1 number 0");
 }
 
 /// A thread has frames of its own, and one without room ends the run of all.
@@ -470,7 +481,9 @@ fn room_of_a_thread() {
     assert_eq!((outcome, value, machine.rooms().deepest), (Outcome::NoRoom, None, 256));
     // Bindings are shared. Thread 1 takes them all, and the job has no value, although thread 0 is
     // finished.
-    let (outcome, counts, value, _) = run(&format!("(sum (spawn {}) 1)", waiting("0")));
+    let job = format!("(sum (spawn {}) 1)", waiting("0"));
+    let (outcome, counts, value, _) = run(&job);
     assert_eq!((outcome, value), (Outcome::NoRoom, None));
     assert!(counts[0] < 10 && counts[1] > 10_000, "{counts:?}");
+    assert_eq!(ran_line(&job), format!("no room {}", counts[1]));
 }
