@@ -4,7 +4,8 @@ use Prim.Native.Nat.{ℕ, _-_, _≤_, _<_}
 use native.Mathlib.Omega.{arith}
 use mathlib.Core.Bool.{Bool, true, false≢true}
 use mathlib.Core.Option.{Option, none, some, Option·some-injective, Option·none-ne-some}
-use lib.ListN.{length}
+use mathlib.Core.List.{List}
+use lib.ListN.{length, getD}
 use Rattle.order.specs.Bools.{_and_, and-l, and-r, and2}
 use Rattle.semantics.specs.Machine.{System, most-threads}
 use Rattle.semantics.specs.Threads.{liveThread, live, firstFrom, Turn, inRound, next, Asked}
@@ -16,6 +17,20 @@ use Rattle.machine.specs.Ahead.{nextIn, atOf, Held}
 use Rattle.machine.specs.OneTurn.{next-fewer, nobody-fewer}
 use Rattle.machine.specs.Scheduled.{ownAt, systemIn, marked}
 use Rattle.machine.specs.Listed.{listed-length, listed-get}
+
+-- no number above that of no thread is looked up
+at-most : (lv : List ℕ) (f count : ℕ) → count ≤ most-threads → atOf (nextIn lv f count count) ≤ most-threads
+unfolding nextIn inRound atOf
+at-most lv f count h = at (first-is (marked lv) f (count - f)) (first-is (marked lv) 0 count)
+  where
+    at : {a b : Option ℕ} → FirstIs (marked lv) f (count - f) a → FirstIs (marked lv) 0 count b → atOf (inRound count a (inRound count b none)) ≤ most-threads
+    at (first-at w) v = omega (arith, w .low, w .high, h)
+    at (nowhere w) (first-at v) = omega (arith, v .high, h)
+    at (nowhere w) (nowhere v) = omega arith
+
+pub known-most : (lv known : List ℕ) {count : ℕ} → count ≤ most-threads → ((f : ℕ) → f ≤ most-threads → getD known f 0 ≡ atOf (nextIn lv f count count)) → (f : ℕ) → f ≤ most-threads
+    → getD known f 0 ≤ most-threads
+known-most lv known {count} h k f l = let y = k f l in let z = at-most lv f count h in omega (arith, y, z)
 
 module _ (c : Scheduler) (w : Tables) (h : Held c w) where
   abbrev S : System

@@ -7,7 +7,8 @@ use mathlib.Core.List.{List, [], _∷_}
 use mathlib.Core.Option.{some}
 use mathlib.Core.Logic.{_⊎_, inl, inr, ⊎-elim}
 use lib.Dec.{eqb}
-use lib.ListN.{length, getD}
+use lib.ListN.{length, getD, set, length-set, replicate, length-replicate, getD-replicate}
+use lib.Seq.{getD-set-same}
 use borrow.Author.Tests.{eqb-true, eqb-false, lt-ltb, le-ltb}
 use types.Run.{OneOf, miss}
 use denote.Enum.Declared.{tagOf}
@@ -71,6 +72,7 @@ pub record RoundsTo (heads slots : List ℕ) (n first : ℕ) (known rest₀ : Li
   pub few : left ≤ n
   pub able : Able n i rest₀ ⊎ left ≡ 0
   pub last-few : last < most-threads
+  pub place : i ≤ most-threads
   pub room : length (w .frames) ≡ threads-words
   pub fewer : (j : ℕ) → getD rest j 0 ≤ getD rest₀ j 0
   -- no thread has lost more than was taken in all
@@ -84,6 +86,7 @@ start-rounds heads slots n first known rest u w l h k = record {
   few = omega arith;
   able = inl (record { small = h; enough = k });
   last-few = h;
+  place = omega (arith, h);
   room = l;
   fewer = λ j. omega arith;
   close = λ j. omega arith;
@@ -126,6 +129,10 @@ module _ {heads slots : List ℕ} {n first : ℕ} {known rest₀ : List ℕ} {u�
     pub some-steps : 0 < getD rest i 0
     some-steps = omega (arith, is-able .enough, v .close i, more)
 
+    -- who comes next is a thread, or no thread
+    pub few-known : ((f : ℕ) → f ≤ most-threads → getD known f 0 ≤ most-threads) → getD known (i + 1) 0 ≤ most-threads
+    few-known few = few (i + 1) (omega (arith, i-small))
+
     some-left : hasLeft rest i ≡ true
     unfolding hasLeft
     some-left = lt-ltb 0 (getD rest i 0) some-steps
@@ -152,12 +159,13 @@ module _ {heads slots : List ℕ} {n first : ℕ} {known rest₀ : List ℕ} {u�
       }
 
       -- a step is taken
-      pub next-round : OneOf (0 ∷ []) (tagOf answer-type (e .answer)) → ((f : ℕ) → f ≤ most-threads → 1 < n → (getD known f 0 < most-threads) × (n ≤ getD rest₀ (getD known f 0) 0))
+      pub next-round : OneOf (0 ∷ []) (tagOf answer-type (e .answer)) → ((f : ℕ) → f ≤ most-threads → 1 < n → (getD known f 0 < most-threads) × (n ≤ getD rest₀ (getD known f 0) 0)) → ((f : ℕ) → f ≤ most-threads → getD known f 0 ≤ most-threads)
           → RoundsTo heads slots n first known rest₀ u₀ w₀ (less i rest) x (getD known (i + 1) 0) i (e .used) (left - 1)
-      next-round t small = record {
+      next-round t small few = record {
         few = omega (arith, v .few);
         able = at (eqb (left - 1) 0) refl;
         last-few = i-small;
+        place = few-known few;
         room = long;
         fewer = λ j. let y = less-few i j rest in omega (arith, y, v .fewer j);
         close = λ j. let y = less-close i j rest in omega (arith, y, v .close j, more);
@@ -185,3 +193,22 @@ module _ {heads slots : List ℕ} {n first : ℕ} {known rest₀ : List ℕ} {u�
 
               is : roundedBy (begun lv rest₀ count round from u₀) r n (left - 1) i (less i rest) (e .used) ≡ begun lv (less i rest) count r (i + 1) (e .used)
               is = rounded-some (begun lv rest₀ count round from u₀) r n (left - 1) i (less i rest) (e .used) (omega (arith, more, v .few))
+
+-- the same with who stepped before each thread in an array, of which the entry of the thread whose turn it is counts
+pub record PriorTo (heads slots : List ℕ) (n first : ℕ) (known rest₀ : List ℕ) (u₀ : Used) (w₀ : Tables) (rest : List ℕ) (w : Tables) (i : ℕ) (prior : List ℕ) (u : Used) (left : ℕ) : Type 0 where
+  pub long : length prior ≡ 9
+  pub to : RoundsTo heads slots n first known rest₀ u₀ w₀ rest w i (getD prior i 0) u left
+
+pub start-prior : (heads slots : List ℕ) (n first : ℕ) (known rest : List ℕ) (u : Used) (w : Tables) → length (w .frames) ≡ threads-words → first < most-threads → n ≤ getD rest first 0
+    → PriorTo heads slots n first known rest u w rest w first (replicate 9 first) u n
+start-prior heads slots n first known rest u w l h k = record {
+  long = length-replicate 9 first;
+  to = subst⁻¹ (λ x. RoundsTo heads slots n first known rest u w rest w first x u n) (getD-replicate 9 first first 0 (omega (arith, h))) (start-rounds heads slots n first known rest u w l h k);
+}
+
+pub step-prior : {heads slots : List ℕ} {n first : ℕ} {known rest₀ : List ℕ} {u₀ : Used} {w₀ : Tables} {rest : List ℕ} {w : Tables} {i j : ℕ} (prior : List ℕ) {u : Used} {left : ℕ}
+    → length prior ≡ 9 → RoundsTo heads slots n first known rest₀ u₀ w₀ rest w j i u left → PriorTo heads slots n first known rest₀ u₀ w₀ rest w j (set prior j i) u left
+step-prior {heads} {slots} {n} {first} {known} {rest₀} {u₀} {w₀} {rest} {w} {i} {j} prior {u} {left} l v = record {
+  long = length-set prior j i ∙ l;
+  to = subst⁻¹ (λ x. RoundsTo heads slots n first known rest₀ u₀ w₀ rest w j x u left) (getD-set-same prior j i 0 (omega (arith, l, v .place))) v;
+}

@@ -211,7 +211,8 @@ fn later(left: u64, n: u64, a: usize, b: usize) -> usize
     if left < n { b } else { a }
 }
 
-// Up to n turns that are known ahead, from thread `first` on. This loop has the one call of a step, which is inlined in it.
+// Up to n turns that are known ahead, from thread `first` on. This loop has the one call of a step, which is inlined in it. Who stepped before a thread is kept in words, since the step
+// needs the registers.
 fn rounds(
     first: usize,
     us: Used,
@@ -230,6 +231,7 @@ fn rounds(
     requires { ⌜
         (length (now words) ≡ threads-words) × (first < most-threads) × (n ≤ getD (now rest) first 0)
         × ((f : ℕ) → f ≤ most-threads → 1 < n → (getD (now known) f 0 < most-threads) × (n ≤ getD (now rest) (getD (now known) f 0) 0))
+        × ((f : ℕ) → f ≤ most-threads → getD (now known) f 0 ≤ most-threads)
         ⌝ }
     ensures { λ z. ⌜
         ((live : List ℕ) (count round from r : ℕ) → RoundsFrom live count round from r n (now (known .entry)) first (now (rest .entry)) us (before [] words cells keys pairs functions bindings)
@@ -238,7 +240,7 @@ fn rounds(
         ⌝ }
 {
     let mut i = first;
-    let mut last = first;
+    let mut prior = [first; AHEAD];
     let mut used = us;
     let mut left = n;
     while 0 < left {
@@ -258,6 +260,7 @@ fn rounds(
         let a = s.answer;
         used = next;
         let Answer::Taken = a else {
+            let last = prior[i];
             return Rounds {
                 used: used,
                 left: left,
@@ -268,9 +271,11 @@ fn rounds(
         };
         rest[i] = rest[i] - 1;
         left = left - 1;
-        last = i;
-        i = known[i + 1];
+        let j = known[i + 1];
+        prior[j] = i;
+        i = j;
     }
+    let last = prior[i];
     Rounds {
         used: used,
         left: left,
