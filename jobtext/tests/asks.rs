@@ -1,13 +1,15 @@
 //! `if-enabled`: what `explain` says at and around it, on generated jobs too; and that what it calls
 //! closed is closed.
 
+mod ends;
+
+use ends::end_of_run;
 use jobtext::decode::decode;
 use jobtext::opens::{Open, Reach};
 use jobtext::typing::work_out;
 use jobtext::{assemble, dump, explain};
 use second::generate::Rng;
-use second::value::THREADS;
-use second::{Job, Machine, Run, Shape, Value};
+use second::{Job, Shape};
 
 const START: &str = "\
 host depot under top
@@ -199,14 +201,6 @@ fn generated_jobs() {
     assert!([0, 13, 14].iter().all(|&number| seen[number] > 100), "{seen:?}");
 }
 
-/// A run, the value at its end, and the cells but for one.
-fn end_of_run(job: &Job, but: usize) -> (Run, Option<Value>, Vec<Value>) {
-    let mut machine = Machine::start(&second::bytes_of(job)).expect("a job that starts");
-    let run = machine.run([2_000; THREADS]);
-    let cells = machine.cells().iter().enumerate().filter(|(cell, _)| *cell != but);
-    (run, machine.result(), cells.map(|(_, &value)| value).collect())
-}
-
 /// What a closed cell holds makes no difference; what an asked one holds does now and then.
 #[test]
 fn closed_cells_are_closed() {
@@ -219,7 +213,7 @@ fn closed_cells_are_closed() {
         for (cell, host) in (0..job.hosts.len()).filter(is_cell).enumerate() {
             let mut other = job.clone();
             other.hosts[host].number ^= 1;
-            let differs = || end_of_run(&job, cell) != end_of_run(&other, cell);
+            let differs = || end_of_run(&job, 2_000, cell) != end_of_run(&other, 2_000, cell);
             match reach.open(of(host).key) {
                 Open::Closed => {
                     assert!(!differs(), "{}", dump(&bytes).0);

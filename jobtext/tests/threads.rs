@@ -1,6 +1,9 @@
 //! `spawn`: what `explain` says at and around it, its entry in the type table, on generated jobs too;
 //! that what is called closed is closed to threads; and that what the guide says of threads is so.
 
+mod ends;
+
+use ends::end_of_run;
 use jobtext::decode::decode;
 use jobtext::opens::{Open, Reach};
 use jobtext::typing::work_out;
@@ -8,7 +11,7 @@ use jobtext::{assemble, dump, explain};
 use second::desk::STEPS;
 use second::generate::Rng;
 use second::value::THREADS;
-use second::{Answer, Job, Machine, Outcome, Run, Shape, Type, Value};
+use second::{Answer, Job, Machine, Outcome, Run, Shape, Type};
 
 const START: &str = "\
 host depot under top
@@ -312,14 +315,6 @@ fn generated_jobs() {
     assert!(most > 4, "at most {most} threads");
 }
 
-/// A run, the value at its end, and the cells but for one.
-fn end_of_run(job: &Job, but: usize) -> (Run, Option<Value>, Vec<Value>) {
-    let mut machine = Machine::start(&second::bytes_of(job)).expect("a job that starts");
-    let run = machine.run([4_000; THREADS]);
-    let cells = machine.cells().iter().enumerate().filter(|(cell, _)| *cell != but);
-    (run, machine.result(), cells.map(|(_, &value)| value).collect())
-}
-
 /// What a closed cell holds makes no difference, to no thread, although the rights may have its key;
 /// what a grant key opens does now and then.
 #[test]
@@ -336,7 +331,7 @@ fn closed_cells_are_closed() {
         for (cell, host) in (0..job.hosts.len()).filter(is_cell).enumerate() {
             let mut other = job.clone();
             other.hosts[host].number ^= 1;
-            let differs = || end_of_run(&job, cell) != end_of_run(&other, cell);
+            let differs = || end_of_run(&job, 4_000, cell) != end_of_run(&other, 4_000, cell);
             match reach.open(of(host).key) {
                 Open::Closed => {
                     assert!(!differs(), "{}", dump(&bytes).0);

@@ -5,9 +5,9 @@ mod setting;
 use second::generate::{calls, calls_of, heavy, heavy_threads, job as generated};
 use second::machine::{THREADS, under};
 use second::{Answer, Call, Expr, Machine, Outcome, Reply, Run, bytes_of, desk, read, turns};
-use setting::{job, machine};
+use setting::{job, machine, tower};
 
-use Expr::{NewCell, Number, Pair, Read, Spawn, Sum, Top};
+use Expr::{Number, Pair, Spawn, Sum, Top};
 
 /// Adds so many sums, one in another: four steps each, and one.
 fn sums(exprs: &mut Vec<Expr>, count: usize) -> u16 {
@@ -240,14 +240,6 @@ fn a_turn_that_fails_changes_nothing() {
     assert_eq!((machine.turn(), machine.turn_among(0b01)), (Some(1), Some(0)));
     assert_eq!(machine.step(), (Answer::Taken, 1));
     assert_eq!(machine.step(), (Answer::Stuck, 0));
-}
-
-/// So many reads of new cells, one in another, around an expression.
-fn tower(exprs: &mut Vec<Expr>, count: usize) {
-    for place in 0..count {
-        let last = exprs.len() as u16 - 1;
-        exprs.push(if place % 2 == 0 { NewCell(0, last) } else { Read(last) });
-    }
 }
 
 #[test]

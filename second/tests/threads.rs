@@ -6,7 +6,7 @@ mod setting;
 use common::{prints, refused, run, runs};
 use second::job::UNUSED;
 use second::{Answer, Expr, Kind, Machine, Outcome, Run, Shape, Type, check, from_hex, read};
-use setting::{job, machine};
+use setting::{job, machine, tower};
 
 use Expr::{
     Apply, Assign, Associate, Function, Grant, Limit, Look, NewCell, NewKey, Number, Pair, Part,
@@ -233,14 +233,6 @@ fn eight_threads() {
     assert_eq!(machine.step(), (Answer::NoRoom, 0));
     assert!(machine == before);
     runs(&job(0, &starting(9, Number(4))), Outcome::NoRoom, taken);
-}
-
-/// So many reads of new cells, one in another, around an expression.
-fn tower(exprs: &mut Vec<Expr>, count: usize) {
-    for place in 0..count {
-        let last = exprs.len() as u16 - 1;
-        exprs.push(if place % 2 == 0 { NewCell(0, last) } else { Read(last) });
-    }
 }
 
 #[test]

@@ -1,4 +1,4 @@
-//! Jobs of threads: their tables around some expressions.
+//! Jobs of threads: their tables around some expressions, and expressions of many frames.
 
 use second::job::HostValue;
 use second::names::Names;
@@ -30,4 +30,12 @@ pub fn job(rights: u64, exprs: &[Expr]) -> Vec<u8> {
 
 pub fn machine(exprs: &[Expr]) -> Machine {
     Machine::start(&job(0, exprs)).expect("a job that starts")
+}
+
+/// So many reads of new cells, one in another, around an expression.
+pub fn tower(exprs: &mut Vec<Expr>, count: usize) {
+    for place in 0..count {
+        let last = exprs.len() as u16 - 1;
+        exprs.push(if place % 2 == 0 { Expr::NewCell(0, last) } else { Expr::Read(last) });
+    }
 }
