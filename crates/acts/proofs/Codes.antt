@@ -12,10 +12,10 @@ use lib.ListN.{take, get_or, get_elem?}
 use Rattle.syntax.specs.Commands.{Cmd, c_num}
 use Rattle.syntax.specs.Operands.{evaluated}
 use Rattle.syntax.specs.Words.{decode, code_in}
-use Rattle.syntax.specs.DecodeLaws.{decode_cases}
+use Rattle.syntax.proofs.DecodeLaws.{decode_cases}
 use Rattle.semantics.specs.Machine.{Value, Machine}
 use Rattle.semantics.specs.Step.{o_stuck, room, touch_all, p_wrong, settle, push, act, enter_at, enter_cmd, bare, one, two, limit_keys, keys_of, act_lim, act_test, act_access}
-use Rattle.semantics.specs.Enabled.{narrow_none}
+use Rattle.semantics.proofs.Enabled.{narrow_none}
 use Rattle.store.specs.Frames.{hand_of}
 use Rattle.acts.specs.Inner.{go, act_numbers, Works}
 use Rattle.acts.proofs.Limit.{padded}

@@ -3,12 +3,12 @@ use Rattle.std.specs.Prelude.{ℕ, List}
 use Rattle.syntax.specs.Commands.{Cmd}
 use Rattle.syntax.specs.Words.{code_in}
 use Rattle.semantics.specs.Machine.{Thread as SThread}
-use Rattle.table.specs.Lent.{Table}
+use Rattle.table.specs.Lent.{Table, Shown}
 use Rattle.acts.specs.View.{Tables, tables}
 use Rattle.acts.specs.Inner.{put_cells, put_keys, put_pairs, put_functions, put_bindings}
 
 -- the expressions that the heads and slots hold
-abbrev pub lent_code : Table → Table → ℕ → Cmd ℕ
+abbrev pub lent_code : Shown → Shown → ℕ → Cmd ℕ
 lent_code heads slots = code_in heads.entry.now slots.entry.now
 
 -- the machine's six tables, with the threads that there are
@@ -16,8 +16,12 @@ abbrev pub before : List SThread → Table → Table → Table → Table → Tab
 before ts frames cells keys pairs functions bindings =
     tables ts frames.entry.now cells.entry.now keys.entry.now pairs.entry.now functions.entry.now bindings.entry.now
 
--- after an act, which reads frames and functions and writes the others
-abbrev pub after_act : List SThread → Table → Table → Table → Table → Table → Table → Tables
+-- before and after an act, which reads frames and functions and writes the others
+abbrev pub before_act : List SThread → Shown → Table → Table → Table → Shown → Table → Tables
+before_act ts frames cells keys pairs functions bindings =
+    tables ts frames.entry.now cells.entry.now keys.entry.now pairs.entry.now functions.entry.now bindings.entry.now
+
+abbrev pub after_act : List SThread → Shown → Table → Table → Table → Shown → Table → Tables
 after_act ts frames cells keys pairs functions bindings =
     tables ts frames.entry.now cells.exit.now keys.exit.now pairs.exit.now functions.entry.now bindings.exit.now
 
@@ -28,11 +32,11 @@ before_one w cells keys pairs bindings = put_bindings (put_pairs (put_keys (put_
 abbrev pub after_one : Tables → Table → Table → Table → Table → Tables
 after_one w cells keys pairs bindings = put_bindings (put_pairs (put_keys (put_cells w cells.exit.now) keys.exit.now) pairs.exit.now) bindings.exit.now
 
-abbrev pub before_two : Tables → Table → Table → Table → Table → Table → Tables
+abbrev pub before_two : Tables → Table → Shown → Table → Shown → Table → Tables
 before_two w cells keys pairs functions bindings =
     put_bindings (put_functions (put_pairs (put_keys (put_cells w cells.entry.now) keys.entry.now) pairs.entry.now) functions.entry.now) bindings.entry.now
 
-abbrev pub after_two : Tables → Table → Table → Table → Table → Table → Tables
+abbrev pub after_two : Tables → Table → Shown → Table → Shown → Table → Tables
 after_two w cells keys pairs functions bindings =
     put_bindings (put_functions (put_pairs (put_keys (put_cells w cells.exit.now) keys.entry.now) pairs.exit.now) functions.entry.now) bindings.exit.now
 

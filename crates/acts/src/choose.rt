@@ -6,7 +6,7 @@ ghost use Rattle.store.specs.Words.{word_in};
 ghost use Rattle.store.specs.Frames.{held_in, hand_of};
 ghost use Rattle.acts.specs.View.{Tables};
 ghost use Rattle.acts.specs.Inner.{acted, tried};
-ghost use Rattle.acts.specs.Lent.{lent_code, before, after_act, before_one, after_one, before_two, after_two};
+ghost use Rattle.acts.specs.Lent.{lent_code, before_act, after_act, before_one, after_one, before_two, after_two};
 
 use crate::{Acted, Answer, State};
 use store::{BINDING_WORDS, CELL_WORDS, FUNCTION_WORDS, KEY_BYTES, PAIR_WORDS};
@@ -147,7 +147,7 @@ impl State {
     ) -> Acted
         ensures { (ts : List SThread) →
             acted result (after_act ts frames cells keys pairs functions bindings) ≡
-            tried self back (before ts frames cells keys pairs functions bindings)
+            tried self back (before_act ts frames cells keys pairs functions bindings)
             (act (lent_code heads slots at.0) (hand_of held (held_in frames.now top 0) (held_in frames.now top 1) (held_in frames.now top 2) ++ (word_in v ∷ []))) }
     {
         let i = at.0 as usize;

@@ -1,4 +1,6 @@
 // The acts: what each command does with its operands in hand, on the state of a thread and the tables that are lent to it.
+#![tactic(auto)]
+
 mod act;
 mod choose;
 
@@ -14,14 +16,14 @@ use store::{KEY_BYTES, Keys, Kind, Own, Value};
 use table::{Expr, Key};
 
 // An expression to enter or the word of a value to hand on.
-#[derive(Drop)]
+#[derive(Clone, Copy)]
 pub enum Control {
     Enter(Expr),
     Hand(u64),
 }
 
 // The answers of a thread's step. `Starts`: the expression to enter is a 0x42. To start a thread is for who holds all threads, and the step changes nothing.
-#[derive(Drop)]
+#[derive(Clone, Copy)]
 pub enum Answer {
     Taken,
     Finished,
@@ -32,14 +34,14 @@ pub enum Answer {
 }
 
 // The keys of a limit, or a value that is no limit key.
-#[derive(Drop)]
+#[derive(Clone, Copy)]
 pub enum Limits {
     All(Own),
     Other,
 }
 
 // The control, with the bindings and the enabled keys of the expression to enter.
-#[derive(Drop)]
+#[derive(Clone, Copy)]
 pub struct Now {
     pub control: Control,
     pub env: u16,
@@ -48,7 +50,7 @@ pub struct Now {
 
 // What an act changes beside the tables: the thread, and how many entries of the store's tables are used. A count has a word of its own: narrower ones would be packed and unpacked at each
 // act.
-#[derive(Drop)]
+#[derive(Clone, Copy)]
 pub struct State {
     pub now: Now,
     pub frames: u64,
@@ -59,7 +61,7 @@ pub struct State {
     pub bindings: u64,
 }
 
-#[derive(Drop)]
+#[derive(Clone, Copy)]
 pub struct Acted {
     pub state: State,
     pub answer: Answer,

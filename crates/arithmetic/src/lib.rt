@@ -1,4 +1,6 @@
 // Arithmetic on numbers: a sum or difference (0x3A) that passes an end, 4294967295 or 0, stops there; a division (0x41) has two parts, 0 and the dividend where the divisor is 0.
+#![tactic(auto)]
+
 ghost use Rattle.std.specs.Prelude.{◌≡◌, true, false};
 ghost use Rattle.semantics.specs.Step as step;
 ghost use Rattle.semantics.specs.Step.{sum_n};

@@ -11,7 +11,7 @@ use Rattle.semantics.specs.Threads.{Steps}
 use Rattle.semantics.specs.Calls.{Answer, one_step, run_of, Ran, calls, call, last_of}
 use Rattle.calls.specs.Words.{call_words, allowances_at, call_at, calls_from, call_count, calls_in, answer_no, answer_words, result_words}
 use Rattle.calls.specs.Made.{Made, Noted, NotedAll}
-use Rattle.calls.specs.Laws.{sets_full, sets_over, call_run, call_step}
+use Rattle.calls.proofs.Laws.{sets_full, sets_over, call_run, call_step}
 
 -- what n calls from place p on are to write
 abbrev left : Steps → List ℕ → ℕ → ℕ → System → List ℕ

@@ -1,4 +1,3 @@
 pub mod Words
-pub mod Laws
 pub mod WordsBack
 pub mod Made

@@ -1,4 +1,6 @@
 // Lists of calls on the machine: each is a step or a run, made on the machine that the last one gave. The frames of all threads are lent to them.
+#![tactic(auto)]
+
 ghost use Rattle.std.specs.Prelude.{◌≡◌, not, ◌+◌, ◌≤◌, length};
 ghost use Rattle.syntax.specs.Words.{code_in};
 ghost use Rattle.semantics.specs.Threads.{steps_of};

@@ -9,13 +9,13 @@ use Rattle.syntax.specs.Words.{code_in}
 use Rattle.semantics.specs.Machine.{System, most_threads}
 use Rattle.syntax.specs.Loading.{JobTables}
 use Rattle.semantics.specs.Threads.{steps_of}
-use Rattle.semantics.specs.TurnLaws.{lawful}
+use Rattle.semantics.proofs.TurnLaws.{lawful}
 use Rattle.semantics.specs.Starting.{started, unstarted}
 use Rattle.table.specs.Told.{Tells}
 use Rattle.machine.specs.View.{seen}
 use Rattle.machine.proofs.Tells.{seen_few}
 use Rattle.calls.specs.Words.{room_for, over}
-use Rattle.calls.specs.Laws.{results_fit}
+use Rattle.calls.proofs.Laws.{results_fit}
 use Rattle.start.specs.declared.Told.{Told}
 use Rattle.start.specs.declared.Told.TheVariants as told
 use Rattle.start.specs.declared.Opened.{Opened}

@@ -9,7 +9,7 @@ use Rattle.typing.specs.Tables.{Tables}
 use Rattle.semantics.specs.Machine.{System, most_cells}
 use Rattle.machine.specs.View.{seen}
 use Rattle.calls.specs.Words.{over}
-use Rattle.calls.specs.Laws.{over_fits}
+use Rattle.calls.proofs.Laws.{over_fits}
 use Rattle.session.specs.declared.Held.{Held}
 use Rattle.session.specs.Session.{SessionTo}
 use Rattle.results.specs.Told.{out_words, cell_words_lem, lent_short}

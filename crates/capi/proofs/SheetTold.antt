@@ -4,7 +4,7 @@ use Prim.Native.Nat.{ℕ}
 use mathlib.Core.List.{List, [], ◌∷◌}
 use Rattle.table.specs.Told.{TwoPut}
 use Rattle.calls.specs.Words.{over}
-use Rattle.calls.specs.Laws.{sets_over}
+use Rattle.calls.proofs.Laws.{sets_over}
 use Rattle.wall.specs.declared.Listing.{Listing}
 use Rattle.wall.specs.Listed.{SheetTo}
 use Rattle.capi.specs.Sheets.{Sheets}

@@ -20,8 +20,8 @@ use Rattle.calls.specs.Words.{answer_words_lem, call_count, calls_in, room_for, 
 use Rattle.checker.specs.declared.Checked.{Checked}
 use Rattle.judge.specs.declared.Verdict.TheVariants as verdicts
 use Rattle.checker.specs.Answer.{CheckTo}
-use Rattle.safety.specs.Accepting.{accepting}
-use Rattle.safety.specs.FromContracts.{accepted_loads, start_is, loaded_code}
+use Rattle.safety.proofs.Accepting.{accepting}
+use Rattle.safety.proofs.FromContracts.{accepted_loads, start_is, loaded_code}
 use Rattle.capi.specs.Runs.{number_of, opened_with, opened_tables, Runs}
 
 -- the job that the bytes are is started; the results are those of its calls from its start, demand 3 allows them, and they are what is written
@@ -33,25 +33,3 @@ pub record SafeRun (bytes words : List ℕ) (r : ℕ) (a a' : List ℕ) : Type 0
   pub actual : results ≡ calls_of job (calls_in words)
   pub allowed : Allowed job (calls_in words) results
   pub written : a' ≡ result_words results ++ drop (answer_words_lem * call_count words) a
-
-pub accepted_run : (bytes words : List ℕ) → Bytes bytes → {c : Checked} {w x : Tables} {i s : ℕ} → CheckTo bytes c w x → c.verdict ≡ verdicts.Accepted i s
-    → {r : ℕ} (u : JobTables) {y : JobTables} {a a' k k' : List ℕ} → Runs bytes r words u y a a' k k' → short u ≡ false → room_for words a ≡ true → SafeRun bytes words r a a'
-unfolding opened_with opened_tables number_of
-accepted_run bytes words by {c} {w} {x} {i} {s} to v {r} u {y} {a} {a'} h l room =
-    let its = accepting bytes by c w x i s to v in
-    let J = its.job in
-    let loads : loading bytes ≡ read J = accepted_loads bytes J its.verdict its.is in
-    let opens : opened_with (room_for words a) u bytes ≡ started (start_of (source_of J)) = ap (λ (b : Bool). opened_with b u bytes) room ∙ start_is u bytes J l loads in
-    let holds : y ≡ tables_after_load u bytes = h.tables ∙ ap (λ (b : Bool). opened_tables b u bytes) room in
-    let code : code_in y.heads y.slots ≡ expr_of J = fun_ext (loaded_code bytes J by its.is loads u l holds) in
-    record {
-      job = J;
-      is = its.is;
-      number = h.number ∙ ap number_of opens;
-      results = calls_of J (calls_in words);
-      actual = refl;
-      allowed = its.allowed (calls_in words);
-      written =
-          (h.goes (start_of (source_of J)) opens).answers
-          ∙ ap (λ (f : ℕ → Cmd ℕ). result_words (calls (steps_of f) (calls_in words) (start_of (source_of J))) ++ drop (answer_words_lem * call_count words) a) code;
-    }

@@ -1,6 +1,8 @@
-// The check, the machine, reading, writing and the sheet for C and Rust: plain numbers and slices.
+// The check, the machine, reading, writing and the sheet for callers from outside: plain numbers and slices. `capi_c` exports them to C and Rust.
+#![tactic(auto)]
+
 ghost use Rattle.syntax.specs.Words.{code_in};
-ghost use Rattle.table.specs.Lent.{job_before, job_after};
+ghost use Rattle.table.specs.Lent.{job_before, job_after, job_shown, job_tables};
 ghost use Rattle.semantics.specs.Threads.{steps_of};
 ghost use Rattle.machine.specs.View.{seen};
 ghost use Rattle.judge.specs.Lent.{before};
@@ -38,8 +40,7 @@ fn go(
 // allowances. Its answer is ten: number, thread, and the steps of each of eight threads. Another number returned is that of a refusal, whose place goes to
 // rooms[0]; 1 too where the words are no whole number of calls, or the answers have no room for them. Where the job is started rooms are the cells, keys,
 // pairs, functions, frames of all threads, bindings and threads in use at the end.
-#[unsafe(no_mangle)]
-pub extern "C" fn jobdesk_run(
+pub fn jobdesk_run(
     job: &[u8],
     names: &mut [u16],
     types: &mut [u64],
@@ -73,8 +74,7 @@ pub extern "C" fn jobdesk_run(
 
 // Checks the job. Returns the number of its refusal, whose place goes to out[0], or 0 where it is accepted;
 // then out[0] is the entry of the job's type and out[1] its effect.
-#[unsafe(no_mangle)]
-pub extern "C" fn jobdesk_check(
+pub fn jobdesk_check(
     job: &[u8],
     names: &mut [u16],
     types: &mut [u64],
@@ -113,8 +113,7 @@ fn finish(h: Held, value: &mut [u64], cells: &mut [u64], out: &mut [u64]) -> u64
 // `jobdesk_check` has them. value[0] is the kind of a finished job's value, that of thread 0, (1 number, 2 pair, 3 cell, 4 function, 5 limit, 6 grant) and value[1]
 // what it holds; cells[2i] and cells[2i + 1] are the same of cell i; 0 and 0 where there is no value. Where the last call is cut short, or answers, value,
 // cells or out are too short, 1 is returned and nothing at all is written.
-#[unsafe(no_mangle)]
-pub extern "C" fn jobdesk_session(
+pub fn jobdesk_session(
     job: &[u8],
     names: &mut [u16],
     types: &mut [u64],
@@ -158,8 +157,7 @@ pub extern "C" fn jobdesk_session(
 
 // Reads a job into the tables, 1 to 7 alone. Returns 0 where it is read: counts[0] to counts[3] are how many names it declares, types, host values and
 // expressions, counts[4] its rights. Another number is that of the refusal, whose place goes to counts[0]; 1 too where counts has fewer than five words.
-#[unsafe(no_mangle)]
-pub extern "C" fn jobdesk_read(
+pub fn jobdesk_read(
     job: &[u8],
     names: &mut [u16],
     types: &mut [u64],
@@ -177,8 +175,7 @@ pub extern "C" fn jobdesk_read(
 
 // Writes the job that the tables hold, by its counts. Returns 0 where it is written: its bytes stand at the start of the buffer, and out[0] is how many
 // there are. Another number is that of the refusal, whose place goes to out[0]; no byte is written then. The tables are only read.
-#[unsafe(no_mangle)]
-pub extern "C" fn jobdesk_write(
+pub fn jobdesk_write(
     names: &[u16],
     types: &[u64],
     sets: &[u64],
@@ -189,7 +186,7 @@ pub extern "C" fn jobdesk_write(
     buffer: &mut [u8],
     out: &mut [u64],
 ) -> u64
-    ensures { Writes (job_before names types sets values heads slots) (job_after names types sets values heads slots) counts.now result
+    ensures { Writes (job_shown names types sets values heads slots) (job_tables names.exit.now types.exit.now sets.exit.now values.exit.now heads.exit.now slots.exit.now) counts.now result
         buffer.old buffer.new out.old out.new }
 {
     exchange::write(
@@ -200,8 +197,7 @@ pub extern "C" fn jobdesk_write(
 // The sheet of a job for the wall file, as text at the start of `text`; bytes past it stay. Returns 0 where the job is accepted, or the number of the refusal: then
 // the text is the desk program's line. out[0] is how many bytes the text has, and out[1] the place of the refusal. 1 where `text` has fewer than 868 bytes; nothing is
 // written to it then. Where `out` has fewer than two words, it gets those that it has.
-#[unsafe(no_mangle)]
-pub extern "C" fn jobdesk_sheet(job: &[u8], text: &mut [u8], out: &mut [u64]) -> u64
+pub fn jobdesk_sheet(job: &[u8], text: &mut [u8], out: &mut [u64]) -> u64
     ensures { Sheets job.now result text.old text.new out.old out.new }
 {
     let told = wall::sheet(job, text);

@@ -1,12 +1,7 @@
 -- What the loop over the cases keeps, and the test of an answer.
-use mathlib.Core.Path.{◌≡◌, refl, sym, ap, ◌∙◌}
-use Prim.Native.Nat.{ℕ, suc, ◌+◌, ◌-◌, ◌≤◌, ◌<◌}
-use native.Mathlib.Omega.{arith}
-use mathlib.Core.Bool.{Bool, true, false, false≢true}
-use mathlib.Core.List.{List, [], ◌∷◌}
-use lib.ListN.{length, take, drop}
-use borrow.Author.Tests.{le-leb, lt-leb}
-use Rattle.entry.proofs.Leaves.{take_rest, drop_past}
+use Rattle.std.proofs.Common.{◌≡◌, refl, sym, ap, ◌∙◌, ℕ, suc, ◌+◌, ◌-◌, ◌≤◌, ◌<◌, Bool, true, false, List, [], ◌∷◌, length, take, drop, arith, le-leb, drop_of_length-le, le_of_lt}
+use Rattle.std.proofs.lemmas.Bool.{false≢true, lt-leb}
+use Rattle.std.proofs.lemmas.List.{take_rest}
 use Rattle.output.specs.Lines.{printed}
 use Rattle.cases.specs.Cases.{job_length, answer_length, case_length, job_of, answer_of, same, agrees, at_end, after, cases_of, trues, falses, tally_of}
 use Rattle.cases.specs.Laws.{same_equal, equal_same, after_less, cases_next, cases_end}
@@ -77,11 +72,11 @@ answer_part s n b end e f g =
 
 pub after_part : (s : List ℕ) (n : ℕ) → n ≡ case_length s → take (length s - n) (drop n s) ≡ after s
 unfolding after
-after_part s n e = take_rest n s ∙ ap (λ k. drop k s) e
+after_part s n e = take_rest s n ∙ ap (λ k. drop k s) e
 
 pub after_none : (s : List ℕ) (n : ℕ) → n ≡ case_length s → length s < n → [] ≡ after s
 unfolding after
-after_none s n e h = drop_past n s h ∙ ap (λ k. drop k s) e
+after_none s n e h = sym (drop_of_length-le s (le_of_lt h)) ∙ ap (λ k. drop k s) e
 
 pub answer_fits : (s : List ℕ) (n end : ℕ) → n ≡ job_length s → end ≡ case_length s → n + 3 ≤ end
 unfolding case_length

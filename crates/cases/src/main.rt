@@ -1,14 +1,16 @@
 // Runs recorded cases: standard input, of which 65,536 bytes are read, holds jobs and what another
-// implementation prints for each. Standard output says how many of these answers are the desk's.
+// implementation prints for each. Standard output says how many of these answers are the desk's. Where a read fails, it says that of what was read before, and the program ends with an error.
+#![tactic(auto)]
+
 ghost use Rattle.std.specs.Prelude.{◌≡◌};
 ghost use Rattle.output.specs.Lines.{printed};
 ghost use Rattle.cases.specs.Cases.{job_length, answer_length, case_length, same, agrees as agreesOf, at_end, after as after_of, tally_of};
 
 use format::TEXT_BYTES;
-use libc::{STDIN_FILENO, STDOUT_FILENO};
+use std::io;
 
 // How many recorded answers are what the desk prints, and how many are not.
-#[derive(Drop)]
+#[derive(Clone, Copy)]
 struct Tally {
     agree: usize,
     differ: usize,
@@ -111,16 +113,19 @@ fn count(file: &[u8]) -> Tally
 }
 
 // One line of the result.
-fn write(word: &[u8], n: usize) {
-    io::write_all(STDOUT_FILENO, word);
-    io::print_decimal(STDOUT_FILENO, n as u64);
-    io::write_all(STDOUT_FILENO, b"\n");
+fn write(rt: &impl Print, word: &str, n: usize) -> io::Result<()> {
+    println!(rt; "{word}{n}")
 }
 
-fn main() {
+fn main(rt: HostRuntime) -> io::Result<()> {
     let mut file = [0u8; 65536];
-    let n = io::read_full(STDIN_FILENO, &mut file);
+    let input = stream::read_all(&mut rt.stdin(), &mut file);
+    let n = input.length;
     let t = count(&file[..n]);
-    write(b"agree ", t.agree);
-    write(b"differ ", t.differ);
+    write(&rt, "agree ", t.agree)?;
+    write(&rt, "differ ", t.differ)?;
+    if !input.whole {
+        return Err(io::Error::other("standard input cannot be read"));
+    }
+    Ok(())
 }

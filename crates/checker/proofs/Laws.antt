@@ -6,7 +6,6 @@ use mathlib.Core.List.{List}
 use lib.ListN.{length, replicate}
 use lib.Dec.{eqb}
 use Rattle.syntax.specs.Loading.{zeros}
-use Rattle.elaborate.specs.declared.Passed.TheVariants as passed
 use Rattle.checker.specs.Answer.{unless_one}
 
 -- 1 writes nothing, every other number clears

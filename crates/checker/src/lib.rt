@@ -1,4 +1,6 @@
 // The check of a job: it is loaded, its expressions are typed, and its effect is held against its rights; with the tables that it leaves.
+#![tactic(auto)]
+
 ghost use Rattle.std.specs.Prelude.{◌≡◌, List, ℕ};
 ghost use Rattle.syntax.specs.Job.{Job};
 ghost use Rattle.typing.specs.Tables.{cleared};
@@ -13,7 +15,7 @@ use judge::typed;
 use table::{MOST_EXPRESSIONS, Refusal, clear16, clear64};
 
 // A verdict, and how many entries of each kind an accepted job has, with its rights.
-#[derive(Drop)]
+#[derive(Clone, Copy)]
 pub struct Checked {
     pub verdict: Verdict,
     pub shape: Shape,

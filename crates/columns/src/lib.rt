@@ -1,4 +1,6 @@
 // A line of the sheet for the wall file: thirteen columns and the line's end, byte by byte.
+#![tactic(auto)]
+
 ghost use Rattle.std.specs.Prelude.{◌≡◌, cond, ◌<◌};
 ghost use Rattle.output.specs.ColumnLaws.{column, last, columns};
 

@@ -1,11 +1,15 @@
 // The desk program: standard input is a job, and its lines go to standard output. Where a read fails there is no job and no verdict. That, or a write that
-// fails, is said on standard error, where nothing else is written. A program has no exit status of its own: the command `desk` at the top makes one of it.
-ghost use Rattle.std.specs.Prelude.{◌≡◌, cond, []};
+// fails, is said on standard error, where nothing else is written. The exit status is 0 then too, but where nothing can be said: the command `desk` at the top makes one of what is said.
+#![tactic(auto)]
+
+ghost use Rattle.std.specs.Prelude.{◌≡◌, true, false, cond, [], IfSome};
+ghost use Rattle.std.specs.Io.KnownBytes.{Appends, Keeps};
 ghost use Rattle.output.specs.Lines.{printed};
 ghost use Rattle.format.specs.Text.{text_of};
 
 use format::Text;
-use libc::STDERR_FILENO;
+use std::io;
+use std::io::{Read, Write};
 use table::MOST_BYTES;
 
 // The lines for a job that is read whole, and none for another.
@@ -18,16 +22,38 @@ fn reply(job: &[u8], whole: bool) -> Text
     format::empty()
 }
 
-fn main() {
+// Whether the job was read whole, and whether all of its lines were written.
+#[derive(Clone, Copy)]
+struct Served {
+    read: bool,
+    written: bool,
+}
+
+// Reads a job and writes its lines: those of the bytes that the input has. Of a job that cannot be read nothing is written.
+fn serve<R: Read, W: Write>(input: &mut R, output: &mut W) -> Served
+    ensures lines { result.read ≡ true → result.written ≡ true → IfSome (R.remaining input.old)
+        (λ job. Appends (W.contents output.old) (W.contents output.new) (printed job)) }
+    ensures none { result.read ≡ false → Keeps (W.contents output.old) (W.contents output.new) }
+{
     let mut job = [0u8; MOST_BYTES];
-    let input = stream::read_all(&mut job);
-    let n = input.length;
-    let text = reply(&job[..n], input.whole);
+    let told = stream::read_all(input, &mut job);
+    let n = told.length;
+    let text = reply(&job[..n], told.whole);
     let bytes = text.bytes;
-    if !stream::write(&bytes, text.len) {
-        io::write_all(STDERR_FILENO, b"desk: standard output cannot be written\n");
+    let written = stream::write(output, &bytes, text.len);
+    Served {
+        read: told.whole,
+        written,
     }
-    if !input.whole {
-        io::write_all(STDERR_FILENO, b"desk: standard input cannot be read\n");
+}
+
+fn main(rt: HostRuntime) -> io::Result<()> {
+    let served = serve(&mut rt.stdin(), &mut rt.stdout());
+    if !served.written {
+        eprintln!(rt; "desk: standard output cannot be written")?;
     }
+    if !served.read {
+        eprintln!(rt; "desk: standard input cannot be read")?;
+    }
+    Ok(())
 }

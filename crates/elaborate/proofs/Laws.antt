@@ -8,7 +8,7 @@ use types.Run.{OneOf, miss}
 use denote.Enum.Declared.{tag_of}
 use Rattle.syntax.specs.Types.{e_num}
 use Rattle.syntax.specs.Words.{set_word, decode, code_in}
-use Rattle.syntax.specs.DecodeLaws.{decode_cases}
+use Rattle.syntax.proofs.DecodeLaws.{decode_cases}
 use Rattle.typing.specs.Numbered.{Result, makes, points, wrong}
 use Rattle.equality.specs.declared.Entry.{Entry}
 use Rattle.equality.specs.declared.Entry.TheVariants.{Number, Pair, Cell, Limit, Grant}

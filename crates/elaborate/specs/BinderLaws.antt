@@ -7,17 +7,19 @@ use Rattle.std.proofs.Math.Option.{some}
 use Rattle.std.proofs.lemmas.List.{length-map}
 use Rattle.std.proofs.Math.ListN.{get_elem?}
 use Rattle.std.proofs.lemmas.Bool.{eqb-false}
-use Rattle.order.specs.OrderLaws.{length_snoc}
+use Rattle.order.proofs.OrderLaws.{length_snoc}
 use Rattle.syntax.specs.Types.{TypeEntry, e_pair, e_lim, e_grant}
 use Rattle.syntax.specs.Commands.{Cmd}
-use Rattle.syntax.specs.RowLaws as rows
+use Rattle.syntax.proofs.RowLaws as rows
+use Rattle.syntax.specs.RowLaws as rows_defs
 use Rattle.syntax.specs.Operands.{nth}
 use Rattle.syntax.specs.Words.{filled, type_bits, type_word, set_word, type_words, set_words, code_in}
 use Rattle.syntax.specs.Job.{HostValue}
-use Rattle.syntax.specs.ReadFormed.{map_snoc}
-use Rattle.syntax.specs.WordLaws.{filled_set, filled_zero}
+use Rattle.syntax.proofs.ReadFormed.{map_snoc}
+use Rattle.syntax.proofs.WordLaws.{filled_set, filled_zero}
 use Rattle.typing.specs.Layout.{new_keys, key_entries, Typing, typing, host_vars, keys_end, typings_of, bound_vars, entry_of}
-use Rattle.typing.specs.NumberedTables.{with_key, key_split}
+use Rattle.typing.specs.NumberedTables.{with_key}
+use Rattle.typing.proofs.NumberedTables.{key_split}
 use Rattle.elaborate.specs.declared.Binder.{Binder}
 use Rattle.elaborate.specs.declared.Binder.TheVariants.{Nothing, Function, NewKey}
 use Rattle.elaborate.specs.Binders.{binder_by, binder_of, store_key, Bound, bound, bound_one, bound_from, hosts_from}
@@ -57,19 +59,19 @@ keys_by_lem : (k : Cmd ℕ) (l : List (Cmd ℕ)) → new_keys (k ∷ l) ≡ key_
 unfolding new_keys key_of binder_of
 keys_by_lem k l = at (rows.bound k)
   where
-    at : {ps ts qs vs rs : List ℕ} → rows.Bound ps ts qs vs rs → rs ++ new_keys l ≡ key_of (binder_by ps ts qs rs) (new_keys l)
-    at rows.bound_none = refl
-    at rows.bound_type = refl
-    at rows.bound_keys = refl
+    at : {ps ts qs vs rs : List ℕ} → rows_defs.Bound ps ts qs vs rs → rs ++ new_keys l ≡ key_of (binder_by ps ts qs rs) (new_keys l)
+    at rows_defs.bound_none = refl
+    at rows_defs.bound_type = refl
+    at rows_defs.bound_keys = refl
 
 vars_by_lem : (n : ℕ) (k : Cmd ℕ) (l : List (Cmd ℕ)) → bound_vars n (k ∷ l) ≡ var_of (binder_of k) n (bound_vars (step_of (binder_of k) n) l)
 unfolding bound_vars var_of step_of binder_of
 vars_by_lem n k l = at (rows.bound k)
   where
-    at : {ps ts qs vs rs : List ℕ} → rows.Bound ps ts qs vs rs → typings_of n ps ts qs ++ bound_vars (keys_end n rs) l ≡ var_of (binder_by ps ts qs rs) n (bound_vars (step_of (binder_by ps ts qs rs) n) l)
-    at rows.bound_none = refl
-    at rows.bound_type = refl
-    at rows.bound_keys = refl
+    at : {ps ts qs vs rs : List ℕ} → rows_defs.Bound ps ts qs vs rs → typings_of n ps ts qs ++ bound_vars (keys_end n rs) l ≡ var_of (binder_by ps ts qs rs) n (bound_vars (step_of (binder_by ps ts qs rs) n) l)
+    at rows_defs.bound_none = refl
+    at rows_defs.bound_type = refl
+    at rows_defs.bound_keys = refl
 
 -- The entries of each 0x3E
 

@@ -10,20 +10,20 @@ use Rattle.std.proofs.Math.ListN.{length, get_elem?}
 use Rattle.std.proofs.Math.Dec.{eqb}
 use Rattle.order.specs.OrderLaws.{Proper}
 use Rattle.order.specs.Sets.{bit}
-use Rattle.order.specs.SetLaws.{bit_lt}
+use Rattle.order.proofs.SetLaws.{bit_lt}
 use Rattle.order.specs.Effects.{Effect, of_word, eff_below, touch, reduce, drop, raise}
 use Rattle.order.specs.EffectLaws.{Within}
 use Rattle.syntax.specs.Job.{Job, Name, uppers, up_of, source_of}
 use Rattle.syntax.specs.Words.{name_words, filled}
 use Rattle.syntax.specs.ReadLaws.{JobOk}
-use Rattle.syntax.specs.ReadFormed as formed
+use Rattle.syntax.proofs.ReadFormed as formed
 use Rattle.typing.specs.Least.{is_upper}
 use Rattle.typing.specs.Numbered.{Ops}
 use Rattle.typing.specs.NumberedOps.{Agree}
 use Rattle.names.specs.Ancestors.{name_of, names_in, ancestors_by, ancestors_of}
-use Rattle.names.specs.Tables.{names_in_at, names_proper, upper_at, uppers_length}
-use Rattle.names.specs.Pass.{ancestors_by_lem}
-use Rattle.names.specs.Laws.{below_by_lem, eff_below_by_lem, reduce_by_lem, drop_by_lem, touch_by_lem, raise_by_lem}
+use Rattle.names.proofs.Tables.{names_in_at, names_proper, upper_at, uppers_length}
+use Rattle.names.proofs.Pass.{ancestors_by_lem}
+use Rattle.names.proofs.Laws.{below_by_lem, eff_below_by_lem, reduce_by_lem, drop_by_lem, touch_by_lem, raise_by_lem}
 use Rattle.rules.specs.Ops.{ops_by}
 
 -- the operations of a job by its own tables, of which that of names has k entries

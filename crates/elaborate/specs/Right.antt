@@ -10,25 +10,29 @@ use Rattle.std.proofs.Math.ListN.{length, get_or, get_elem?, set, length-append}
 use Rattle.std.proofs.lemmas.List.{length-map, length-replicate}
 use Rattle.order.specs.Effects.{Effect, pure}
 use Rattle.syntax.specs.Types.{Ty, TypeEntry}
-use Rattle.syntax.specs.Commands.{Cmd, c_fn, c_newkey, map_cmd}
+use Rattle.syntax.specs.Commands.{Cmd, c_fn, c_newkey, map_cmd, c_num, c_top, c_var, c_pair, c_part, c_app, c_new, c_asg, c_read, c_sum, c_test, c_lim, c_grant, c_assoc, c_access, c_divide, c_spawn}
 use Rattle.syntax.specs.Operands.{nth, binds_var}
 use Rattle.syntax.specs.Job.{Job, source_of}
 use Rattle.syntax.specs.ReadLaws.{JobOk}
-use Rattle.syntax.specs.ReadFormed.{map_snoc, nth_map, binds_var_map, cmds_formed, job_formed}
+use Rattle.syntax.proofs.ReadFormed.{binds_var_map}
+use Rattle.syntax.proofs.ReadFormed.{map_snoc, nth_map, cmds_formed, job_formed}
 use Rattle.syntax.specs.Tree.{Entry, e_var, binds, tree_refusal}
 use Rattle.syntax.specs.Scope.{VarIn, v_here}
-use Rattle.syntax.specs.Context.{var_twice}
-use Rattle.syntax.specs.TreeExactly.{tree_ok}
+use Rattle.syntax.proofs.Context.{var_twice}
+use Rattle.syntax.proofs.TreeExactly.{tree_ok}
 use Rattle.syntax.specs.Types.{tree}
-use Rattle.syntax.specs.RowLaws as rows
+use Rattle.syntax.proofs.RowLaws as rows
+use Rattle.syntax.specs.RowLaws as rows_defs
 use Rattle.syntax.specs.Words.{filled, name_words, type_word, set_word, type_words, set_words, value_words, head_words, slot_words, effect_words, code_in}
-use Rattle.syntax.specs.WordLaws.{JobFits, zeros_at, filled_at, effect_back, filled_set, values_back, code_back}
+use Rattle.syntax.specs.WordLaws.{JobFits}
+use Rattle.syntax.proofs.WordLaws.{zeros_at, filled_at, effect_back, filled_set, values_back, code_back}
 use Rattle.typing.specs.Layout.{new_keys, key_entries, bound_vars, host_vars, var_entry}
 use Rattle.syntax.specs.Loading.{most_entries}
 use Rattle.typing.specs.Numbered.{Result, makes, points, wrong, result_at, Sofar, settle, number_at, next, Whole, whole, halted, onto, number_all, start_of, numbering}
-use Rattle.typing.specs.NumberedTables.{keys_length}
-use Rattle.typing.specs.NumberedLaws.{Inv, Fits, inv_start, inv_next, inv_fits, number_turn, number_end}
-use Rattle.typing.specs.NumberedWords.{words_back}
+use Rattle.typing.proofs.NumberedTables.{keys_length}
+use Rattle.typing.specs.NumberedLaws.{Fits}
+use Rattle.typing.proofs.NumberedLaws.{Inv, inv_start, inv_next, inv_fits, number_turn, number_end}
+use Rattle.typing.proofs.NumberedWords.{words_back}
 use Rattle.names.specs.Ancestors.{ancestors_by}
 use Rattle.elaborate.specs.declared.Binder.{Binder}
 use Rattle.elaborate.specs.declared.Binder.TheVariants.{Nothing, Function, NewKey}
@@ -54,10 +58,10 @@ vars_are : (k : Cmd ℕ) → vars_by (binder_of k) ≡ binds_var k
 unfolding vars_by binder_of
 vars_are k = at (rows.bound k)
   where
-    at : {ps ts qs vs rs : List ℕ} → rows.Bound ps ts qs vs rs → vars_by (binder_by ps ts qs rs) ≡ vs
-    at rows.bound_none = refl
-    at rows.bound_type = refl
-    at rows.bound_keys = refl
+    at : {ps ts qs vs rs : List ℕ} → rows_defs.Bound ps ts qs vs rs → vars_by (binder_by ps ts qs rs) ≡ vs
+    at rows_defs.bound_none = refl
+    at rows_defs.bound_type = refl
+    at rows_defs.bound_keys = refl
 
 first_in : {x v : ℕ} (T : Ty) (Γ : List Entry) → Memᴰ x (v ∷ []) → VarIn x T (e_var v T ∷ Γ)
 first_in {x} T Γ (mathlib.Core.List.Memᴰ.head e) = subst (λ (y : ℕ). VarIn x T (e_var y T ∷ Γ)) e v_here
@@ -65,6 +69,23 @@ first_in T Γ (mathlib.Core.List.Memᴰ.tail m) = absurd (mathlib.Core.List.Mem�
 
 var_in : (k : Cmd Ty) {x : ℕ} → Memᴰ x (binds_var k) → (T : Ty) × VarIn x T (binds k)
 unfolding binds_var binds
+var_in (c_num _) m = elim m [ ]
+var_in c_top m = elim m [ ]
+var_in (c_var _) m = elim m [ ]
+var_in (c_pair _ _) m = elim m [ ]
+var_in (c_part _ _) m = elim m [ ]
+var_in (c_app _ _) m = elim m [ ]
+var_in (c_new _ _) m = elim m [ ]
+var_in (c_asg _ _) m = elim m [ ]
+var_in (c_read _) m = elim m [ ]
+var_in (c_sum _ _ _) m = elim m [ ]
+var_in (c_test _ _ _ _) m = elim m [ ]
+var_in (c_lim _ _) m = elim m [ ]
+var_in (c_grant _ _) m = elim m [ ]
+var_in (c_assoc _ _) m = elim m [ ]
+var_in (c_access _ _ _ _) m = elim m [ ]
+var_in (c_divide _ _) m = elim m [ ]
+var_in (c_spawn _) m = elim m [ ]
 var_in (c_fn v t b) m = (_, first_in _ _ m)
 var_in (c_newkey v r a b t) m = (_, first_in _ _ m)
 

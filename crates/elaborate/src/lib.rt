@@ -1,4 +1,6 @@
 // Elaboration: from the tables of a job, the type entry and the effect of each expression, and the entries that the job makes.
+#![tactic(auto)]
+
 ghost use Rattle.std.specs.Prelude.{◌≡◌, ◌%◌, ◌≤◌, set};
 ghost use Rattle.syntax.specs.Words.{type_word, set_word, code_in};
 ghost use Rattle.equality.specs.Entry.{entry_of};
@@ -16,7 +18,7 @@ use table::{
 use types::{Entry, MEMORY};
 
 // What an expression binds: a function's variable with the entry of its type, or a variable and a local name by 0x3E.
-#[derive(Drop)]
+#[derive(Clone, Copy)]
 pub enum Binder {
     Nothing,
     Function(u8, u16),
@@ -24,14 +26,14 @@ pub enum Binder {
 }
 
 // The number of entries after an expression, or the number of a refusal.
-#[derive(Drop)]
+#[derive(Clone, Copy)]
 pub enum Next {
     Count(usize),
     Stop(u8),
 }
 
 // All expressions have a type, or the number of the first refusal and its expression.
-#[derive(Drop)]
+#[derive(Clone, Copy)]
 pub enum Passed {
     Whole,
     Halted(u8, u16),

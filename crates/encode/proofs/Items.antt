@@ -1,6 +1,6 @@
 -- The entries of the tables by their words: what stands in them, whether it fits, and their bytes.
 use mathlib.Core.Path.{◌≡◌, refl, sym, ap, ap₂, ◌∙◌}
-use Prim.Native.Nat.{ℕ, ◌+◌, ◌/◌, ◌%◌, ◌^◌, ◌≤◌, ◌<◌}
+use Prim.Native.Nat.{ℕ, ◌/◌, ◌%◌, ◌^◌, ◌≤◌, ◌<◌}
 use native.Mathlib.Omega.{arith}
 use mathlib.Core.Bool.{Bool, true, false, cond, not}
 use mathlib.Core.List.{List, [], ◌∷◌, ◌++◌}
@@ -10,12 +10,11 @@ use borrow.Author.Tests.{lt-ltb, le-ltb, leb-true, leb-false, eq-eqb, ne_eqb, eq
 use Rattle.order.specs.Bools.{◌and◌}
 use Rattle.syntax.specs.Commands.{Op, o_host, o_local, o_number, o_pair, o_cell, o_function, o_limit, o_grant, o_value, o_rights, o_end, form, op_of, operands, width, section_of}
 use Rattle.syntax.specs.Commands.{x_number, x_top, x_variable, x_pair, x_part, x_function, x_apply, x_cell, x_assign, x_read, x_sum, x_test, x_limit, x_grant, x_newkey, x_associate, x_access, x_divide, x_spawn}
-use Rattle.syntax.specs.Widths.{width_byte}
-use Rattle.syntax.specs.WidthsExactly.{width_narrow, width_is, width_none}
 use Rattle.syntax.specs.JobBytes.{bytes_of, operand_bytes, command_bytes}
 use Rattle.syntax.specs.Writing.{item, fault, fits, item_of, type_numbers, fields_of}
-use Rattle.entry.specs.Bytes.{section_byte}
-use Rattle.entry.specs.OpBytes.{byte_of, op_byte, section_is}
+use Rattle.entry.specs.Bytes.{width_byte, section_byte}
+use Rattle.entry.specs.OpBytes.{byte_of}
+use Rattle.entry.proofs.OpBytes.{op_byte, section_is, width_narrow, width_is, width_none}
 use Rattle.encode.specs.Entries.{foreign_by, type_wide, head_wide, type_tail, expr_tail}
 use Rattle.encode.proofs.Laying.{low_two, low_four}
 

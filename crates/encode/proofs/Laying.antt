@@ -6,7 +6,7 @@ use mathlib.Core.List.{List, [], ◌∷◌, ◌++◌, append_assoc}
 use lib.ListN.{length, set, length-append}
 use lib.Seq.{sets}
 use Rattle.syntax.specs.JobBytes.{bytes_of}
-use Rattle.syntax.specs.RowsRead.{bytes_length}
+use Rattle.syntax.proofs.RowsRead.{bytes_length}
 use Rattle.encode.specs.Laid.{most_scratch, Pushed}
 
 sets_append : (l : List ℕ) (at : ℕ) (a b : List ℕ) → sets l at (a ++ b) ≡ sets (sets l at a) (at + length a) b

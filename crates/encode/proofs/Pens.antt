@@ -9,9 +9,9 @@ use lib.ListN.{length}
 use lib.Seq.{sets}
 use lib.Dec.{eqb, ltb}
 use Rattle.syntax.specs.Commands.{Op, operands, width, section_of}
-use Rattle.syntax.specs.ReadPlaces.{width_most, widest_few}
+use Rattle.syntax.proofs.ReadPlaces.{width_most, widest_few}
 use Rattle.syntax.specs.JobBytes.{command_bytes}
-use Rattle.syntax.specs.RowsRead.{all_length}
+use Rattle.syntax.proofs.RowsRead.{all_length}
 use Rattle.syntax.specs.Writing.{Item, item, fault, fits, item_of, Script, script, each, within}
 use Rattle.encode.specs.declared.Pen.{Pen}
 use Rattle.encode.specs.Laid.{Pushed}

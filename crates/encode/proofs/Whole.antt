@@ -14,7 +14,7 @@ use Rattle.encode.specs.declared.Pen.{Pen}
 use Rattle.encode.specs.Laid.{most_scratch, Pushed}
 use Rattle.encode.specs.Entries.{limit_of, entry_item, item_in}
 use Rattle.encode.specs.Penned.{Penned, pen_over, Sectioned, Encoded}
-use Rattle.syntax.specs.RowsRead.{bytes_length}
+use Rattle.syntax.proofs.RowsRead.{bytes_length}
 use Rattle.encode.proofs.Laying.{pushed_then, pushed_as}
 use Rattle.encode.proofs.Pens.{sound_each, penned_as, penned_none, penned_row, penned_stop, penned_then}
 use Rattle.encode.proofs.Sections.{sound_in}

@@ -1,11 +1,10 @@
 -- The entries of the tables by their words, and what the code tells of them by their command bytes.
 use Rattle.std.specs.Prelude.{ℕ, ◌-◌, ◌/◌, ◌%◌, Bool, false, cond, List, [], ◌++◌, eqb, leb}
-use Rattle.syntax.specs.Widths.{width_byte}
 use Rattle.syntax.specs.Reading.{most_names, most_types, most_variables, most_expressions}
 use Rattle.syntax.specs.Loading.{JobTables}
 use Rattle.syntax.specs.JobBytes.{bytes_of}
 use Rattle.syntax.specs.Writing.{Item, within, name_at, type_at, set_at, value_at, head_at, place_at, name_fields, type_fields, value_fields, expr_fields}
-use Rattle.entry.specs.Bytes.{section_byte}
+use Rattle.entry.specs.Bytes.{width_byte, section_byte}
 
 -- 2 for a byte that is no command, 3 for a command of another section, else 0
 unfoldable pub foreign_by : ℕ → ℕ → ℕ

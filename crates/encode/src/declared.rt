@@ -1,7 +1,6 @@
-// The entries of names, types and host values: their faults, and their bytes. `w` is the table of widths.
+// The entries of names, types and host values: their faults, and their bytes.
 ghost use Rattle.std.specs.Prelude.{◌≡◌, ◌+◌, ◌≤◌};
 ghost use Rattle.encode.specs.Laid.{most_scratch, Pushed};
-ghost use Rattle.syntax.specs.Widths.{width_table};
 ghost use Rattle.syntax.specs.Writing.{name_fields, type_fields, value_fields};
 ghost use Rattle.encode.specs.Entries.{type_wide, type_tail};
 ghost use Rattle.encode.specs.Penned.{Penned, alone};
@@ -11,13 +10,12 @@ use super::{Pen, SCRATCH, foreign, pen_at};
 use table::{byte_of, first_of, key_of, name_of, second_of};
 
 // The word of a name: its command above its upper name.
-pub fn name_bytes(d: u16, w: &[u8; 256], out: &mut [u8; SCRATCH], at: usize) -> Pen
-    requires at_bound { at + 14 ≤ most_scratch }
-    requires w_value { w.now ≡ width_table }
+pub fn name_bytes(d: u16, out: &mut [u8; SCRATCH], at: usize) -> Pen
+    requires { at + 14 ≤ most_scratch }
     ensures { Penned out.old out.new at result (alone (name_fields d)) }
 {
     let op = (d / 256) as u8;
-    let f = foreign(op, 0, w);
+    let f = foreign(op, 0);
     if 0 < f {
         return pen_at(at, f);
     }
@@ -56,13 +54,12 @@ fn type_operands(op: u8, d: u64, s: u64, out: &mut [u8; SCRATCH], at: usize) -> 
     }
 }
 
-pub fn type_bytes(d: u64, s: u64, w: &[u8; 256], out: &mut [u8; SCRATCH], at: usize) -> Pen
-    requires at_bound { at + 14 ≤ most_scratch }
-    requires w_value { w.now ≡ width_table }
+pub fn type_bytes(d: u64, s: u64, out: &mut [u8; SCRATCH], at: usize) -> Pen
+    requires { at + 14 ≤ most_scratch }
     ensures { Penned out.old out.new at result (alone (type_fields d s)) }
 {
     let op = byte_of(d);
-    let f = foreign(op, 1, w);
+    let f = foreign(op, 1);
     if 0 < f {
         return pen_at(at, f);
     }
@@ -74,13 +71,12 @@ pub fn type_bytes(d: u64, s: u64, w: &[u8; 256], out: &mut [u8; SCRATCH], at: us
 }
 
 // The word of a host value: its command, its type, its number.
-pub fn value_bytes(d: u64, w: &[u8; 256], out: &mut [u8; SCRATCH], at: usize) -> Pen
-    requires at_bound { at + 14 ≤ most_scratch }
-    requires w_value { w.now ≡ width_table }
+pub fn value_bytes(d: u64, out: &mut [u8; SCRATCH], at: usize) -> Pen
+    requires { at + 14 ≤ most_scratch }
     ensures { Penned out.old out.new at result (alone (value_fields d)) }
 {
     let op = byte_of(d);
-    let f = foreign(op, 2, w);
+    let f = foreign(op, 2);
     if 0 < f {
         return pen_at(at, f);
     }

@@ -1,7 +1,6 @@
-// The entries of expressions: their faults, and their bytes. `w` is the table of widths.
+// The entries of expressions: their faults, and their bytes.
 ghost use Rattle.std.specs.Prelude.{◌≡◌, ◌+◌, ◌≤◌};
 ghost use Rattle.encode.specs.Laid.{most_scratch, Pushed};
-ghost use Rattle.syntax.specs.Widths.{width_table};
 ghost use Rattle.syntax.specs.Writing.{expr_fields};
 ghost use Rattle.encode.specs.Entries.{head_wide, expr_tail};
 ghost use Rattle.encode.specs.Penned.{Penned, alone};
@@ -84,16 +83,14 @@ pub fn expr_bytes(
     c: u16,
     d: u16,
     e: u16,
-    w: &[u8; 256],
     out: &mut [u8; SCRATCH],
     at: usize,
 ) -> Pen
-    requires at_bound { at + 14 ≤ most_scratch }
-    requires w_value { w.now ≡ width_table }
+    requires { at + 14 ≤ most_scratch }
     ensures { Penned out.old out.new at result (alone (expr_fields h a b c d e)) }
 {
     let op = byte_of(h);
-    let f = foreign(op, 4, w);
+    let f = foreign(op, 4);
     if 0 < f {
         return pen_at(at, f);
     }

@@ -16,19 +16,20 @@ use Rattle.syntax.specs.Commands.{Cmd, c_lim, Op, form, allowed, o_host, o_local
 use Rattle.syntax.specs.Commands.{x_number, x_top, x_variable, x_pair, x_part, x_function, x_apply, x_cell, x_assign, x_read, x_sum, x_test, x_limit, x_grant, x_newkey, x_associate, x_access, x_divide, x_spawn}
 use Rattle.syntax.specs.Job.{Name, HostValue, Job, uppers}
 use Rattle.syntax.specs.Words.{name_word, type_word, filled, slots}
-use Rattle.syntax.specs.WidthsExactly.{width_is, width_narrow}
 use Rattle.syntax.specs.Reading.{State, declared, host_name, name_ok, type_ok, host_value_ok, set_ok, rights_ok, cmd_ok, Written, w_name, w_type, w_value, w_rights, w_cmd, w_end, unwritten, means, written, given, enter, misplaced, full}
 use Rattle.syntax.specs.Reading.{Step, refuse, proceed, finish, settle, command}
-use Rattle.syntax.specs.ReadLaws.{TypesOk, Wrote, wrote_name, wrote_type, wrote_value, wrote_rights, wrote_cmd, wrote_end, wrote_none, wrote}
+use Rattle.syntax.specs.ReadLaws.{TypesOk, Wrote, wrote_name, wrote_type, wrote_value, wrote_rights, wrote_cmd, wrote_end, wrote_none}
+use Rattle.syntax.proofs.ReadLaws.{wrote}
 use Rattle.names.specs.Ancestors.{names_in, declared_of, ancestors_by, set_ok_by}
-use Rattle.names.specs.Laws.{set_ok_by_lem, rights_ok_by_lem}
-use Rattle.names.specs.Pass.{ancestors_by_lem}
+use Rattle.names.proofs.Laws.{set_ok_by_lem, rights_ok_by_lem}
+use Rattle.names.proofs.Pass.{ancestors_by_lem}
 use Rattle.entry.specs.Bytes.{field_at, section_byte, misplaced_by, full_by}
 use Rattle.entry.specs.Entries.{named_of, name_entry, value_entry, rights_entry, form_entry, entry_of, in_room, judged_by, entry_in, judged_in, stops_of, sort_of}
 use Rattle.entry.specs.Shapes.{shape_of}
 use Rattle.entry.specs.declared.Entry.{Entry}
 use Rattle.entry.specs.declared.Entry.TheVariants.{Refuse, Named, Rights, Last}
-use Rattle.entry.specs.OpBytes.{byte_of, op_byte}
+use Rattle.entry.specs.OpBytes.{byte_of}
+use Rattle.entry.proofs.OpBytes.{op_byte, width_narrow, width_is}
 use Rattle.entry.proofs.Ops.{misplaced_is, full_is, fields_from, fields_from_lem}
 use Rattle.entry.proofs.Entered.{ok_w, extended, enter_is, entry_w, judged_w}
 use Rattle.entry.proofs.ExprLaws as exprs

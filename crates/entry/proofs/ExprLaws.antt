@@ -16,7 +16,8 @@ use Rattle.syntax.specs.Operands.{plain, inner, children, types_of, uses_var, bi
 use Rattle.syntax.specs.Job.{Job}
 use Rattle.syntax.specs.Words.{head_word, slots, filled}
 use Rattle.syntax.specs.Reading.{Written, w_cmd, unwritten, written, local_name, cmd_ok}
-use Rattle.syntax.specs.WrittenLaws.{part_of, sum_of, limit_of, written_part, written_sum, written_limit}
+use Rattle.syntax.specs.WrittenLaws.{part_of, sum_of, limit_of}
+use Rattle.syntax.proofs.WrittenLaws.{written_part, written_sum, written_limit}
 use Rattle.entry.specs.Bytes.{field_at, digit_of, offsets_of, kinds_of, slot_in, lead_of, form_of, slot_ok, slots_ok, key_ok, limit_ok}
 use Rattle.entry.specs.Entries.{either_of, binds_ok, new_key_ok, lead_ok, places_ok, form_entry}
 use Rattle.entry.specs.declared.Entry.{Entry}

@@ -6,8 +6,7 @@ use mathlib.Core.List.{List, [], ◌∷◌}
 use lib.ListN.{length, get_or, take, drop, length-drop, drop_of_length-le}
 use lib.Seq.{take_all}
 use Rattle.syntax.specs.Commands.{little}
-use Rattle.syntax.specs.Widths.{width_byte}
-use Rattle.entry.specs.Bytes.{rest_of}
+use Rattle.entry.specs.Bytes.{rest_of, width_byte}
 
 pub little_one : (s : List ℕ) → length s ≡ 1 → get_or s 0 0 ≡ little s
 unfolding little

@@ -5,3 +5,4 @@ pub mod ExprLaws
 pub mod TypeLaws
 pub mod ValueLaws
 pub mod Agree
+pub mod OpBytes

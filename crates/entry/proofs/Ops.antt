@@ -13,7 +13,8 @@ use Rattle.syntax.specs.Commands.{Op, total, section_of, little, fields}
 use Rattle.syntax.specs.Job.{Job}
 use Rattle.syntax.specs.Reading.{State, misplaced, full}
 use Rattle.entry.specs.Bytes.{field_at, section_byte, misplaced_by, full_by}
-use Rattle.entry.specs.OpBytes.{byte_of, sections, section_is}
+use Rattle.entry.specs.OpBytes.{byte_of}
+use Rattle.entry.proofs.OpBytes.{sections, section_is}
 
 -- number 3 and number 5 by section
 or_none : (a : Bool) → (((a or false) or false) or false) ≡ cond a true false

@@ -12,13 +12,13 @@ use borrow.Author.Tests.{lt-ltb, le-ltb, ltb-true, ltb-false}
 use Rattle.order.specs.Bools.{◌and◌}
 use Rattle.order.specs.Effects.{of_word}
 use Rattle.syntax.specs.Types.{TypeEntry, e_num, e_pair, e_cell, e_fn, e_lim, e_grant, entry_tree, tree, depth}
-use Rattle.syntax.specs.TypeLaws.{tree_new}
+use Rattle.syntax.proofs.TypeLaws.{tree_new}
 use Rattle.syntax.specs.Commands.{o_number, o_pair, o_cell, o_function, o_limit, o_grant, operands}
 use Rattle.syntax.specs.Job.{Job}
 use Rattle.syntax.specs.Words.{type_word, set_word}
 use Rattle.syntax.specs.Reading.{declared, set_ok, parts_ok, type_ok, w_type, written}
 use Rattle.syntax.specs.ReadLaws.{TypesOk}
-use Rattle.syntax.specs.ReadFormed.{parts_earlier, types_earlier}
+use Rattle.syntax.proofs.ReadFormed.{parts_earlier, types_earlier}
 use Rattle.names.specs.Ancestors.{declared_of, set_ok_by}
 use Rattle.entry.specs.Bytes.{field_at}
 use Rattle.entry.specs.Entries.{part_depth, deeper_of, two_depths, typed_of, key_type_of, function_of, type_by, type_entry}

@@ -8,15 +8,16 @@ use mathlib.Core.Option.{some}
 use lib.ListN.{length, get_or, get_elem?}
 use lib.Dec.{eqb, ltb}
 use borrow.Author.Tests.{eq-eqb, ne_eqb, eqb-true, eqb-false, lt-ltb, le-ltb, ltb-true}
-use Rattle.order.specs.Bools.{◌and◌, and_l, and_r}
-use Rattle.order.specs.OrderLaws.{get_elem?_some}
+use Rattle.order.specs.Bools.{◌and◌}
+use Rattle.order.proofs.Bools.{and_l, and_r}
+use Rattle.order.proofs.OrderLaws.{get_elem?_some}
 use Rattle.syntax.specs.Types.{Ty, TypeEntry, e_num, e_pair, e_cell, e_fn, e_lim, e_grant, entry_tree, tree, by_type, on_num, on_cell, on_grant, on_lim}
 use Rattle.syntax.specs.Commands.{o_value, operands}
 use Rattle.syntax.specs.Job.{Name, Job}
 use Rattle.syntax.specs.Words.{type_word, value_word}
 use Rattle.syntax.specs.Reading.{declared, open_name, parts_ok, unkeyed_number, host_type_ok, host_value_ok, written}
 use Rattle.syntax.specs.ReadLaws.{TypesOk}
-use Rattle.syntax.specs.ReadFormed.{entry_parts, tree_at}
+use Rattle.syntax.proofs.ReadFormed.{entry_parts, tree_at}
 use Rattle.entry.specs.Bytes.{field_at}
 use Rattle.entry.specs.Entries.{host_word_ok, value_entry}
 use Rattle.entry.specs.declared.Entry.TheVariants.{Refuse, Valued}

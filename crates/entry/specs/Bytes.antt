@@ -1,13 +1,21 @@
--- What the reader takes from the bytes of a job: operands, sections, the rest.
+-- What the reader takes from the bytes of a job: operands, widths, sections, the rest.
 use Rattle.std.specs.Prelude.{ℕ, ◌+◌, ◌-◌, ◌*◌, ◌/◌, ◌%◌, ◌^◌, Bool, true, false, cond, List, length, get_or, take, drop, eqb, ltb, leb}
-use Rattle.syntax.specs.Commands.{little}
-use Rattle.syntax.specs.Widths.{width_byte}
+use Rattle.std.proofs.Math.Option.{Option, none, some}
+use Rattle.syntax.specs.Commands.{Op, op_of, width, little}
 use Rattle.syntax.specs.Reading.{most_names, most_types, most_variables, most_expressions}
 use Rattle.entry.specs.declared.Form.{Form}
 
 -- the operand of w bytes at `at`; 0 where the bytes end before it does
 unfoldable pub field_at : ℕ → List ℕ → ℕ → ℕ
 field_at w s at = cond (leb (at + w) (length s)) (little (take w (drop at s))) 0
+
+-- how many bytes follow a command byte; 255 for a byte that is no command
+unfoldable pub width_on : Option Op → ℕ
+width_on none = 255
+width_on (some o) = width o
+
+unfoldable pub width_byte : ℕ → ℕ
+width_byte b = width_on (op_of b)
 
 -- the section of a command byte; commands from 0x30 on are expressions, but for the end
 unfoldable pub section_byte : ℕ → ℕ

@@ -2,10 +2,9 @@
 use Rattle.std.specs.Prelude.{ℕ, ◌+◌, ◌*◌, ◌/◌, ◌%◌, Bool, true, false, cond, List, length, get_or, eqb, ltb, leb}
 use Rattle.syntax.specs.Job.{Name}
 use Rattle.syntax.specs.Words.{type_bits}
-use Rattle.syntax.specs.Widths.{width_byte}
 use Rattle.syntax.specs.Reading.{most_variables, most_depth, host_name, open_name, local_name}
 use Rattle.names.specs.Ancestors.{names_in, declared_of, ancestors_by, set_ok_by, rights_ok_by}
-use Rattle.entry.specs.Bytes.{field_at, section_byte, misplaced_by, full_by, form_of, slots_ok, limit_ok}
+use Rattle.entry.specs.Bytes.{field_at, width_byte, section_byte, misplaced_by, full_by, form_of, slots_ok, limit_ok}
 use Rattle.entry.specs.declared.Form.{Form}
 use Rattle.entry.specs.declared.Shape.{Shape}
 use Rattle.entry.specs.declared.Entry.{Entry}

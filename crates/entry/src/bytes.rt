@@ -1,10 +1,8 @@
-// The bytes of a job: operands of fixed width, the section of a command, the rest after it.
+// The bytes of a job: operands of fixed width, the width and the section of a command, the rest after it.
+
 ghost use Rattle.std.specs.Prelude.{◌≡◌, length, get_or};
 ghost use Rattle.syntax.specs.Commands.{little};
-ghost use Rattle.syntax.specs.Widths.{width_table};
-ghost use Rattle.entry.specs.Bytes.{field_at, section_byte, rest_of};
-
-use widths::width;
+ghost use Rattle.entry.specs.Bytes.{field_at, width_byte, section_byte, rest_of};
 
 // Operands of one, two, four and eight bytes, the low byte first.
 fn low8(s: &[u8]) -> u8
@@ -91,6 +89,45 @@ pub fn first(job: &[u8]) -> u8
     if 0 < job.len() { job[0] } else { 0 }
 }
 
+// How many bytes follow a command byte; 255 for a byte that is no command.
+pub fn width(op: u8) -> u8
+    ensures { result ≡ width_byte op }
+{
+    match op {
+        0x01 => 1,
+        0x02 => 1,
+        0x10 => 1,
+        0x11 => 5,
+        0x12 => 3,
+        0x13 => 13,
+        0x14 => 2,
+        0x15 => 2,
+        0x20 => 6,
+        0x21 => 8,
+        0x30 => 4,
+        0x31 => 0,
+        0x32 => 1,
+        0x33 => 4,
+        0x34 => 3,
+        0x35 => 5,
+        0x36 => 4,
+        0x37 => 4,
+        0x38 => 4,
+        0x39 => 2,
+        0x3A => 5,
+        0x3B => 8,
+        0x3C => 11,
+        0x3D => 4,
+        0x3E => 8,
+        0x3F => 4,
+        0x40 => 8,
+        0x41 => 4,
+        0x42 => 2,
+        0xFF => 0,
+        _ => 255,
+    }
+}
+
 // The section of a command byte: names, types, host values, rights, expressions, the end.
 pub fn section(op: u8) -> u8
     ensures { result ≡ section_byte op }
@@ -114,12 +151,11 @@ pub fn section(op: u8) -> u8
 }
 
 // The unread rest of the job, from its next command on. Where operands are missing: nothing.
-pub fn rest<'a>(job: &'a [u8], widths: &[u8; 256]) -> &'a [u8]
-    requires { widths.now ≡ width_table }
+pub fn rest(job: &[u8]) -> &[u8]
     ensures { result.now ≡ rest_of job.now }
 {
     let op = first(job);
-    let w = width(widths, op);
+    let w = width(op);
     let n = w as usize + 1;
     if n <= job.len() { &job[n..] } else { &job[..0] }
 }

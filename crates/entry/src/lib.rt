@@ -1,23 +1,23 @@
 // What one command of a job comes to: its operands, the conditions on it, and the words of its entry.
+#![tactic(auto)]
+
 mod bytes;
 mod declared;
 mod exprs;
 
 ghost use Rattle.std.specs.Prelude.{◌≡◌, get_or};
-ghost use Rattle.syntax.specs.Widths.{width_table};
 ghost use Rattle.entry.specs.Bytes.{misplaced_by, full_by};
 ghost use Rattle.entry.specs.Shapes.{no_shape};
 ghost use Rattle.entry.specs.Entries.{entry_of, judged_by};
 
 use bytes::first;
-pub use bytes::{rest, section};
+pub use bytes::{rest, section, width};
 use declared::{name_entry, rights_entry, type_entry, value_entry};
 use exprs::form_entry;
 use table::{MOST_DECLARED, MOST_EXPRESSIONS, MOST_NAMES, MOST_TYPES, MOST_VARIABLES};
-use widths::width;
 
 // How many entries of each kind a job has, and its rights.
-#[derive(Drop)]
+#[derive(Clone, Copy)]
 pub struct Shape {
     pub names: usize,
     pub types: usize,
@@ -40,7 +40,7 @@ pub fn no_shape() -> Shape
 }
 
 // The words of an expression: its head and its five places.
-#[derive(Drop)]
+#[derive(Clone, Copy)]
 pub struct Form {
     pub head: u64,
     pub a: u16,
@@ -51,7 +51,7 @@ pub struct Form {
 }
 
 // What one command comes to: a refusal's number, the words of an entry (of a type its set and its depth too), or the job's end.
-#[derive(Drop)]
+#[derive(Clone, Copy)]
 pub enum Entry {
     Refuse(u8),
     Named(u16),
@@ -128,7 +128,6 @@ fn entry_of<'a>(
 // What the first command comes to in section `cur`: a refusal 2, 3, 4, 5 or 6, tested in this order, or an entry.
 pub fn judged<'a>(
     job: &'a [u8],
-    widths: &[u8; 256],
     cur: u8,
     h: Shape,
     anc: &'a [u64; MOST_NAMES],
@@ -136,11 +135,10 @@ pub fn judged<'a>(
     types: &'a [u64],
     depths: &'a [u8],
 ) -> Entry
-    requires { widths.now ≡ width_table }
     ensures { result ≡ judged_by (get_or job.now 0 0) job.now cur h anc.now names.now types.now depths.now }
 {
     let op = first(job);
-    let w = width(widths, op);
+    let w = width(op);
     if w == 255 {
         return Entry::Refuse(2);
     }

@@ -11,7 +11,7 @@ use lib.Dec.{eqb}
 use borrow.Author.Tests.{eqb-true, ne_eqb}
 use Rattle.order.specs.Effects.{same_effect}
 use Rattle.syntax.specs.Words.{entry_in}
-use Rattle.syntax.specs.WordLaws.{zeros_at}
+use Rattle.syntax.proofs.WordLaws.{zeros_at}
 use Rattle.typing.specs.Entries.{same_in, sub_in, super_in}
 use Rattle.names.specs.Ancestors.{below_by, eff_below_by, effects_by}
 use Rattle.equality.specs.Known.{Known, pick, turned_of, keys_by, heads_by, leaves_of, compared_in, pack_of}

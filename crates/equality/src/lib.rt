@@ -1,4 +1,6 @@
 // Types in a lent table of words: what an entry stands for, what is remembered of comparisons, and whether two types are equal.
+#![tactic(auto)]
+
 ghost use Rattle.std.specs.Prelude.{◌≡◌, true, get_or, set, eqb};
 ghost use Rattle.syntax.specs.Words.{entry_in};
 ghost use Rattle.typing.specs.Entries.{same_in};
@@ -12,7 +14,7 @@ use table::{MOST_NAMES, Name, at64, byte_of, first_of, key_of, name_of, second_o
 pub const MEMORY: usize = 1021;
 
 // A type by its head: its key's name, and the entries of its parts; a function has its effect, and a key the name that it is for.
-#[derive(Drop)]
+#[derive(Clone, Copy)]
 pub enum Entry {
     Number(Name),
     Pair(Name, u16, u16),

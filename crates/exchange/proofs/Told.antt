@@ -7,7 +7,6 @@ use mathlib.Core.List.{List}
 use lib.ListN.{length, set}
 use lib.Dec.{ltb}
 use borrow.Author.Tests.{lt-ltb, le-ltb}
-use Rattle.syntax.specs.Job.{Job}
 use Rattle.syntax.specs.Reading.{Read, refused, read}
 use Rattle.syntax.specs.Loading.{JobTables, read_with, tables_after_read}
 use Rattle.syntax.specs.Writing.{Sent, sent, unsent, write_with, buffer_after}

@@ -5,15 +5,17 @@ use Rattle.std.proofs.Common.{sym, ap, ap₂, ◌∙◌, arith, append-nil, inl,
 use Rattle.syntax.specs.Types.{TypeEntry}
 use Rattle.syntax.specs.Job.{Job}
 use Rattle.syntax.specs.Reading.{Refusal, Read, refused, read, refused_at, reading}
-use Rattle.syntax.specs.ReadPlaces.{refused_number}
+use Rattle.syntax.proofs.ReadPlaces.{refused_number}
 use Rattle.syntax.specs.WordLaws.{Bytes}
 use Rattle.syntax.specs.Loading.{JobTables, short, filled_with, holding, read_with, tables_after_read}
 use Rattle.syntax.specs.Writing.{Sent, sent, unsent, unsent_at, write_with, buffer_after}
 use Rattle.syntax.specs.WrittenBack as back
-use Rattle.syntax.specs.WrittenBack.{sent_back}
-use Rattle.syntax.specs.WrittenRead.{Held, written_read, write_sent}
-use Rattle.syntax.specs.ScriptLaws.{Number, number_pos}
-use Rattle.syntax.specs.WrittenRefusals.{write_number}
+use Rattle.syntax.proofs.WrittenBack.{sent_back}
+use Rattle.syntax.specs.WrittenRead.{Held}
+use Rattle.syntax.proofs.WrittenRead.{written_read, write_sent}
+use Rattle.syntax.specs.ScriptLaws.{Number}
+use Rattle.syntax.proofs.ScriptLaws.{number_pos}
+use Rattle.syntax.proofs.WrittenRefusals.{write_number}
 use Rattle.entry.specs.Shapes.{shape_of, counts_of}
 use Rattle.entry.specs.declared.Shape.{Shape}
 use Rattle.exchange.specs.Exchanges.{laid_counts, shape_in, read_by, tables_read_by, read_number, counts_after, Reads, written_by, sent_number, sent_word, Writes}

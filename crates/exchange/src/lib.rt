@@ -1,6 +1,8 @@
 // Reading a job into tables and writing it from them, for C and Rust: plain numbers and slices.
+#![tactic(auto)]
+
 ghost use Rattle.std.specs.Prelude.{◌≡◌};
-ghost use Rattle.table.specs.Lent.{job_before, job_after};
+ghost use Rattle.table.specs.Lent.{job_before, job_after, job_shown, job_tables};
 ghost use Rattle.exchange.specs.Exchanges.{shape_in, laid_counts, Reads, Writes};
 
 use job::Answer;
@@ -72,7 +74,7 @@ pub fn write(
     buffer: &mut [u8],
     out: &mut [u64],
 ) -> u64
-    ensures { Writes (job_before names types sets values heads slots) (job_after names types sets values heads slots) counts.now result
+    ensures { Writes (job_shown names types sets values heads slots) (job_tables names.exit.now types.exit.now sets.exit.now values.exit.now heads.exit.now slots.exit.now) counts.now result
         buffer.old buffer.new out.old out.new }
 {
     if counts.len() < COUNTS {

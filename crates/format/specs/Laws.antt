@@ -10,7 +10,7 @@ use Rattle.semantics.specs.Calls.{finished, spent, noroom}
 use Rattle.format.specs.declared.Sort.{Sort}
 use Rattle.format.specs.declared.Sort.TheVariants.{Number, Pair, Cell, Function, Limit, Grant}
 use Rattle.output.specs.Lines.{decimal, space, line, w_accepted, w_done, w_spent, w_no_room, w_number, w_pair, w_cell, w_function, w_limit, w_grant, type_kind, value_kind, handed, accepted_line, ran_line}
-use Rattle.output.specs.LineLaws.{decimal_length, hex_length}
+use Rattle.output.proofs.LineLaws.{decimal_length, hex_length}
 use Rattle.format.specs.Text.{text_bytes, joined, sort_word, sort_words, type_sort, kind_sort, kind_number, accepted_as, done_as, spent_as, no_room_as}
 
 -- the word of a type's kind

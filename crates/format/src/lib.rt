@@ -1,11 +1,13 @@
 // The desk program's lines, each from its parts: the number and the place of a refusal, the effect and the kind of an accepted job, the steps and the value of its run.
+#![tactic(auto)]
+
 ghost use Rattle.std.specs.Prelude.{◌≡◌, [], ◌∷◌, ◌<◌};
 ghost use Rattle.order.specs.Effects.{of_word};
 ghost use Rattle.output.specs.Lines.{decimal_in, hex_digit, hex, refused_line};
 ghost use Rattle.format.specs.Text.{text_of, joined, sort_word, sort_words, accepted_as, done_as, spent_as, no_room_as};
 
 // The kind of a type or of a value.
-#[derive(Drop)]
+#[derive(Clone, Copy)]
 pub enum Sort {
     Number,
     Pair,

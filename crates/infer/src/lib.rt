@@ -1,4 +1,6 @@
 // The type and effect of one expression: its command and operands are read from the tables, and the rule of the command is applied.
+#![tactic(auto)]
+
 ghost use Rattle.std.specs.Prelude.{◌≡◌, ℕ, ◌≤◌, ◌/◌, ◌%◌, get_or};
 ghost use Rattle.order.specs.Effects.{of_word};
 ghost use Rattle.syntax.specs.Words.{code_in, entry_in};

@@ -7,13 +7,14 @@ use native.Mathlib.Omega.{arith}
 use borrow.Author.Tests.{ltb-false, lt-leb, le-leb, lt-ltb, le-ltb, leb-true}
 use lib.Dec.{ltb, leb}
 use lib.ListN.{get_or, length-replicate}
-use Rattle.order.specs.Bools.{◌and◌, and_l, and_r}
+use Rattle.order.specs.Bools.{◌and◌}
+use Rattle.order.proofs.Bools.{and_l, and_r}
 use Rattle.order.specs.Sets.{set_of}
 use Rattle.order.specs.Effects as effects
 use Rattle.syntax.specs.Job.{Src}
 use Rattle.syntax.specs.Reading.{most_expressions}
 use Rattle.syntax.specs.Tree.{root, predecessor}
-use Rattle.syntax.specs.Context.{predecessor_minus}
+use Rattle.syntax.proofs.Context.{predecessor_minus}
 use Rattle.semantics.specs.Start.{Named, named, key_named, Valued, valued, add_values}
 use Rattle.names.specs.Ancestors.{names_in}
 use Rattle.store.specs.Meaning.{keys_in}

@@ -8,7 +8,7 @@ use native.Mathlib.Numerals.{add-one}
 use borrow.Author.Tests.{eq-eqb, ne_eqb}
 use lib.ListN.{length, get_or, set}
 use lib.ListN.{get_or-eq_default}
-use Rattle.order.specs.OrderLaws.{get_elem?_get_d, length_snoc}
+use Rattle.order.proofs.OrderLaws.{get_elem?_get_d, length_snoc}
 use Rattle.syntax.specs.Job.{Name}
 use Rattle.semantics.specs.Machine.{b_name}
 use Rattle.semantics.specs.Start.{bind_to, Named, add_name, add_names}

@@ -8,10 +8,10 @@ use borrow.Author.Tests.{lt-ltb}
 use lib.Dec.{ltb}
 use lib.Bits.{bit_and, bit_or, or_zero_l, or_zero_r, or_comm}
 use Rattle.order.specs.Sets.{members_from, members, set_of}
-use Rattle.order.specs.SetLaws.{or_assoc}
+use Rattle.order.proofs.SetLaws.{or_assoc}
 use Rattle.order.specs.Effects.{of_word, names}
 use Rattle.names.specs.Ancestors.{lowest, nonzero}
-use Rattle.names.specs.Walk.{members_step, names_members}
+use Rattle.names.proofs.Walk.{members_step, names_members}
 use Rattle.store.specs.Meaning.{keys_in}
 use Rattle.store.specs.Tables.{capped}
 use Rattle.initial.specs.Entries.{Within}

@@ -7,8 +7,9 @@ use Rattle.std.proofs.Math.Option.{Option, none, some}
 use borrow.Author.Tests.{ltb-true, eqb-true, lt-ltb, le-leb}
 use Rattle.std.proofs.Math.ListN.{length, get_or, get_elem?}
 use Rattle.std.proofs.lemmas.List.{length-map, length-replicate}
-use Rattle.order.specs.Bools.{◌and◌, and_l, and_r}
-use Rattle.order.specs.OrderLaws.{get_elem?_lt}
+use Rattle.order.specs.Bools.{◌and◌}
+use Rattle.order.proofs.Bools.{and_l, and_r}
+use Rattle.order.proofs.OrderLaws.{get_elem?_lt}
 use Rattle.order.specs.Sets.{set_of}
 use Rattle.order.specs.Effects as effects
 use Rattle.syntax.specs.Types.{Ty, num, pair, cell, fn, lim, grant, TypeEntry, e_num, e_pair, e_cell, e_fn, e_lim, e_grant, entry_tree, tree_in, tree, by_type, on_num, on_cell, on_grant, on_lim}
@@ -17,13 +18,15 @@ use Rattle.syntax.specs.Job.{Name, HostValue, Job, Src, value_of, source_of}
 use Rattle.syntax.specs.Tree.{root, predecessor}
 use Rattle.syntax.specs.Words.{name_word, type_word, value_word, name_words, type_words, value_words, filled}
 use Rattle.syntax.specs.Reading.{declared, parts_ok, type_ok, unkeyed_number, host_type_ok, host_value_ok}
-use Rattle.syntax.specs.ReadLaws.{JobOk, built_at}
-use Rattle.syntax.specs.ReadFormed.{upper_ok, entry_parts}
-use Rattle.syntax.specs.WordLaws.{JobFits, value_back, filled_at, map_at, word_at}
+use Rattle.syntax.specs.ReadLaws.{JobOk}
+use Rattle.syntax.proofs.ReadLaws.{built_at}
+use Rattle.syntax.proofs.ReadFormed.{upper_ok, entry_parts}
+use Rattle.syntax.specs.WordLaws.{JobFits}
+use Rattle.syntax.proofs.WordLaws.{value_back, filled_at, map_at, word_at}
 use Rattle.semantics.specs.Machine.{enter, System}
 use Rattle.semantics.specs.Start.{first_thread, first_store, start_of, named, key_named, valued, add_names, add_values}
 use Rattle.names.specs.Ancestors.{names_in}
-use Rattle.names.specs.Tables.{names_held}
+use Rattle.names.proofs.Tables.{names_held}
 use Rattle.initial.specs.Entries.{head_of, host_of, values_from}
 use Rattle.initial.specs.Empty.{no_job}
 use Rattle.initial.specs.Begun.{word_source, is_job, source_in}

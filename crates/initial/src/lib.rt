@@ -1,4 +1,6 @@
 // The machine's tables at the start of a job: keys, cells, bindings, enabled keys.
+#![tactic(auto)]
+
 ghost use Rattle.std.specs.Prelude.{◌≡◌, cond, map, ◌<◌, ◌≤◌, ◌+◌};
 ghost use Rattle.order.specs.Sets.{set_of};
 ghost use Rattle.order.specs.Effects as effects;
@@ -281,7 +283,7 @@ fn is_job(nnames: usize, nvalues: usize, cmds: usize) -> bool
 }
 
 // How many names, host values and expressions a start has, and its rights.
-#[derive(Drop)]
+#[derive(Clone, Copy)]
 struct Counts {
     names: usize,
     values: usize,

@@ -9,7 +9,7 @@ use lib.Seq.{get_or-set_same, get_or-set_other}
 use borrow.Author.Tests.{lt-ltb}
 use Rattle.syntax.specs.Job.{Name}
 use Rattle.names.specs.Ancestors.{name_of, names_in, entered, ancestors_by}
-use Rattle.names.specs.Pass.{pass_next}
+use Rattle.names.proofs.Pass.{pass_next}
 use Rattle.entry.specs.Entries.{judged_by, judged_in}
 use Rattle.entry.specs.Shapes.{shape_of}
 use Rattle.entry.specs.declared.Shape.{Shape}

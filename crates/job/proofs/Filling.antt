@@ -4,9 +4,9 @@ use Prim.Native.Nat.{ℕ, suc, ◌+◌, ◌-◌, ◌≤◌, ◌<◌}
 use native.Mathlib.Omega.{arith}
 use mathlib.Core.List.{List, [], ◌∷◌, ◌++◌, flat_map, append_assoc, append-nil}
 use lib.ListN.{length, get_or, set, replicate}
-use Rattle.order.specs.OrderLaws.{length_snoc}
+use Rattle.order.proofs.OrderLaws.{length_snoc}
 use Rattle.syntax.specs.Words.{filled}
-use Rattle.syntax.specs.WordLaws.{filled_set}
+use Rattle.syntax.proofs.WordLaws.{filled_set}
 use Rattle.entry.specs.declared.Form.{Form}
 use Rattle.job.specs.After.{five_at}
 

@@ -10,27 +10,27 @@ use lib.ListN.{length, get_or, set, drop, replicate, length-drop, length-map, le
 use lib.Seq.{get_or-set_same, get_or-set_other}
 use lib.Dec.{ltb, leb}
 use borrow.Author.Tests.{leb-true, ltb-true, ltb-false, eq-eqb, ne_eqb}
-use Rattle.order.specs.OrderLaws.{length_snoc}
+use Rattle.order.proofs.OrderLaws.{length_snoc}
 use Rattle.order.specs.Effects.{of_word}
 use Rattle.syntax.specs.Types.{TypeEntry, tree, depth}
-use Rattle.syntax.specs.TypeLaws.{tree_kept}
+use Rattle.syntax.proofs.TypeLaws.{tree_kept}
 use Rattle.syntax.specs.Commands.{Cmd, Op, op_of, width, section_of}
 use Rattle.syntax.specs.Job.{Name, HostValue, Job}
 use Rattle.syntax.specs.Words.{filled, name_word, type_word, set_word, value_word, head_word, slots, name_words, type_words, set_words, value_words, head_words, slot_words}
 use Rattle.syntax.specs.Reading.{State, Written, w_name, w_type, w_value, w_rights, w_cmd, Step, refuse, proceed, finish, command, refused_at, read, ended, onward, on_op, read_from, no_job, reading}
-use Rattle.syntax.specs.ReadLaws.{TypesOk, Sofar, StepOk, step_refuse, step_proceed, step_finish, step_ok, at_start}
-use Rattle.syntax.specs.ReadFormed.{map_snoc, names_proper, types_earlier}
-use Rattle.syntax.specs.Widths.{width_byte}
-use Rattle.syntax.specs.WidthsExactly.{width_is, width_none}
-use Rattle.syntax.specs.WordLaws.{filled_none, filled_length, word_at}
+use Rattle.syntax.specs.ReadLaws.{TypesOk, Sofar, StepOk, step_refuse, step_proceed, step_finish}
+use Rattle.syntax.proofs.ReadLaws.{step_ok, at_start}
+use Rattle.syntax.proofs.ReadFormed.{map_snoc, names_proper, types_earlier}
+use Rattle.syntax.proofs.WordLaws.{filled_none, filled_length, word_at}
 use Rattle.names.specs.Ancestors.{names_in}
-use Rattle.names.specs.Tables as tables
-use Rattle.entry.specs.Bytes.{rest_of}
+use Rattle.names.proofs.Tables as tables
+use Rattle.entry.specs.Bytes.{width_byte, rest_of}
 use Rattle.entry.specs.Entries.{judged_by, judged_in, stops_of, sort_of}
 use Rattle.entry.specs.Shapes.{shape_of, no_shape}
 use Rattle.entry.specs.declared.Shape.{Shape}
 use Rattle.entry.specs.declared.Entry.{Entry}
 use Rattle.entry.specs.declared.Entry.TheVariants.{Refuse, Named, Typed, Valued, Rights, Formed}
+use Rattle.entry.proofs.OpBytes.{width_is, width_none}
 use Rattle.entry.proofs.Entered.{extended, words_of, new_depth, entry_w}
 use Rattle.entry.proofs.Agree.{Kept, Adds, adds_name, adds_type, adds_value, adds_rights, adds_cmd, Agrees, ag_refuse, ag_last, ag_on, agrees, sort_on}
 use Rattle.job.specs.After.{names_after, types_after, sets_after, depths_after, values_after, heads_after, slots_after, shape_after}

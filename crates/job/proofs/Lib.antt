@@ -5,3 +5,5 @@ pub mod Arms
 pub mod Ancestors
 pub mod Turn
 pub mod Zeros
+pub mod ReadTables
+pub mod Told

@@ -8,7 +8,7 @@ use lib.ListN.{length, get_or, set, length-set}
 use lib.Seq.{get_or-set_same, get_or-set_other}
 use lib.Dec.{ltb}
 use borrow.Author.Tests.{lt-ltb, le-ltb}
-use Rattle.table.specs.Lent.{Table}
+use Rattle.table.specs.Lent.{Table, Shown}
 use Rattle.names.specs.Ancestors.{names_in, ancestors_by}
 use Rattle.entry.specs.Bytes.{rest_of}
 use Rattle.entry.specs.Entries.{judged_by, judged_in, stops_of, sort_of}
@@ -17,14 +17,15 @@ use Rattle.entry.specs.declared.Entry.{Entry}
 use Rattle.entry.specs.declared.Entry.TheVariants.{Refuse, Named, Typed, Valued, Rights, Formed, Last}
 use Rattle.job.specs.After.{names_after, types_after, sets_after, values_after, heads_after, slots_after, ancestors_after, shape_after}
 use Rattle.job.specs.Answer.{Filled, Put}
-use Rattle.job.specs.Told.{number_of, lent_of, counted_by, stopped_by, counted_is, stopped_is, stops_is}
+use Rattle.job.specs.Told.{number_of, lent_of, counted_by, stopped_by}
+use Rattle.job.proofs.Told.{counted_is, stopped_is, stops_is}
 use Rattle.job.specs.Lent.{PutLent, entry_for, Command}
 use Rattle.job.specs.declared.Answer.{Answer}
 use Rattle.job.proofs.Going.{Loop, loop_turn, loop_stop}
 use Rattle.job.proofs.Ancestors.{ancestors_turn, judged_kept}
 
 -- what the reader does makes one command read
-pub read_one : {job : Table} {cur : ℕ} {g : Shape} {anc d n t s v h p told rights : Table} {rest : List ℕ} {e : Entry} {i j k : ℕ} → e ≡ entry_for job cur g anc d n t → PutLent e g d n t s v h p
+pub read_one : {job : Shown} {cur : ℕ} {g : Shape} {anc d n t s v h p told rights : Table} {rest : List ℕ} {e : Entry} {i j k : ℕ} → e ≡ entry_for job cur g anc d n t → PutLent e g d n t s v h p
     → anc.exit.now ≡ ancestors_after e g.names anc.entry.now → i ≡ sort_of e → j ≡ number_of e → k ≡ lent_of e → told.exit.now ≡ set (set told.entry.now 0 i) 1 j
     → rights.exit.now ≡ set rights.entry.now 0 k → rest ≡ rest_of job.entry.now → Command job cur g anc d n t s v h p told rights rest
 read_one {job} {cur} {g} {anc} {d} {n} {t} {s} {v} {h} {p} {told} {rights} {rest} {e} ee put qa qi qj qk qt qr ql =

@@ -41,34 +41,3 @@ counted_by kind s g =
 
 unfoldable pub stopped_by : ℕ → ℕ → Shape → ℕ → ℕ → Answer
 stopped_by kind n g place left = cond (eqb kind 5) (cond (eqb left 1) (answers.Job g) (refused_by 7 (place + 1))) (refused_by n place)
-
--- they say the same as the entry
-pub counted_is : (e : Entry) (g : Shape) → stops_of e ≡ false → counted_by (sort_of e) (lent_of e) g ≡ shape_after e g
-unfolding sort_of lent_of counted_by shape_after stops_of
-counted_is (Refuse n) g h = absurd (true≢false h)
-counted_is (Named w) g h = refl
-counted_is (Typed w s d) g h = refl
-counted_is (Valued w) g h = refl
-counted_is (Rights s) g h = refl
-counted_is (Formed f) g h = refl
-counted_is Last g h = absurd (true≢false h)
-
-pub stopped_is : (e : Entry) (g : Shape) (place left : ℕ) → stops_of e ≡ true → stopped_by (sort_of e) (number_of e) g place left ≡ stopped_of e g place left
-unfolding sort_of number_of stopped_by stopped_of stops_of
-stopped_is (Refuse n) g p l h = refl
-stopped_is (Named w) g p l h = absurd (true≢false (sym h))
-stopped_is (Typed w s d) g p l h = absurd (true≢false (sym h))
-stopped_is (Valued w) g p l h = absurd (true≢false (sym h))
-stopped_is (Rights s) g p l h = absurd (true≢false (sym h))
-stopped_is (Formed f) g p l h = absurd (true≢false (sym h))
-stopped_is Last g p l h = refl
-
-pub stops_is : (e : Entry) → ltb 4 (sort_of e) ≡ stops_of e
-unfolding sort_of stops_of
-stops_is (Refuse n) = refl
-stops_is (Named w) = refl
-stops_is (Typed w s d) = refl
-stops_is (Valued w) = refl
-stops_is (Rights s) = refl
-stops_is (Formed f) = refl
-stops_is Last = refl

@@ -1,8 +1,9 @@
 // Reading a job: command by command, and the tables that its entries fill.
+#![tactic(auto)]
+
 mod tables;
 
 ghost use Rattle.std.specs.Prelude.{◌≡◌, ◌<◌, true};
-ghost use Rattle.syntax.specs.Widths.{width_table};
 ghost use Rattle.syntax.specs.Reading.{reading};
 ghost use Rattle.job.specs.Answer.{refused_by, answer_of, is_job, long_tables, Small, Cleared};
 ghost use Rattle.job.specs.Told.{stopped_by};
@@ -15,7 +16,7 @@ pub use table::{Refusal, clear16, clear64};
 pub use tables::{clear_all, long_enough};
 use tables::{counted, enter, lent, number, put, sort};
 
-#[derive(Drop)]
+#[derive(Clone, Copy)]
 pub enum Answer {
     Job(Shape),
     Refused(Refusal),
@@ -57,7 +58,6 @@ fn is_job(a: Answer) -> bool
 // `rights`, and the unread rest of the job, from the next command on, is handed back. Where reading stops, the tables stay as they are.
 fn command<'a>(
     job: &'a [u8],
-    widths: &[u8; 256],
     cur: u8,
     g: Shape,
     anc: &mut [u64; MOST_NAMES],
@@ -71,12 +71,11 @@ fn command<'a>(
     told: &mut [u8; 2],
     rights: &mut [u64; 1],
 ) -> &'a [u8]
-    requires small { Small g }
-    requires widths_value { widths.now ≡ width_table }
+    requires { Small g }
     ensures { Command job cur g anc depths names types sets values heads slots told rights result.now }
 {
-    let next = rest(job, widths);
-    let e = judged(job, widths, cur, g, anc, names, types, depths);
+    let next = rest(job);
+    let e = judged(job, cur, g, anc, names, types, depths);
     put(e, g, depths, names, types, sets, values, heads, slots);
     enter(e, g.names, anc);
     told[0] = sort(e);
@@ -86,9 +85,8 @@ fn command<'a>(
 }
 
 // Command by command from the first on: the tables, all zero, take the entries.
-fn commands(
+fn fill(
     job: &[u8],
-    widths: &[u8; 256],
     names: &mut [u16],
     types: &mut [u64],
     sets: &mut [u64],
@@ -98,7 +96,6 @@ fn commands(
 ) -> Answer
     requires slots_value { long_tables names.old types.old sets.old values.old heads.old slots.old ≡ true }
     requires cleared { Cleared names.old types.old sets.old values.old heads.old slots.old }
-    requires widths_value { widths.now ≡ width_table }
     ensures { FilledLent job result names types sets values heads slots }
 {
     let mut left = job;
@@ -111,7 +108,6 @@ fn commands(
     while 0 < left.len() {
         let next = command(
             left,
-            widths,
             cur,
             g,
             &mut anc,
@@ -134,24 +130,6 @@ fn commands(
         left = next;
     }
     refused(4, job.len())
-}
-
-// All commands of a job into the tables, all zero. The table of widths is made here, once for all of them.
-fn fill(
-    job: &[u8],
-    names: &mut [u16],
-    types: &mut [u64],
-    sets: &mut [u64],
-    values: &mut [u64],
-    heads: &mut [u64],
-    slots: &mut [u16],
-) -> Answer
-    requires slots_value { long_tables names.old types.old sets.old values.old heads.old slots.old ≡ true }
-    requires cleared { Cleared names.old types.old sets.old values.old heads.old slots.old }
-    ensures { FilledLent job result names types sets values heads slots }
-{
-    let widths = widths::table();
-    commands(job, &widths, names, types, sets, values, heads, slots)
 }
 
 // What reading the bytes answers, without a lent table: the counts of their job, or the first refusal.

@@ -9,7 +9,7 @@ use Rattle.syntax.specs.WordLaws.{Bytes}
 use Rattle.typing.specs.Verdict as rules
 use Rattle.typing.specs.Tables.{Tables, short}
 use Rattle.typing.specs.Numbered.{Sofar, whole, numbering}
-use Rattle.typing.specs.NumberedLaws.{Inv}
+use Rattle.typing.proofs.NumberedLaws.{Inv}
 use Rattle.typing.specs.NumberedVerdict.{last_entry, last_effect, filled_from}
 use Rattle.elaborate.specs.OpsLaws.{job_ops}
 use Rattle.entry.specs.declared.Shape.{Shape}

@@ -5,25 +5,27 @@ use Rattle.std.proofs.Common.{◌∙◌, arith, ltb-false}
 use mathlib.Core.List.{List, []}
 use Rattle.std.proofs.Math.Option.{none}
 use Rattle.std.proofs.Math.ListN.{length, get_or, length-map}
-use Rattle.order.specs.Bools.{◌or◌}
 use Rattle.syntax.specs.Types.{tree}
 use Rattle.syntax.specs.Job.{Job, source_of}
 use Rattle.syntax.specs.Reading.{read, reading, most_expressions}
-use Rattle.syntax.specs.ReadLaws.{JobOk, read_ok, or_none}
+use Rattle.syntax.specs.ReadLaws.{JobOk}
+use Rattle.syntax.proofs.ReadLaws.{read_ok, or_none}
 use Rattle.syntax.specs.Tree.{predecessor, tree_refusal}
 use Rattle.order.specs.Effects.{Effect, of_word}
 use Rattle.syntax.specs.Words.{filled, name_words, type_word, set_word, type_words, set_words, value_words, head_words, slot_words, effect_words}
-use Rattle.syntax.specs.WordLaws.{JobFits, job_fits, filled_at, effect_back, filled_none, filled_length}
+use Rattle.syntax.specs.WordLaws.{JobFits}
+use Rattle.syntax.proofs.WordLaws.{job_fits, filled_at, effect_back, filled_none, filled_length}
 use Rattle.syntax.specs.Loading.{JobTables, zeros, filled_with}
-use Rattle.syntax.specs.Loading as loads
-use Rattle.syntax.specs.LoadLaws as lengths
-use Rattle.syntax.specs.LoadLaws.{loaded}
+use Rattle.syntax.proofs.LoadLaws as lengths
+use Rattle.syntax.specs.LoadLaws as lengths_defs
+use Rattle.syntax.proofs.LoadLaws.{loaded}
 use Rattle.typing.specs.Verdict as rules
-use Rattle.typing.specs.Least.{types}
 use Rattle.typing.specs.Tables.{Tables, short}
 use Rattle.typing.specs.Numbered.{Sofar, Whole, whole, halted, numbering}
-use Rattle.typing.specs.NumberedLaws.{Inv, Fits, inv_fits}
-use Rattle.typing.specs.NumberedVerdict.{last_of, last_entry, last_effect, filled_from, verdict_halted, verdict_beyond, verdict_within}
+use Rattle.typing.specs.NumberedLaws.{Fits}
+use Rattle.typing.proofs.NumberedLaws.{Inv, inv_fits}
+use Rattle.typing.specs.NumberedVerdict.{last_of, last_entry, last_effect, filled_from}
+use Rattle.typing.proofs.NumberedVerdict.{verdict_halted, verdict_beyond, verdict_within}
 use Rattle.names.specs.Ancestors.{names_in, ancestors_by, eff_below_by, effects_by}
 use Rattle.elaborate.specs.declared.Passed.{Passed}
 use Rattle.elaborate.specs.declared.Passed.TheVariants as passed
@@ -32,8 +34,6 @@ use Rattle.elaborate.specs.OpsLaws.{job_ops, agree, names_held}
 use Rattle.elaborate.specs.Right.{Reached, r_whole, r_halted, numbered_right}
 use Rattle.entry.specs.declared.Shape.{Shape}
 use Rattle.entry.specs.Shapes.{shape_of}
-use Rattle.job.specs.declared.Answer.TheVariants as answers
-use Rattle.load.specs.Cases.{refused_by_lem}
 use Rattle.judge.specs.declared.Verdict.TheVariants.{Accepted, Refused}
 use Rattle.judge.specs.Answer as judged
 use Rattle.judge.specs.Answer.{tables, Given, Untyped, Judged, accepted}
@@ -42,7 +42,7 @@ use Rattle.judge.specs.Answer.{tables, Given, Untyped, Judged, accepted}
 
 -- each table is as long as its limit
 pub record Long (w : Tables) : Type 0 where
-  pub job : lengths.Long w.job
+  pub job : lengths_defs.Long w.job
   pub entries : most_expressions ≤ length w.entries
   pub effects : most_expressions ≤ length w.effects
 

@@ -1,15 +1,17 @@
 // Judging a job that is loaded: its expressions are typed (11 to 13, 16), and its effect is held against its rights (14).
+#![tactic(auto)]
+
 ghost use Rattle.std.specs.Prelude.{◌≡◌, List, ℕ, ◌%◌};
 ghost use Rattle.syntax.specs.Job.{Job};
 ghost use Rattle.judge.specs.Answer.{Given, Untyped, Judged};
-ghost use Rattle.judge.specs.Lent.{before, typed_after};
+ghost use Rattle.judge.specs.Lent.{typed_before, typed_after};
 
 use elaborate::Passed;
 use job::Shape;
 use table::{at16, at64, last};
 
 // Accepted, with the entry of the job's type and its effect; or refused, with the number and the place.
-#[derive(Drop)]
+#[derive(Clone, Copy)]
 pub enum Verdict {
     Accepted(u16, u64),
     Refused(u8, usize),
@@ -34,8 +36,8 @@ pub fn typed<'a>(
     effects: &mut [u64],
 ) -> Verdict
     ensures { (bytes : List ℕ) (J : Job)
-        → Given bytes J g (before names types sets values heads slots entries effects)
-        → Untyped (before names types sets values heads slots entries effects)
+        → Given bytes J g (typed_before names types sets values heads slots entries effects)
+        → Untyped (typed_before names types sets values heads slots entries effects)
         → Judged bytes J result (typed_after names types sets values heads slots entries effects) }
 {
     let anc = names::ancestors(names, g.names);

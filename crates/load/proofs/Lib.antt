@@ -1,2 +1,4 @@
 pub mod Laws
 pub mod Tables
+pub mod Cases
+pub mod Kept

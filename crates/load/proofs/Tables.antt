@@ -5,20 +5,23 @@ use native.Mathlib.Omega.{arith}
 use mathlib.Core.Bool.{Bool, true, false, cond, not}
 use mathlib.Core.List.{List}
 use lib.ListN.{length}
-use Rattle.order.specs.Bools.{◌or◌}
 use Rattle.syntax.specs.Job.{Job, source_of}
 use Rattle.syntax.specs.Reading.{Read, refused, read, refused_at, reading}
-use Rattle.syntax.specs.ReadLaws.{JobOk, read_ok}
-use Rattle.syntax.specs.WordLaws.{Bytes, JobFits, job_fits}
+use Rattle.syntax.specs.ReadLaws.{JobOk}
+use Rattle.syntax.proofs.ReadLaws.{read_ok}
+use Rattle.syntax.specs.WordLaws.{Bytes, JobFits}
+use Rattle.syntax.proofs.WordLaws.{job_fits}
 use Rattle.syntax.specs.Tree.{tree_refusal}
 use Rattle.syntax.specs.Words.{filled, name_words, type_words, set_words, head_words, slot_words}
 use Rattle.syntax.specs.Loading.{JobTables, short, zeros, cleared, filled_with, loading, load_with, holding, tables_after_load}
-use Rattle.syntax.specs.LoadLaws.{load_refused, load_whole, load_out, long_load, long_after, Lengths, cleared_same}
+use Rattle.syntax.specs.LoadLaws.{Lengths}
+use Rattle.syntax.proofs.LoadLaws.{load_refused, load_whole, load_out, long_load, long_after, cleared_same}
 use Rattle.entry.specs.declared.Shape.{Shape}
 use Rattle.entry.specs.Shapes.{shape_of}
 use Rattle.job.specs.declared.Answer.{Answer}
 use Rattle.job.specs.declared.Answer.TheVariants as answers
-use Rattle.job.specs.ReadTables.{left, short_tables, tables_left}
+use Rattle.job.specs.ReadTables.{left}
+use Rattle.job.proofs.ReadTables.{short_tables, tables_left}
 use Rattle.job.specs.Answer.{long_tables, answer_of, refused_by, ReadTo, Zeroed}
 use Rattle.table.specs.Lent.{job_tables}
 use Rattle.table.specs.declared.Refusal.{Refusal}

@@ -1,4 +1,6 @@
 // Loading a job: its bytes are read into the lent tables and its tree is checked. The check and the start of a job both begin with it.
+#![tactic(auto)]
+
 ghost use Rattle.table.specs.Lent.{job_before, job_after};
 ghost use Rattle.load.specs.Loads.{LoadTo};
 

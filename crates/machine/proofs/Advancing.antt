@@ -10,14 +10,14 @@ use lib.ListN.{length, get_or, set}
 use borrow.Author.Tests.{eqb-true, ltb-true, ltb-false}
 use types.Run.{OneOf, miss}
 use denote.Enum.Declared.{tag_of}
-use Rattle.order.specs.Bools.{◌and◌, and_l, and_r, and2}
+use Rattle.order.proofs.Bools.{and_l, and_r, and2}
 use Rattle.syntax.specs.Commands.{Cmd, c_spawn, form, row}
 use Rattle.syntax.specs.Operands.{plain}
-use Rattle.syntax.specs.DecodeLaws.{decode_cases}
+use Rattle.syntax.proofs.DecodeLaws.{decode_cases}
 use Rattle.syntax.specs.Words.{code_in}
 use Rattle.semantics.specs.Machine.{most_threads}
-use Rattle.semantics.specs.SpawnLaws.{is_spawn}
-use Rattle.semantics.specs.Threads.{steps_of, live}
+use Rattle.semantics.proofs.SpawnLaws.{is_spawn}
+use Rattle.semantics.specs.Threads.{steps_of}
 use Rattle.semantics.specs.Calls.{total}
 use Rattle.store.specs.declared.Used.{Used}
 use Rattle.store.specs.Frames.{threads_words}
@@ -40,7 +40,7 @@ use Rattle.machine.specs.OneTurn.{less_total, less_few, turns_none}
 use Rattle.machine.specs.Scheduled.{system_in, marked, whose_in, turned_in, Started}
 use Rattle.machine.proofs.Lefts.{total_few}
 use Rattle.machine.proofs.Picked.{nobody_asked, marked_at, among, small, someone}
-use Rattle.machine.proofs.Moves.{answer_no_lem, held_without, stays, fails, passes, not_live, held_stayed, full, starts, held_started}
+use Rattle.machine.proofs.Moves.{answer_no_lem, held_without, fails, passes, not_live, held_stayed, full, starts, held_started}
 
 -- Answers by their tags
 

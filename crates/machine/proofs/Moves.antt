@@ -13,11 +13,11 @@ use borrow.Author.Tests.{eqb-true, eqb-false, eq-eqb, ne_eqb, ltb-true, ltb-fals
 use Rattle.syntax.specs.Commands.{Cmd, c_spawn}
 use Rattle.semantics.specs.Machine.{Control, enter, hand, Thread as SThread, Machine as Clean, System, most_threads}
 use Rattle.semantics.specs.Step.{o_step, fresh, step}
-use Rattle.semantics.specs.OthersUnseen.{spawning}
-use Rattle.semantics.specs.SpawnLaws.{spawn_is}
+use Rattle.semantics.proofs.OthersUnseen.{spawning}
+use Rattle.semantics.proofs.SpawnLaws.{spawn_is}
 use Rattle.semantics.specs.Room.{is_done}
 use Rattle.semantics.specs.Threads.{steps_of, alone, live_thread, live, Turn, Asked}
-use Rattle.semantics.specs.Rounds.{get_other}
+use Rattle.semantics.proofs.Rounds.{get_other}
 use Rattle.store.specs.declared.Used.{Used}
 use Rattle.acts.specs.Meaning.{StepAnswer, s_taken, s_finished, s_noroom, s_stuck, s_denied, s_starts}
 use Rattle.acts.specs.View.{Tables, tables, view}

@@ -6,10 +6,12 @@ use mathlib.Core.Bool.{Bool, true, false≢true}
 use mathlib.Core.Option.{Option, none, some, some-injective, none-ne-some}
 use mathlib.Core.List.{List}
 use lib.ListN.{length, get_or}
-use Rattle.order.specs.Bools.{◌and◌, and_l, and_r, and2}
+use Rattle.order.specs.Bools.{◌and◌}
+use Rattle.order.proofs.Bools.{and_l, and_r, and2}
 use Rattle.semantics.specs.Machine.{System, most_threads}
 use Rattle.semantics.specs.Threads.{live_thread, live, first_from, Turn, in_round, next, Asked}
-use Rattle.semantics.specs.TurnLaws.{FirstIs, first_at, nowhere, first_is, NextIs, in_round_lem, new_round, nobody, next_is, next_holds}
+use Rattle.semantics.specs.TurnLaws.{FirstIs, first_at, nowhere, NextIs, in_round_lem, new_round, nobody}
+use Rattle.semantics.proofs.TurnLaws.{first_is, next_is, next_holds}
 use Rattle.acts.specs.View.{Tables}
 use Rattle.machine.specs.declared.Scheduler.{Scheduler}
 use Rattle.machine.specs.Turns.{has_left}

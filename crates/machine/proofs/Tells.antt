@@ -11,11 +11,13 @@ use denote.Enum.Declared.{tag_of}
 use lib.Dec.{ltb, leb}
 use lib.ListN.{length, get_elem?, get_or}
 use borrow.Author.Tests.{ltb-true, ltb-false, le-leb, lt-leb}
-use Rattle.order.specs.Bools.{◌and◌, and_l}
+use Rattle.order.specs.Bools.{◌and◌}
+use Rattle.order.proofs.Bools.{and_l}
 use Rattle.syntax.specs.Commands.{Cmd}
 use Rattle.semantics.specs.Machine.{Thread as SThread, most_threads}
 use Rattle.semantics.specs.Threads.{Steps, steps_of, live_thread, live, all_done, first_from, in_round, next}
-use Rattle.semantics.specs.TurnLaws.{FirstIs, first_at, nowhere, first_is, next_is, next_holds, live_some, live_lt, done_live, lawful}
+use Rattle.semantics.specs.TurnLaws.{FirstIs, first_at, nowhere}
+use Rattle.semantics.proofs.TurnLaws.{first_is, next_is, next_holds, live_some, live_lt, done_live, lawful}
 use Rattle.semantics.specs.Calls as SCalls
 use Rattle.semantics.specs.Calls.{Ran, ran, no_steps, always, one_step, run_of, call}
 use Rattle.store.specs.Tables.{capped}

@@ -8,7 +8,7 @@ use Rattle.std.proofs.Math.Option.{none, some}
 use Rattle.std.proofs.Math.Logic.{⊎_elim}
 use Rattle.std.proofs.Math.ListN.{get_elem?}
 use Rattle.std.proofs.Math.Seq.{set-append_left, set_at}
-use Rattle.order.specs.OrderLaws.{get_elem?_append, get_elem?_at}
+use Rattle.order.proofs.OrderLaws.{get_elem?_append, get_elem?_at}
 use Rattle.machine.specs.Scheduled.{listed}
 
 less : (b : Bool) (i n : ℕ) → ltb i n ≡ b → i < suc n → (i < n) ⊎ (i ≡ n)

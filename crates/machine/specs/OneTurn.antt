@@ -2,7 +2,7 @@
 use Rattle.std.proofs.Math.Path.{◌≡◌, refl, ap, ap₂}
 use Rattle.std.proofs.Common.{sym, ◌∙◌, arith, length-set, get_or-set_other}
 use Prim.Native.Nat.{ℕ, zero, suc, ◌-◌, ◌≤◌, ◌<◌}
-use Rattle.std.specs.Prelude.{Bool, List, [], ◌∷◌, ◌++◌, ◌≢◌, length, get_or, set, ltb}
+use Rattle.std.specs.Prelude.{Bool, List, [], ◌∷◌, ◌++◌, length, get_or, set, ltb}
 use Rattle.std.proofs.Math.Bool.{true, false, cond}
 use Rattle.std.proofs.lemmas.Bool.{false≢true}
 use Rattle.std.proofs.Math.Option.{Option, none, some, some-injective, none-ne-some}
@@ -13,11 +13,12 @@ use Rattle.syntax.specs.Operands.{evaluated}
 use Rattle.semantics.specs.Machine.{Control, k_num, unkeyed, enter, hand, Thread, Machine as Clean, System, most_threads}
 use Rattle.semantics.specs.Step.{Out, o_step, o_done, o_room, o_stuck, o_denied, fresh, bare, room, touch_all, settle, act_spawn, act, enter_at, enter_cmd, plan_on, plan, step}
 use Rattle.semantics.specs.Room.{done_at, is_done}
-use Rattle.semantics.specs.StepExactly.{exact, done_to, done_from}
+use Rattle.semantics.proofs.StepExactly.{exact, done_to, done_from}
 use Rattle.semantics.specs.Threads.{Steps, steps_of, alone, live, first_from, Turn, in_round, next, Took, t_step, t_room, took, take_turn, turn, Asked}
 use Rattle.semantics.specs.Calls.{total}
-use Rattle.semantics.specs.OthersUnseen.{with_out, spawning, others_unseen}
-use Rattle.semantics.specs.TurnLaws.{asked_free, asked_turn}
+use Rattle.semantics.specs.OthersUnseen.{with_out}
+use Rattle.semantics.proofs.OthersUnseen.{spawning, others_unseen}
+use Rattle.semantics.proofs.TurnLaws.{asked_free, asked_turn}
 use Rattle.acts.specs.Meaning.{s_taken, s_finished, s_noroom, s_stuck, s_denied, s_starts}
 use Rattle.acts.specs.Inner.{Stepped, settled}
 use Rattle.thread.specs.Inner.{starting, step_of}

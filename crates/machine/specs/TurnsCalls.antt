@@ -8,13 +8,15 @@ use Rattle.std.proofs.lemmas.Bool.{false≢true}
 use Rattle.std.proofs.Math.Option.{none, some, none-ne-some, some-injective}
 use Rattle.std.proofs.Math.Seq.{get_or-set_same}
 use borrow.Author.Tests.{eqb-true, eqb-false, ltb-true, ltb-false, lt-ltb, le-ltb}
-use Rattle.order.specs.Bools.{◌and◌, and_l, and2}
+use Rattle.order.specs.Bools.{◌and◌}
+use Rattle.order.proofs.Bools.{and_l, and2}
 use Rattle.semantics.specs.Machine.{Thread, System, most_threads}
 use Rattle.semantics.specs.Threads.{Steps, live_thread, live, all_done, Turn, next, Took, t_step, t_none, t_room, t_stuck, t_denied, take_turn, turn, Asked}
 use Rattle.semantics.specs.Calls.{taken, finished, ran, bump, total, no_steps, always, allowed, closing, on_turn, run, one_step, run_of, call}
-use Rattle.semantics.specs.TurnLaws.{Lawful, TurnIs, is_step_lem, is_none, is_room, is_stuck, is_denied, asked_by, turn_is, turn_free, turn_few, next_is, next_holds, live_some}
-use Rattle.semantics.specs.Rounds.{moved}
-use Rattle.semantics.specs.Counts.{none_taken, bump_length, bump_on, bump_off}
+use Rattle.semantics.specs.TurnLaws.{Lawful, TurnIs, is_step_lem, is_none, is_room, is_stuck, is_denied, asked_by}
+use Rattle.semantics.proofs.TurnLaws.{turn_is, turn_free, turn_few, next_is, next_holds, live_some}
+use Rattle.semantics.proofs.Rounds.{moved}
+use Rattle.semantics.proofs.Counts.{none_taken, bump_length, bump_on, bump_off}
 use Rattle.machine.specs.Turns.{has_left, less, on_took, turns_in, turns_of, taken_of, said_by, thread_by, says}
 use Rattle.machine.specs.OneTurn.{less_total, turns_on, next_fewer}
 

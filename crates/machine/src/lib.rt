@@ -1,4 +1,6 @@
 // The machine: a struct by value, with its step and its run. Its tables are lent to the steps of its threads; the words in which the threads work, frames among them, are lent to it.
+#![tactic(auto)]
+
 mod ahead;
 mod run;
 mod turns;
@@ -9,7 +11,7 @@ use store::{BINDING_WORDS, CELL_WORDS, FUNCTION_WORDS, KEY_BYTES, MOST_THREADS, 
 pub use thread::{Control, Now, Thread};
 
 // The answers of steps and runs.
-#[derive(Drop)]
+#[derive(Clone, Copy)]
 pub enum Answer {
     Taken,
     Finished,
@@ -39,7 +41,7 @@ pub struct Turned {
 }
 
 // Turns that were known ahead: what the store uses after them, how many are left, who stepped last if one was taken, who was asked last, and the answer of its step.
-#[derive(Drop)]
+#[derive(Clone, Copy)]
 pub struct Rounds {
     pub used: Used,
     pub left: u64,
@@ -49,14 +51,14 @@ pub struct Rounds {
 }
 
 // Whose turn it is, and how many threads are in the round in which it steps.
-#[derive(Drop)]
+#[derive(Clone, Copy)]
 pub enum Whose {
     Thread(usize, usize),
     Nobody,
 }
 
 // So many threads by number, the round and who stepped last, and what the store uses.
-#[derive(Drop)]
+#[derive(Clone, Copy)]
 pub struct Machine {
     pub threads: [Thread; MOST_THREADS],
     pub count: u8,
@@ -71,7 +73,7 @@ pub struct Machine {
 }
 
 // What a call gives: the machine after it, the steps that each thread took in it, the thread that took its step or failed (0 where none did), and the answer.
-#[derive(Drop)]
+#[derive(Clone, Copy)]
 pub struct Outcome {
     pub machine: Machine,
     pub counts: [u64; MOST_THREADS],

@@ -408,8 +408,8 @@ pub(crate) fn turns(
         let next = advance(
             c, heads, slots, words, cells, keys, pairs, functions, bindings,
         );
-        t = next;
         let b = next.answer;
+        t = next;
         a = b;
     }
     t

@@ -16,7 +16,8 @@ use Rattle.typing.specs.Subtype as Subtype
 use Rattle.typing.specs.Least as Least
 use Rattle.typing.specs.Verdict as Verdict
 use Rattle.typing.specs.Demand2 as Demand2
-use Rattle.typing.specs.Examples as Examples
+use Rattle.typing.proofs.Examples as Examples
+use Rattle.typing.specs.Examples as Examples_defs
 use Rattle.semantics.specs.Keys as Keys
 use Rattle.semantics.specs.Step as Step
 use Rattle.semantics.specs.Room as Room
@@ -202,8 +203,8 @@ pub record Marked : Type 0 where
   pub every_command_lem : Lines.desk_of Jobs.every_command ≡ every_lines
   -- and one with a name out of scope: it is refused with 10, and the rules give it no type
   pub unscoped_refused : Verdict.verdict_of Jobs.unscoped ≡ Verdict.refuse (record { number = 10; place = 1 })
-  pub unscoped_read : Reading.reading Jobs.unscoped ≡ Reading.read Examples.unscoped
-  pub unscoped_untyped : (T : Types.Ty) (s : Effects.Effect) → Demand2.JobHas Examples.unscoped T s → ⊥
+  pub unscoped_read : Reading.reading Jobs.unscoped ≡ Reading.read Examples_defs.unscoped
+  pub unscoped_untyped : (T : Types.Ty) (s : Effects.Effect) → Demand2.JobHas Examples_defs.unscoped T s → ⊥
 
 pub marked : Marked
 unfolding Bools.◌and◌ Bools.◌or◌ Order.on_upper Order.below_in Order.below Sets.bit Sets.cons_if Sets.members_from Sets.members Sets.set_of Sets.keep Sets.some_of Sets.all_of Effects.of_names Effects.names Effects.touch Effects.join Effects.eff_below Effects.maximal Effects.reduced Effects.reduce Effects.drop Effects.raise Types.key_of Types.rekey Types.depth Types.names_in Types.entry_tree Types.tree_in Types.tree Commands.map_cmd Commands.commands Commands.find_op Commands.op_of Commands.operands Commands.total Commands.width Commands.section_of Commands.little Commands.fields Operands.nth Operands.plain Operands.inner Operands.children Operands.types_of Operands.uses_var Operands.binds_var Operands.binds_name Job.uppers Job.value_of Job.source_of Reading.declared Reading.is_host Reading.host_name Reading.open_name Reading.local_name Reading.set_ok Reading.name_ok Reading.parts_ok Reading.type_ok Reading.unkeyed_number Reading.host_type_ok Reading.host_value_ok Reading.rights_ok Reading.cmd_ok Reading.written Reading.given Reading.enter Reading.misplaced Reading.full Reading.settle Reading.command Reading.ended Reading.onward Reading.on_op Reading.read_from Reading.reading Tree.binds Tree.vars_of Tree.names_of Tree.mem_b Tree.uses_name Tree.add_host Tree.name_ctx Tree.value_ctx Tree.host_ctx Tree.root Tree.count Tree.uses Tree.used_right Tree.bound_by Tree.binds_new Tree.parent Tree.scope_in Tree.ctx Tree.name_in Tree.in_scope Tree.first_bad Tree.or_else Tree.numbered Tree.lowest Tree.tree_refusal Subtype.same_ty Subtype.sub_ty Subtype.super_ty Least.with Least.want_num Least.want_pair Least.want_cell Least.want_fn Least.want_lim Least.want_grant Least.require Least.is_upper Least.type_in Least.var_type Least.of_var Least.keys_at Least.type_at Least.get Least.extend Least.types_to Least.types Least.type_of Least.first_untyped Verdict.unless Verdict.within Verdict.judged Verdict.judge Verdict.judge_read Verdict.verdict_of Keys.enabled Keys.upto Keys.narrow Keys.add Step.room Step.touch Step.touch_all Step.settle Step.as_num Step.as_pair Step.as_fn Step.as_cell Step.as_lim Step.as_grant Step.found Step.bare Step.one Step.two Step.act_pair Step.part_of Step.act_part Step.act_fn Step.act_app Step.act_new Step.act_asg Step.act_read Step.sum_n Step.act_sum Step.branch Step.act_test Step.limit_keys Step.keys_of Step.act_lim Step.act_grant Step.make_key Step.act_newkey Step.act_assoc Step.act_access Step.quotient Step.remainder Step.act_divide Step.act_spawn Operands.evaluated Step.push Step.act Step.seek_in Step.seek_at Step.seek Step.variable Step.enter_at Step.enter_cmd Step.receive Step.hand_to Step.plan_on Step.plan Step.step Room.done_at Room.is_done Start.bind_to Start.add_name Start.add_names Start.named Start.host_value Start.host_cell Start.add_values Start.key_named Start.valued Start.first_thread Start.first_store Start.start_of Threads.value_of Threads.live_thread Threads.all_done Threads.handed_on Threads.first_value Threads.first_from Threads.in_round Threads.next Threads.took Threads.step_thread Threads.take_turn Threads.turn Calls.bump Calls.total Calls.always Calls.allowed Calls.closing Calls.on_turn Calls.run Calls.call Calls.calls accepted_then Jobs.one_step_more Jobs.threaded_read Jobs.spawned_read Jobs.seven_more Jobs.eight_more Lines.decimal_in Lines.decimal Lines.hex_digit Lines.hex Lines.w_refused Lines.w_at Lines.w_accepted Lines.w_done Lines.w_spent Lines.w_no_room Lines.w_number Lines.w_pair Lines.w_cell Lines.w_function Lines.w_limit Lines.w_grant Lines.space Lines.line Lines.type_kind Lines.value_kind Lines.handed Lines.refused_line Lines.accepted_line Lines.ran_line Lines.ran_of Lines.run_line Lines.run_read Lines.reported Lines.desk_of Lines.printed flat_map Jobs.example Jobs.asking Jobs.cells_from Jobs.nested Jobs.reckoning Jobs.sharing Jobs.keyed_sharing number_lines Jobs.unkeyed_read Jobs.limited_read Jobs.every_command Jobs.unscoped is_read told ran_from started_with Loading.unless Loading.in_tree Loading.loading Starting.start_loaded Starting.starting Tree.predecessor Types.by_type Types.on_num Types.on_pair Types.on_cell Types.on_fn Types.on_lim Types.on_grant Effects.set_names Effects.set_touch Effects.set_below Effects.set_reduced Effects.set_reduce Effects.set_drop Effects.set_raise

@@ -1,4 +1,6 @@
 // Names and sets of names in words: what is below what, reducing, dropping, raising.
+#![tactic(auto)]
+
 ghost use Rattle.std.specs.Prelude.{◌≡◌, ◌<◌, cond, get_or, ltb};
 ghost use Rattle.order.specs.Sets.{bit, members, all_of};
 ghost use Rattle.syntax.specs.Reading.{host_name, open_name, local_name};

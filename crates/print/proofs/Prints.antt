@@ -23,11 +23,13 @@ use Rattle.semantics.specs.Start.{start_of}
 use Rattle.semantics.specs.Room.{done_at}
 use Rattle.semantics.specs.Threads.{steps_of, live_thread, all_done, handed_on, value_of}
 use Rattle.semantics.specs.Calls.{taken, finished, spent, noroom, stuck, denied, run_of, Ran, no_steps, allowed, call}
-use Rattle.semantics.specs.TurnLaws.{lawful, done_live, value_is}
-use Rattle.semantics.specs.RunLaws.{RunSays, run_done, run_spent, run_stuck, run_denied, run_noroom, Says, run_says, says_exactly}
-use Rattle.semantics.specs.CountLaws.{run_counted}
-use Rattle.semantics.specs.Rounds.{takes_grown}
-use Rattle.semantics.specs.Demand3.{expr_of, steps_in, same_steps}
+use Rattle.semantics.proofs.TurnLaws.{lawful, done_live, value_is}
+use Rattle.semantics.specs.RunLaws.{RunSays, run_done, run_spent, run_stuck, run_denied, run_noroom, Says, run_says}
+use Rattle.semantics.proofs.RunLaws.{says_exactly}
+use Rattle.semantics.proofs.CountLaws.{run_counted}
+use Rattle.semantics.proofs.Rounds.{takes_grown}
+use Rattle.semantics.specs.Demand3.{expr_of, steps_in}
+use Rattle.semantics.proofs.Demand3.{same_steps}
 use Rattle.store.specs.declared.Value.{Value as Held}
 use Rattle.table.specs.declared.Expr.{Expr}
 use Rattle.store.specs.Meaning.{value_in, kind_in}
@@ -49,7 +51,8 @@ use Rattle.format.specs.Laws.{accepted_line_lem, accepted_done, accepted_spent, 
 use Rattle.checker.specs.declared.Checked.{Checked}
 use Rattle.judge.specs.declared.Verdict.TheVariants as verdicts
 use Rattle.checker.specs.Answer.{tree_of, CheckTo}
-use Rattle.safety.specs.Accepting.{Accepting, accepting, refusing}
+use Rattle.safety.specs.Accepting.{Accepting}
+use Rattle.safety.proofs.Accepting.{accepting, refusing}
 use Rattle.start.specs.Starts.{Ready}
 
 -- the kind of a type, by its byte

@@ -1,4 +1,6 @@
 // The desk program's lines for the bytes of a job.
+#![tactic(auto)]
+
 ghost use Rattle.std.specs.Prelude.{◌≡◌, true, List, ◌++◌, ℕ, ◌<◌, length};
 ghost use Rattle.order.specs.Effects.{Effect, of_word};
 ghost use Rattle.syntax.specs.Types.{Ty, entry_tree};

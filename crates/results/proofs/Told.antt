@@ -22,7 +22,7 @@ use Rattle.machine.specs.Scheduled.{part_of, idle, thread_at, listed}
 use Rattle.machine.specs.Listed.{listed_length}
 use Rattle.machine.specs.View.{seen}
 use Rattle.calls.specs.Words.{room_for, over}
-use Rattle.calls.specs.Laws.{sets_over}
+use Rattle.calls.proofs.Laws.{sets_over}
 use Rattle.judge.specs.declared.Verdict.{Verdict}
 use Rattle.judge.specs.declared.Verdict.TheVariants as verdict
 use Rattle.results.specs.Told.{number_for, out_words, frames_of, room_words, count_words, cell_words_lem, lent_short}

@@ -25,7 +25,7 @@ use Rattle.machine.specs.Scheduled.{idle, thread_at, listed}
 use Rattle.machine.specs.Listed.{listed_get}
 use Rattle.machine.specs.View.{seen}
 use Rattle.calls.specs.Words.{over}
-use Rattle.calls.specs.Laws.{sets_over}
+use Rattle.calls.proofs.Laws.{sets_over}
 use Rattle.results.specs.Values.{kind_no, payload_of, first_word, second_word, value_at, value_among, cells_from, cell_words, CellPut}
 
 -- the value that a thread hands on

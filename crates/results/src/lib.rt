@@ -1,4 +1,6 @@
 // What callers from C and Rust are told, in words: a verdict, the room in use, the value of a finished job and what its cells hold.
+#![tactic(auto)]
+
 ghost use Rattle.std.specs.Prelude.{◌≡◌, ℕ, ◌≤◌, ◌<◌, List};
 ghost use Rattle.semantics.specs.Machine.{most_cells, most_threads};
 ghost use Rattle.semantics.specs.Threads.{handed_on};

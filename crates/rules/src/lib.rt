@@ -1,4 +1,6 @@
 // The rule of each command: the type and effect of an expression from those of its operands.
+#![tactic(auto)]
+
 ghost use Rattle.std.specs.Prelude.{◌≡◌, ◌≤◌, ◌%◌, get_or, eqb};
 ghost use Rattle.typing.specs.Layout as layout;
 ghost use Rattle.typing.specs.Numbered.{key_in};
@@ -13,7 +15,7 @@ use table::{MOST_DEPTH, MOST_NAMES, MOST_VARIABLES, Name, at16, at64};
 use types::{Entry, entry_at};
 
 // The type and effect of an expression: a new entry; two new ones, for a number, whose entry is given, and for a pair with both parts there; or one already there. Or the number of a refusal.
-#[derive(Drop)]
+#[derive(Clone, Copy)]
 pub enum Typing {
     Makes(Entry, u64),
     Shares(u16, u64),
@@ -22,7 +24,7 @@ pub enum Typing {
 }
 
 // What is known of an operand: the entry of its type, and its effect.
-#[derive(Drop)]
+#[derive(Clone, Copy)]
 pub struct Operand {
     pub ty: u16,
     pub effect: u64,

@@ -18,12 +18,12 @@ use Rattle.semantics.specs.Machine.{System}
 use Rattle.semantics.specs.Start.{start_of}
 use Rattle.semantics.specs.Threads.{Steps, steps_of}
 use Rattle.semantics.specs.Calls.{calls, last_of}
-use Rattle.semantics.specs.TurnLaws.{lawful}
+use Rattle.semantics.proofs.TurnLaws.{lawful}
 use Rattle.semantics.specs.Demand3.{expr_of, steps_in, calls_of}
 use Rattle.machine.specs.declared.Machine.{Machine}
 use Rattle.machine.specs.View.{seen}
 use Rattle.calls.specs.Words.{answer_words_lem, call_count, calls_in, room_for, result_words, over}
-use Rattle.calls.specs.Laws.{results_fit}
+use Rattle.calls.proofs.Laws.{results_fit}
 use Rattle.calls.specs.Made.{Made}
 use Rattle.checker.specs.declared.Checked.{Checked}
 use Rattle.judge.specs.declared.Verdict.{Verdict as Answer}
@@ -31,9 +31,11 @@ use Rattle.judge.specs.declared.Verdict.TheVariants as verdicts
 use Rattle.checker.specs.Answer.{verdict_in, last_in, CheckTo}
 use Rattle.entry.specs.declared.Shape.{Shape}
 use Rattle.entry.specs.Shapes.{shape_of}
-use Rattle.start.specs.Starts.{built_from, ready_built}
-use Rattle.safety.specs.Accepting.{Accepting, accepting}
-use Rattle.safety.specs.FromContracts.{threads_of}
+use Rattle.start.specs.Starts.{built_from}
+use Rattle.start.proofs.Starts.{ready_built}
+use Rattle.safety.specs.Accepting.{Accepting}
+use Rattle.safety.proofs.Accepting.{accepting}
+use Rattle.safety.proofs.FromContracts.{threads_of}
 use Rattle.session.specs.declared.Held.{Held}
 use Rattle.session.specs.Session.{session_verdict, session_tables, RefusedWith, SessionTo}
 

@@ -1,4 +1,6 @@
 // A whole session on a job's bytes: it is checked and, if it is accepted, started and called.
+#![tactic(auto)]
+
 ghost use Rattle.syntax.specs.Words.{code_in};
 ghost use Rattle.semantics.specs.Threads.{steps_of};
 ghost use Rattle.machine.specs.View.{seen};

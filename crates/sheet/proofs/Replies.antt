@@ -1,9 +1,5 @@
 -- The reply to an input that is whole, and to one that is not.
-use mathlib.Core.Path.{◌≡◌, sym, ap, ◌∙◌}
-use Prim.Native.Nat.{ℕ, ◌≤◌}
-use mathlib.Core.Bool.{Bool, true, false, cond}
-use mathlib.Core.List.{List, []}
-use lib.ListN.{length, take}
+use Rattle.std.proofs.Common.{◌≡◌, sym, ap, ◌∙◌, ℕ, ◌≤◌, Bool, true, cond, List, [], length, take}
 use Rattle.output.specs.Sheet.{sheet_of}
 use Rattle.wall.specs.declared.Listing.{Listing}
 use Rattle.wall.specs.Listed.{sheet_bytes, SheetTo}
@@ -14,6 +10,3 @@ whole_sheet w bytes r t u e h s =
     let z = long_says bytes r t u s h in
     let g : sheet_of bytes ≡ cond w (sheet_of bytes) [] = ap (λ (b : Bool). cond b (sheet_of bytes) []) (sym e) in
     (z.0 ∙ ap length g, z.1 ∙ g)
-
-pub no_sheet : (w : Bool) (bytes : List ℕ) → w ≡ false → (0 ≡ length (cond w (sheet_of bytes) [])) × ([] ≡ cond w (sheet_of bytes) [])
-no_sheet w bytes e = (simp e, simp e)

@@ -5,10 +5,12 @@ use mathlib.Core.List.{List}
 use lib.ListN.{length}
 use Rattle.order.specs.Bools.{◌and◌}
 use Rattle.syntax.specs.Job.{Job, source_of}
-use Rattle.syntax.specs.ReadLaws.{JobOk, read_ok}
-use Rattle.syntax.specs.WordLaws.{Bytes, JobFits, job_fits}
+use Rattle.syntax.specs.ReadLaws.{JobOk}
+use Rattle.syntax.proofs.ReadLaws.{read_ok}
+use Rattle.syntax.specs.WordLaws.{Bytes, JobFits}
+use Rattle.syntax.proofs.WordLaws.{job_fits}
 use Rattle.syntax.specs.Loading.{JobTables, filled_with}
-use Rattle.syntax.specs.LoadLaws.{loaded, long_load}
+use Rattle.syntax.proofs.LoadLaws.{loaded, long_load}
 use Rattle.semantics.specs.Start.{start_of}
 use Rattle.semantics.specs.Starting.{started, start_loaded, start_with}
 use Rattle.machine.specs.declared.Machine.{Machine}
@@ -21,9 +23,11 @@ use Rattle.entry.specs.Shapes.{shape_of, no_shape}
 use Rattle.job.specs.declared.Answer.{Answer}
 use Rattle.job.specs.declared.Answer.TheVariants as answers
 use Rattle.load.specs.Loads.{LoadTo}
-use Rattle.load.specs.Cases.{Loaded, refused_by_lem, job_loaded}
+use Rattle.load.specs.Cases.{Loaded}
+use Rattle.load.proofs.Cases.{refused_by_lem, job_loaded}
 use Rattle.start.specs.declared.Told.{Told}
-use Rattle.start.specs.Starts.{Starts, told_of, counts_in, built_from, Ready, ready_built}
+use Rattle.start.specs.Starts.{Starts, told_of, counts_in, built_from, Ready}
+use Rattle.start.proofs.Starts.{ready_built}
 
 -- of no job the empty machine is built, whatever the tables hold
 pub none_built : (n t v : List ℕ) → built_from no_shape n t v ≡ empty_machine

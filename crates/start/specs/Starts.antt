@@ -53,8 +53,3 @@ pub record Ready (J : Job) (g : Shape) (n t v : List ℕ) : Type 0 where
   pub ok : JobOk J
   pub shape : g ≡ shape_of J
   pub holds : Holds J n g.names t v g.values g.rights
-
--- of tables that are ready it is the job's own
-pub ready_built : {J : Job} {g : Shape} {n t v : List ℕ} → Ready J g n t v → built_from g n t v ≡ start_of (source_of J)
-unfolding built_from shape_of
-ready_built l = held_start l.ok l.holds (ap (λ (k : Shape). k.cmds) l.shape)

@@ -1,4 +1,6 @@
 // The start of a job: it is loaded, and its machine is built. Types are not looked at.
+#![tactic(auto)]
+
 ghost use Rattle.std.specs.Prelude.{◌≡◌, List, ℕ};
 ghost use Rattle.syntax.specs.Job.{Src};
 ghost use Rattle.table.specs.Lent.{job_before, job_after};

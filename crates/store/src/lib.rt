@@ -1,4 +1,6 @@
 // Values, sets of keys and the entries of the machine's tables, in words of 64 bits.
+#![tactic(auto)]
+
 ghost use Rattle.std.specs.Prelude.{◌≡◌, cond, true, ℕ, ◌<◌, ◌≤◌, ◌+◌, ◌*◌, ◌%◌, ◌^◌, eqb, ltb, length, get_or};
 ghost use Rattle.std.specs.Int.Bits.{bit_or};
 ghost use Rattle.order.specs.Sets.{bit, some_of};
@@ -50,7 +52,7 @@ const SECOND: u8 = WORD_KEYS as u8;
 const ALL_KEYS: u8 = MOST_KEYS as u8;
 
 // How many entries of each table that threads share are used. A count has a word of its own: narrower ones would be packed and unpacked at each step.
-#[derive(Drop)]
+#[derive(Clone, Copy)]
 pub struct Used {
     pub cells: u64,
     pub keys: u64,
@@ -60,14 +62,14 @@ pub struct Used {
 }
 
 // A set of keys: bit i of the first number is key i, of the second key 64 + i.
-#[derive(Drop)]
+#[derive(Clone, Copy)]
 pub struct Keys(pub u64, pub u64);
 
 // The keys of a limit: four, some of them the same.
-#[derive(Drop)]
+#[derive(Clone, Copy)]
 pub struct Own(pub Key, pub Key, pub Key, pub Key);
 
-#[derive(Drop)]
+#[derive(Clone, Copy)]
 pub enum Kind {
     Number,
     Pair,
@@ -79,21 +81,21 @@ pub enum Kind {
 
 // A value with its key. The payload is a number; the number of a pair, cell or function; or, by its low 8 bits, the key that a limit or grant key stands for.
 // It stands beside the kind and not in it, so that a value is read and written as one word.
-#[derive(Drop)]
+#[derive(Clone, Copy)]
 pub struct Value {
     pub key: Key,
     pub kind: Kind,
     pub payload: u32,
 }
 
-#[derive(Drop)]
+#[derive(Clone, Copy)]
 pub struct Two {
     pub first: Value,
     pub second: Value,
 }
 
 // A function, with its bindings.
-#[derive(Drop)]
+#[derive(Clone, Copy)]
 pub struct Closure {
     pub var: u8,
     pub body: Expr,
@@ -101,21 +103,21 @@ pub struct Closure {
 }
 
 // A variable with the word of its value, or a name with its key.
-#[derive(Drop)]
+#[derive(Clone, Copy)]
 pub enum Bound {
     Variable(u8, u64),
     Name(u8, Key),
 }
 
 // What is bound, and the binding that it was added to.
-#[derive(Drop)]
+#[derive(Clone, Copy)]
 pub struct Binding {
     pub bound: Bound,
     pub next: u16,
 }
 
 // A frame without the values in hand.
-#[derive(Drop)]
+#[derive(Clone, Copy)]
 pub struct Head {
     pub at: Expr,
     pub held: u8,

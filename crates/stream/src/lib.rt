@@ -1,44 +1,59 @@
-// Standard input and output of the programs: a read that fails is told from the end of the input, and a write that fails from one that does not.
-ghost use Rattle.std.specs.Prelude.{◌≡◌, true, ◌+◌, ◌≤◌, length};
-ghost use Rattle.io.specs.Counts.{IsPrefixLen};
+// Standard input and output of the programs, and any other reader and writer: a read that fails is told from the end of the input, and a write that fails from one that does not.
+#![tactic(auto)]
 
-use libc::{STDIN_FILENO, STDOUT_FILENO};
+ghost use Rattle.std.specs.Prelude.{◌≡◌, true, false, ℕ, ◌+◌, ◌≤◌, ◌<◌, length, take, drop};
+ghost use Rattle.std.specs.Io.KnownBytes.{Appends, Consumes, IsAtEnd, Keeps};
+
+use std::io::{Read, Write};
 
 // What one read gave: so many bytes, none at the end of the input; or it failed.
-#[derive(Drop)]
+#[derive(Clone, Copy)]
 struct Part {
     more: usize,
     failed: bool,
 }
 
 // The bytes of standard input: so many. Not whole where a read failed.
-#[derive(Drop)]
+#[derive(Clone, Copy)]
 pub struct Input {
     pub length: usize,
     pub whole: bool,
 }
 
 // One read into the job, from place `at` on.
-fn read_part(job: &mut [u8], at: usize) -> Part
+fn read_part<R: Read>(input: &mut R, job: &mut [u8], at: usize) -> Part
     requires { at ≤ length job.old }
-    ensures { at + result.more ≤ length job.old }
+    ensures fits { at + result.more ≤ length job.old }
+    ensures front { take at job.new ≡ take at job.old }
+    ensures bytes { Consumes (R.remaining input.old) (R.remaining input.new)
+        (take result.more (drop at job.new)) }
+    ensures end { result.failed ≡ false → result.more ≡ 0 → at < length job.old
+        → IsAtEnd (R.remaining input.new) }
 {
-    let part = &mut job[at..];
-    let got = libc::read(STDIN_FILENO, part);
-    let more = io::count(got, part);
-    Part {
-        more: more,
-        failed: got < 0,
+    match input.read(&mut job[at..]) {
+        Ok(more) => Part {
+            more,
+            failed: false,
+        },
+        Err(_) => Part {
+            more: 0,
+            failed: true,
+        },
     }
 }
 
 // Reads until the job is full, the input ends or a read fails. Which bytes there are, and whether a read fails, is the system's to say.
-pub fn read_all(job: &mut [u8]) -> Input
-    ensures { IsPrefixLen result.length job.new }
+pub fn read_all<R: Read>(input: &mut R, job: &mut [u8]) -> Input
+    ensures fits { result.length ≤ length job.new }
+    ensures prefix { result.length ≡ length (take result.length job.new) }
+    ensures bytes { Consumes (R.remaining input.old) (R.remaining input.new)
+        (take result.length job.new) }
+    ensures end { result.whole ≡ true → result.length < length job.new
+        → IsAtEnd (R.remaining input.new) }
 {
     let mut n: usize = 0;
     while n < job.len() {
-        let part = read_part(job, n);
+        let part = read_part(input, job, n);
         if part.more == 0 {
             return Input {
                 length: n,
@@ -53,14 +68,172 @@ pub fn read_all(job: &mut [u8]) -> Input
     }
 }
 
-// The first n of the bytes go to standard output, which is closed. Whether they are all written is the system's to say, but more than there are is never said to be written.
-pub fn write(bytes: &[u8], n: usize) -> bool
-    ensures { result ≡ true → n ≤ length bytes.now }
+// Whether the output takes a write of no bytes: one that is closed does not.
+fn is_open<W: Write>(output: &mut W) -> bool
+    ensures { Keeps (W.contents output.old) (W.contents output.new) }
 {
-    if n <= bytes.len() {
-        if io::write_all(STDOUT_FILENO, &bytes[..n]) {
-            return libc::close(STDOUT_FILENO) == 0;
+    output.write(&[]).is_ok()
+}
+
+// The first n of the bytes go to the output. Whether they are all written is the system's to say, but more than there are is never said to be written.
+// Where false is returned, a first part of them may have been written, and nothing else. An output that is closed is told from one that is not, also by no bytes.
+pub fn write<W: Write>(output: &mut W, bytes: &[u8], n: usize) -> bool
+    ensures fits { result ≡ true → n ≤ length bytes.now }
+    ensures written { result ≡ true
+        → Appends (W.contents output.old) (W.contents output.new) (take n bytes.now) }
+    ensures part { (k : ℕ) × (k ≤ n)
+        × Appends (W.contents output.old) (W.contents output.new) (take k bytes.now) }
+    ensures kept { length bytes.now < n → Keeps (W.contents output.old) (W.contents output.new) }
+{
+    if n > bytes.len() {
+        return false;
+    }
+    if n == 0 && !is_open(output) {
+        return false;
+    }
+    let mut done: usize = 0;
+    while done < n {
+        match output.write(&bytes[done..n]) {
+            Ok(0) | Err(_) => return false,
+            Ok(more) => done = done + more,
         }
     }
-    false
+    output.flush().is_ok()
+}
+
+#[cfg(test)]
+mod tests {
+    use super::*;
+    use std::io;
+    use std::test::Fail;
+
+    // Gives three bytes a read at most. The read of number `fails` fails, and takes nothing.
+    #[derive(Drop)]
+    struct Faulty<'a> {
+        left: &'a [u8],
+        reads: u8,
+        fails: u8,
+    }
+
+    impl Read for Faulty<'_> {
+        fn read(&mut self, buf: &mut [u8]) -> io::Result<usize> {
+            let turn = self.reads;
+            self.reads = turn.saturating_add(1);
+            if turn == self.fails {
+                return Err(io::Error::other("the read fails"));
+            }
+            let most = buf.len().min(3);
+            self.left.read(&mut buf[..most])
+        }
+    }
+
+    // Takes three bytes a write at most. The write of number `fails` fails, and takes nothing.
+    #[derive(Drop)]
+    struct Clogged {
+        held: Vec<u8>,
+        writes: u8,
+        fails: u8,
+    }
+
+    impl Write for Clogged {
+        fn write(&mut self, buf: &[u8]) -> io::Result<usize> {
+            let turn = self.writes;
+            self.writes = turn.saturating_add(1);
+            if turn == self.fails {
+                return Err(io::Error::other("the write fails"));
+            }
+            let most = buf.len().min(3);
+            self.held.write(&buf[..most])
+        }
+
+        fn flush(&mut self) -> io::Result<()> {
+            Ok(())
+        }
+    }
+
+    #[test]
+    fn reads_to_the_end_or_until_full(rt: HostRuntime) {
+        let mut job = [0u8; 10];
+        let mut reader = Faulty {
+            left: b"nine more",
+            reads: 0,
+            fails: 100,
+        };
+        let input = read_all(&mut reader, &mut job);
+        assert!(rt; input.whole);
+        assert_eq!(rt; input.length, 9);
+        assert_eq!(rt; job, *b"nine more\0");
+        let mut short = [0u8; 4];
+        let mut bytes: &[u8] = b"nine more";
+        let input = read_all(&mut bytes, &mut short);
+        assert!(rt; input.whole);
+        assert_eq!(rt; input.length, 4);
+        assert_eq!(rt; short, *b"nine");
+        assert_eq!(rt; bytes.len(), 5);
+    }
+
+    // A read that fails in mid-stream leaves the bytes before it, and the next call begins where it failed.
+    #[test]
+    fn a_failed_read_is_told(rt: HostRuntime) {
+        let mut job = [0u8; 10];
+        let mut reader = Faulty {
+            left: b"nine more",
+            reads: 0,
+            fails: 1,
+        };
+        let input = read_all(&mut reader, &mut job);
+        assert!(rt; !input.whole);
+        assert_eq!(rt; input.length, 3);
+        assert_eq!(rt; &job[..3], b"nin".as_slice());
+        let rest = read_all(&mut reader, &mut job);
+        assert!(rt; rest.whole);
+        assert_eq!(rt; rest.length, 6);
+        assert_eq!(rt; &job[..6], b"e more".as_slice());
+    }
+
+    #[test]
+    fn writes_all_or_says_so(rt: HostRuntime) -> Result<(), Fail> {
+        let mut writer = Clogged {
+            held: Vec::new(rt.alloc()),
+            writes: 0,
+            fails: 100,
+        };
+        assert!(rt; write(&mut writer, b"ten bytes and more", 10));
+        assert_eq!(rt; writer.held.as_slice(), b"ten bytes ".as_slice());
+        assert!(rt; !write(&mut writer, b"four", 5));
+        assert!(rt; write(&mut writer, b"four", 0));
+        assert_eq!(rt; writer.held.as_slice(), b"ten bytes ".as_slice());
+        Ok(())
+    }
+
+    // A write that fails in mid-stream leaves the bytes before it alone, and what is written next follows them.
+    #[test]
+    fn a_failed_write_is_told(rt: HostRuntime) -> Result<(), Fail> {
+        let mut writer = Clogged {
+            held: Vec::new(rt.alloc()),
+            writes: 0,
+            fails: 2,
+        };
+        assert!(rt; !write(&mut writer, b"ten bytes ", 10));
+        assert_eq!(rt; writer.held.as_slice(), b"ten by".as_slice());
+        assert!(rt; write(&mut writer, b"more", 4));
+        assert_eq!(rt; writer.held.as_slice(), b"ten bymore".as_slice());
+        Ok(())
+    }
+
+    // Where there is nothing to write, an output that takes no write is told too, and so is a full one.
+    #[test]
+    fn a_closed_or_full_output_is_told(rt: HostRuntime) -> Result<(), Fail> {
+        let mut closed = Clogged {
+            held: Vec::new(rt.alloc()),
+            writes: 0,
+            fails: 0,
+        };
+        assert!(rt; !write(&mut closed, b"", 0));
+        let mut room = [0u8; 4];
+        let mut full: &mut [u8] = &mut room;
+        assert!(rt; !write(&mut full, b"six by", 6));
+        assert_eq!(rt; room, *b"six ");
+        Ok(())
+    }
 }

@@ -1,6 +1,6 @@
 -- Writing (document 02, F-3): the bytes of the job that lent tables hold, or the first refusal. Nothing is judged here that reading judges: what the tables write is read, and reading's refusal
 -- is the answer. Beside it stand the faults that bytes cannot have: a field too wide for its operand, a command foreign to its table, a count above its limit.
-use Rattle.std.specs.Prelude.{ℕ, zero, suc, ◌+◌, ◌-◌, ◌*◌, ◌/◌, ◌%◌, ◌^◌, Bool, true, cond, List, [], ◌∷◌, ◌++◌, length, get_or, take, drop, eqb, ltb}
+use Rattle.std.specs.Prelude.{ℕ, zero, suc, ◌+◌, ◌*◌, ◌/◌, ◌%◌, ◌^◌, Bool, true, cond, List, [], ◌∷◌, ◌++◌, length, get_or, take, drop, eqb, ltb}
 use Rattle.std.proofs.Math.Option.{Option, none, some}
 use Rattle.order.specs.Bools.{◌and◌}
 use Rattle.syntax.specs.Commands.{Op, o_rights, o_end, Role, r_type, traits, form, op_of, operands, section_of}

@@ -5,7 +5,8 @@ use mathlib.Core.List.{List, [], ◌∷◌, ◌++◌, append_assoc}
 use native.Mathlib.Omega.{arith}
 use lib.ListN.{length, get_or, set, take, drop}
 use lib.Seq.{take-suc, take-length, length-take-le, drop-cons, set_at}
-use Rattle.table.specs.Copied.{copied, copied_all, copied_none}
+use Rattle.table.specs.Copied.{copied}
+use Rattle.table.proofs.Copied.{copied_all, copied_none}
 
 pub copy_next : (t b u : List ℕ) (i : ℕ) → u ≡ take i t ++ drop i b → i < length t → length t ≤ length b → set u i (get_or t i 0) ≡ take (i + 1) t ++ drop (i + 1) b
 copy_next t b u i e h k =

@@ -5,12 +5,3 @@ use Rattle.std.proofs.Common.{lt-ltb, le-ltb}
 -- s at the start of b, and b as it was past it; b as it was where it is too short
 unfoldable pub copied : List ℕ → List ℕ → List ℕ
 copied s b = cond (ltb (length b) (length s)) b (s ++ drop (length s) b)
-
-pub copied_all : (s b : List ℕ) → length s ≤ length b → copied s b ≡ s ++ drop (length s) b
-unfolding copied
-copied_all s b h = simp (le-ltb (length b) (length s) h)
-
--- a buffer that is too short stays
-pub copied_none : (s b : List ℕ) → length b < length s → copied s b ≡ b
-unfolding copied
-copied_none s b h = simp (lt-ltb (length b) (length s) h)

@@ -1,4 +1,6 @@
 // The ground floor of the code: limits, numbers of names, keys and expressions, refusals and how they are told, total reads and writes of tables, and the fields of their words.
+#![tactic(auto)]
+
 ghost use Rattle.std.specs.Prelude.{◌≡◌, ◌*◌, ◌/◌, ◌%◌, ◌<◌, length, get_or, set, replicate};
 ghost use Rattle.syntax.specs.Tree.{predecessor};
 ghost use Rattle.syntax.specs.Words.{type_bits};
@@ -28,19 +30,19 @@ pub const TYPE_ENTRIES: usize = 2304;
 pub const PLACES: usize = 2560;
 
 // A name's number. A name number and a key number are never compared.
-#[derive(Drop)]
+#[derive(Clone, Copy)]
 pub struct Name(pub u8);
 
 // A key's number.
-#[derive(Drop)]
+#[derive(Clone, Copy)]
 pub struct Key(pub u8);
 
 // An expression's number.
-#[derive(Drop)]
+#[derive(Clone, Copy)]
 pub struct Expr(pub u16);
 
 // A refusal's number and place.
-#[derive(Drop)]
+#[derive(Clone, Copy)]
 pub struct Refusal {
     pub number: u8,
     pub place: usize,

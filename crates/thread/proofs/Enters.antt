@@ -9,9 +9,9 @@ use lib.ListN.{length, get_or}
 use Rattle.syntax.specs.Commands.{Cmd, form, row}
 use Rattle.syntax.specs.Operands.{evaluated}
 use Rattle.syntax.specs.Words.{decode, code_in}
-use Rattle.syntax.specs.DecodeLaws.{decode_cases}
+use Rattle.syntax.proofs.DecodeLaws.{decode_cases}
 use Rattle.semantics.specs.Machine.{k_fn, unkeyed}
-use Rattle.semantics.specs.SpawnLaws.{is_spawn, spawn_is}
+use Rattle.semantics.proofs.SpawnLaws.{is_spawn, spawn_is}
 use Rattle.semantics.specs.Step.{o_room, room, touch, touch_all, settle}
 use Rattle.semantics.specs.Step.{act_fn, push, enter_cmd}
 use Rattle.table.specs.declared.Expr.{Expr}

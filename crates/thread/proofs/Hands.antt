@@ -13,7 +13,7 @@ use Rattle.syntax.specs.Words.{code_in}
 use Rattle.semantics.specs.Machine.{Value as SValue, Frame, hand, Machine as Clean}
 use Rattle.syntax.specs.Operands.{evaluated}
 use Rattle.semantics.specs.Step.{Out, o_done, room, touch_all, settle, act, enter_cmd, receive, hand_to, resume, with_frames, plan_on, plan, step}
-use Rattle.semantics.specs.SpawnLaws.{is_spawn}
+use Rattle.semantics.proofs.SpawnLaws.{is_spawn}
 use Rattle.semantics.specs.Room.{is_done, done_at}
 use Rattle.table.specs.declared.Expr.{Expr}
 use Rattle.store.specs.declared.Head.{Head}
@@ -31,7 +31,7 @@ use Rattle.acts.specs.Meaning.{control_in}
 use Rattle.acts.specs.contracts.Control.{the_type as control_type}
 use Rattle.acts.specs.View.{Tables, view}
 use Rattle.acts.specs.Inner.{Stepped, settled, tried, go, resume_of, put_frames, Works}
-use Rattle.semantics.specs.OthersUnseen.{spawning}
+use Rattle.semantics.proofs.OthersUnseen.{spawning}
 use Rattle.thread.specs.Inner.{starting, entered_by, is_spawn_at, step_of, stepped_by}
 use Rattle.acts.proofs.Codes.{taken_in, taken_out}
 

@@ -4,8 +4,8 @@ use Rattle.std.proofs.Math.Option.{Option, none, some}
 use Rattle.syntax.specs.Commands.{Cmd}
 use Rattle.semantics.specs.Machine.{Machine as Clean}
 use Rattle.semantics.specs.Step.{Plan, enter_cmd, step}
-use Rattle.semantics.specs.SpawnLaws.{is_spawn}
-use Rattle.semantics.specs.OthersUnseen.{spawning}
+use Rattle.semantics.proofs.SpawnLaws.{is_spawn}
+use Rattle.semantics.proofs.OthersUnseen.{spawning}
 use Rattle.store.specs.declared.Used.{Used}
 use Rattle.thread.specs.declared.Thread.{Thread}
 use Rattle.acts.specs.declared.State.{State}

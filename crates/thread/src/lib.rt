@@ -1,4 +1,6 @@
 // One thread: its step, on its own words and on the store that all threads share. The tables are lent to it.
+#![tactic(auto)]
+
 mod enter;
 mod owned;
 mod parts;
@@ -10,21 +12,21 @@ pub use stepping::step;
 use store::Used;
 
 // The word of a value that was found, or nothing.
-#[derive(Drop)]
+#[derive(Clone, Copy)]
 pub enum Found {
     At(u64),
     Nothing,
 }
 
 // A thread: where it stands, and how many of its frames are used.
-#[derive(Drop)]
+#[derive(Clone, Copy)]
 pub struct Thread {
     pub now: Now,
     pub frames: u64,
 }
 
 // How a step ended: what the store uses after it, and the answer.
-#[derive(Drop)]
+#[derive(Clone, Copy)]
 pub struct Ended {
     pub used: Used,
     pub answer: Answer,

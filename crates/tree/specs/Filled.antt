@@ -7,7 +7,8 @@ use Rattle.syntax.specs.Commands.{Cmd}
 use Rattle.syntax.specs.Operands.{nth}
 use Rattle.syntax.specs.Job.{Name, Job}
 use Rattle.syntax.specs.Words.{filled, name_word, type_word, set_word, head_word, name_words, type_words, set_words, head_words, slot_words}
-use Rattle.syntax.specs.WordLaws.{JobFits, filled_at, word_at, slots_length, slots_at}
+use Rattle.syntax.specs.WordLaws.{JobFits}
+use Rattle.syntax.proofs.WordLaws.{filled_at, word_at, slots_length, slots_at}
 use Rattle.tree.specs.Holds.{Holds}
 
 nth_some : (l : List (Cmd ℕ)) (e : ℕ) → e < length l → get_elem? l e ≡ some (nth l e)

@@ -11,14 +11,15 @@ use Rattle.std.proofs.Math.Seq.{take-length}
 use Rattle.std.proofs.Math.Dec.{eqb, ltb}
 use Rattle.std.proofs.lemmas.Bool.{eqb-false}
 use Rattle.order.specs.Sets.{bit, some_of}
-use Rattle.order.specs.SetLaws.{bool_ext, bit_or_lem, bit_zero, lt_pow}
+use Rattle.order.proofs.SetLaws.{bool_ext, bit_or_lem, bit_zero, lt_pow}
 use Rattle.syntax.specs.Types.{Ty}
 use Rattle.syntax.specs.Job.{Name, HostValue, Src}
 use Rattle.syntax.specs.Reading.{name_ok}
 use Rattle.syntax.specs.Words.{name_word}
 use Rattle.syntax.specs.Tree.{Entry, e_var, e_name, vars_of, names_of, mem_b, add_host, name_ctx, value_ctx, host_ctx, name_in}
-use Rattle.syntax.specs.ReadLaws.{NamesOk, built_at}
-use Rattle.syntax.specs.ReadFormed.{upper_ok}
+use Rattle.syntax.specs.ReadLaws.{NamesOk}
+use Rattle.syntax.proofs.ReadLaws.{built_at}
+use Rattle.syntax.proofs.ReadFormed.{upper_ok}
 use Rattle.names.specs.Ancestors.{one_of}
 use Rattle.tree.specs.Passes.{host_vars, host_name, host_names}
 use Rattle.uses.specs.Heads.{pow_fits, one_bit}

@@ -8,22 +8,22 @@ use Rattle.std.proofs.Math.ListN.{get_elem?}
 use Rattle.std.proofs.lemmas.List.{length-replicate}
 use Rattle.std.specs.Int.Bits.{bit_or}
 use borrow.Author.Tests.{ltb-true, eqb-true, eqb-false}
-use Rattle.order.specs.Bools.{and_l, and_r}
+use Rattle.order.proofs.Bools.{and_l, and_r}
 use Rattle.order.specs.Sets.{bit, some_of}
-use Rattle.order.specs.SetLaws.{bool_ext, bit_or_lem, bit_pow}
+use Rattle.order.proofs.SetLaws.{bool_ext, bit_or_lem, bit_pow}
 use Rattle.order.specs.Effects.{Effect, names}
-use Rattle.order.specs.NameSetLaws.{name_bit, bit_name}
+use Rattle.order.proofs.NameSetLaws.{name_bit, bit_name}
 use Rattle.syntax.specs.Types.{Ty, names_in, TypeEntry, e_num, e_pair, e_cell, e_fn, e_lim, e_grant, entry_tree, tree}
 use Rattle.syntax.specs.Job.{Name}
 use Rattle.syntax.specs.Reading.{declared, parts_ok}
 use Rattle.syntax.specs.Words.{type_bits, type_word, set_word}
 use Rattle.syntax.specs.Tree.{mem_b}
-use Rattle.syntax.specs.Scope.{mem_b→, →mem_b}
+use Rattle.syntax.proofs.Scope.{mem_b→, →mem_b}
 use Rattle.syntax.specs.ReadLaws.{TypesOk}
-use Rattle.syntax.specs.ReadFormed.{entry_parts, tree_at}
+use Rattle.syntax.proofs.ReadFormed.{entry_parts, tree_at}
 use Rattle.names.specs.Ancestors.{one_of}
 use Rattle.tree.specs.Passes.{type_names, masks_from, masks_by}
-use Rattle.names.specs.Bits.{one_of_lem}
+use Rattle.names.proofs.Bits.{one_of_lem}
 use Rattle.uses.specs.Binders.{mem_b_cons, mem_b_app}
 
 one_all : (q n : ℕ) → q < 64 → bit (one_of q) n ≡ eqb n q

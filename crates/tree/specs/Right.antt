@@ -11,9 +11,10 @@ use Rattle.std.proofs.Math.ListN.{get_or}
 use Rattle.std.proofs.lemmas.List.{length-map}
 use Rattle.std.specs.Int.Bits.{bit_or, or_zero_l}
 use Rattle.std.proofs.lemmas.Bool.{eqb-false}
-use Rattle.order.specs.Bools.{◌and◌, and_l, and_r}
+use Rattle.order.specs.Bools.{◌and◌}
+use Rattle.order.proofs.Bools.{and_l, and_r}
 use Rattle.order.specs.Sets.{bit, all_of}
-use Rattle.order.specs.SetLaws.{bool_ext, set_ext, bit_or_lem, →or_l, all_of→, →all_of}
+use Rattle.order.proofs.SetLaws.{bool_ext, set_ext, bit_or_lem, →or_l, all_of→, →all_of}
 use Rattle.syntax.specs.Types.{Ty, names_in, tree}
 use Rattle.syntax.specs.Commands.{Cmd, map_cmd}
 use Rattle.syntax.specs.Operands.{nth, types_of, uses_var, binds_var, binds_name}
@@ -21,10 +22,11 @@ use Rattle.syntax.specs.Job.{Name, Job, Src, source_of, value_of}
 use Rattle.syntax.specs.Reading.{Refusal, declared, local_name}
 use Rattle.syntax.specs.Words as words
 use Rattle.syntax.specs.Tree.{Entry, vars_of, mem_b, uses_name, root, used_right, binds_new, ctx, name_in, in_scope, first_bad, or_else, numbered, lowest, tree_refusal}
-use Rattle.syntax.specs.Scope.{mem_b→, →mem_b}
+use Rattle.syntax.proofs.Scope.{mem_b→, →mem_b}
 use Rattle.syntax.specs.ReadLaws.{JobOk}
-use Rattle.syntax.specs.RowLaws.{uses_var_map}
-use Rattle.syntax.specs.ReadFormed.{types_of_map, nth_map, tree_declared, cmds_formed}
+use Rattle.syntax.proofs.RowLaws.{uses_var_map}
+use Rattle.syntax.proofs.ReadFormed.{types_of_map}
+use Rattle.syntax.proofs.ReadFormed.{nth_map, tree_declared, cmds_formed}
 use Rattle.uses.specs.Passes.{is_new, counts_by, right_count, type_place}
 use Rattle.tree.specs.Passes.{host_vars, host_names, masks_by, scopes_by, operand_names, var_fits, is_scoped, scope_refusal, table_refusal}
 use Rattle.tree.specs.Holds.{Holds}

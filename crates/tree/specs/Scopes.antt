@@ -12,15 +12,16 @@ use Rattle.std.proofs.Math.Seq.{get_or-set_same}
 use Rattle.std.specs.Int.Bits.{bit_or}
 use borrow.Author.Tests.{lt-ltb, ltb-true, ltb-false, eq-eqb, ne_eqb, eqb-true, eqb-false}
 use Rattle.order.specs.Sets.{bit, some_of}
-use Rattle.order.specs.SetLaws.{bit_or_lem}
+use Rattle.order.proofs.SetLaws.{bit_or_lem}
 use Rattle.syntax.specs.Types.{Ty}
 use Rattle.syntax.specs.Commands.{Cmd, map_cmd}
 use Rattle.syntax.specs.Operands.{nth, plain, inner, children, binds_var, binds_name}
 use Rattle.syntax.specs.Words as words
 use Rattle.syntax.specs.Job.{Src}
 use Rattle.syntax.specs.Tree.{Entry, binds, vars_of, names_of, mem_b, count, host_ctx, predecessor, root, uses, used_right, parent, scope_in, ctx, name_in}
-use Rattle.syntax.specs.Scope.{count_mem, uses_mem, mem_uses, parent_is}
-use Rattle.syntax.specs.ReadFormed.{children_map, nth_map}
+use Rattle.syntax.proofs.Scope.{count_mem, uses_mem, mem_uses, parent_is}
+use Rattle.syntax.proofs.ReadFormed.{children_map}
+use Rattle.syntax.proofs.ReadFormed.{nth_map}
 use Rattle.names.specs.Ancestors.{one_of}
 use Rattle.uses.specs.Passes.{arity_of, is_operand, is_body, bound_of}
 use Rattle.tree.specs.Passes.{inherited_by, put_in, inherit_step, inherited_down, scopes_by}

@@ -1,4 +1,6 @@
 // The tree checks: number 10 of document 01, by passes over a job's tables, and 8, 9 and 10 together.
+#![tactic(auto)]
+
 ghost use Rattle.std.specs.Prelude.{◌≡◌, ◌+◌, ◌*◌, ◌≤◌, ◌<◌, true, false, eqb};
 ghost use Rattle.std.specs.Int.Bits.{bit_or};
 ghost use Rattle.syntax.specs.Reading.{most_declared, most_types, most_expressions};

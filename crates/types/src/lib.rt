@@ -1,4 +1,6 @@
 // Below and above of two types, by their entries.
+#![tactic(auto)]
+
 ghost use Rattle.std.specs.Prelude.{◌≡◌, true};
 ghost use Rattle.syntax.specs.Words.{entry_in};
 ghost use Rattle.typing.specs.Entries.{sub_in, super_in};

@@ -10,7 +10,7 @@ use lib.ListN.{get_or}
 use lib.Dec.{eqb}
 use lib.Bits.{bit_or, or_zero_r}
 use Rattle.order.specs.Sets.{bit}
-use Rattle.order.specs.SetLaws.{bit_or_lem, bit_zero}
+use Rattle.order.proofs.SetLaws.{bit_or_lem, bit_zero}
 use Rattle.syntax.specs.Reading.{Refusal}
 use Rattle.syntax.specs.Tree.{first_bad, numbered}
 use Rattle.names.specs.Ancestors.{one_of}

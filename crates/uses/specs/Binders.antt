@@ -9,13 +9,13 @@ use mathlib.Core.List.{List, [], ◌∷◌, ◌++◌, map, flat_map, append_asso
 use Rattle.std.proofs.Math.ListN.{length, length-map}
 use Rattle.order.specs.Bools.{◌and◌}
 use Rattle.order.specs.Sets.{bit, some_of, all_of}
-use Rattle.order.specs.SetLaws.{bit_or_lem, bit_zero}
+use Rattle.order.proofs.SetLaws.{bit_or_lem, bit_zero}
 use Rattle.syntax.specs.Types.{Ty}
 use Rattle.syntax.specs.Commands.{Cmd, map_cmd}
 use Rattle.syntax.specs.Operands.{nth, binds_var, binds_name}
 use Rattle.syntax.specs.Words as words
 use Rattle.syntax.specs.Tree.{Entry, e_var, e_name, binds, vars_of, names_of, mem_b, bound_by}
-use Rattle.syntax.specs.ReadFormed.{nth_map}
+use Rattle.syntax.proofs.ReadFormed.{nth_map}
 use Rattle.names.specs.Ancestors.{one_of}
 use Rattle.uses.specs.Passes.{bound_var, bound_name, bound_of, before, is_new}
 use Rattle.uses.specs.Heads.{byte_of, byte_is, one_bit, one_past, Sort, is_variable, is_function, is_key, is_plain, asked}

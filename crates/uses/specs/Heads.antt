@@ -2,16 +2,16 @@
 use Rattle.std.specs.Prelude.{◌≡◌, refl, ℕ, ◌+◌, ◌*◌, ◌/◌, ◌%◌, ◌^◌, ◌≤◌, ◌<◌, Bool, true, false, cond, List, [], ◌∷◌, length, get_or, eqb, ltb}
 use Rattle.std.proofs.Common.{sym, ap, ◌∙◌, arith, mod-eq_of_lt, le-ltb, ltb-true, ltb-false, ne_eqb, eqb-true}
 use Rattle.order.specs.Sets.{bit}
-use Rattle.order.specs.SetLaws.{bit_pow, bit_zero, lt_bit, lt_pow}
+use Rattle.order.proofs.SetLaws.{bit_pow, bit_zero, lt_bit, lt_pow}
 use Rattle.syntax.specs.Commands.{Cmd, c_num, c_top, c_var, c_pair, c_part, c_fn, c_app, c_new, c_asg, c_read, c_sum, c_test, c_lim, c_grant, c_newkey, c_assoc, c_access, c_divide, c_spawn, map_cmd, form, row}
 use Rattle.syntax.specs.Operands.{of_roles, plain, inner, children, types_of, uses_var}
 use Rattle.syntax.specs.Words.{packed, head_roles, head_word, slots, filled}
-use Rattle.syntax.specs.ReadPlaces.{byte_low}
-use Rattle.syntax.specs.WordLaws.{slots_few}
+use Rattle.syntax.proofs.ReadPlaces.{byte_low}
+use Rattle.syntax.proofs.WordLaws.{slots_few}
 use Rattle.syntax.specs.Types.{Ty}
 use Rattle.syntax.specs.Tree.{count, binds}
 use Rattle.names.specs.Ancestors.{one_of}
-use Rattle.names.specs.Bits.{one_of_lem}
+use Rattle.names.proofs.Bits.{one_of_lem}
 use Rattle.uses.specs.Passes.{arity_of, is_operand, type_place}
 
 -- the set of one number

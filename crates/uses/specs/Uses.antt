@@ -10,13 +10,14 @@ use Rattle.std.proofs.lemmas.List.{length-replicate, get_or-replicate}
 use Rattle.std.proofs.Math.Seq.{take-length}
 use Rattle.std.proofs.Math.Dec.{eqb}
 use Rattle.std.proofs.lemmas.Bool.{eqb-false}
-use Rattle.order.specs.SetLaws.{bool_ext}
+use Rattle.order.proofs.SetLaws.{bool_ext}
 use Rattle.syntax.specs.Types.{Ty}
 use Rattle.syntax.specs.Commands.{Cmd, map_cmd}
 use Rattle.syntax.specs.Operands.{nth, children}
 use Rattle.syntax.specs.Words as words
 use Rattle.syntax.specs.Tree.{count, uses, predecessor, first_bad}
-use Rattle.syntax.specs.ReadFormed.{children_map, nth_map}
+use Rattle.syntax.proofs.ReadFormed.{children_map}
+use Rattle.syntax.proofs.ReadFormed.{nth_map}
 use Rattle.uses.specs.Passes.{is_operand, one_more, tallied, count_step, counted, counts_by, right_count}
 use Rattle.uses.specs.Heads.{byte_of, keys_of, op_at, operand_is, use_at, uses5, children_count}
 

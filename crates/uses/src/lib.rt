@@ -1,4 +1,6 @@
 // The operands and the binders of expressions, and the tests 8 and 9 of document 01, by a pass each over a job's tables.
+#![tactic(auto)]
+
 ghost use Rattle.std.specs.Prelude.{◌≡◌, ◌+◌, ◌*◌, ◌≤◌, ◌<◌, true, false, cond, not, eqb};
 ghost use Rattle.order.specs.Sets.{bit};
 ghost use Rattle.syntax.specs.Reading.{most_expressions};
@@ -11,7 +13,7 @@ use names::{has, single};
 use table::{Expr, MOST_EXPRESSIONS, at16, at64, key_of, name_of};
 
 // The expressions are a tree in scope, or the first refusal: 8, 9 or 10, and its expression.
-#[derive(Drop)]
+#[derive(Clone, Copy)]
 pub enum Answer {
     Tree,
     Refused(u8, Expr),

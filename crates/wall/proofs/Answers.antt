@@ -14,7 +14,8 @@ use Rattle.judge.specs.declared.Verdict.TheVariants as verdicts
 use Rattle.checker.specs.declared.Checked.{Checked}
 use Rattle.checker.specs.Answer.{tree_of, CheckTo}
 use Rattle.start.specs.Starts.{Ready}
-use Rattle.safety.specs.Accepting.{Accepting, accepting, refusing}
+use Rattle.safety.specs.Accepting.{Accepting}
+use Rattle.safety.proofs.Accepting.{accepting, refusing}
 use Rattle.output.specs.Lines.{refused_line}
 use Rattle.output.specs.Sheet.{rows_of, sheet_text, sheet_read, sheeted, sheet_of}
 use Rattle.wall.specs.declared.Listing.{Listing}

@@ -11,15 +11,17 @@ use borrow.Author.Tests.{eq-eqb, ne_eqb}
 use Rattle.syntax.specs.Types.{Ty, num, lim, grant, on_cell, by_type}
 use Rattle.syntax.specs.Job.{Name, HostValue}
 use Rattle.syntax.specs.Reading.{Refusal, most_declared}
-use Rattle.table.specs.Copied.{copied, copied_all}
+use Rattle.table.specs.Copied.{copied}
+use Rattle.table.proofs.Copied.{copied_all}
 use Rattle.names.specs.Ancestors.{name_of, names_in, eff_below_by, one_of}
-use Rattle.names.specs.Tables.{names_in_length}
+use Rattle.names.proofs.Tables.{names_in_length}
 use Rattle.initial.specs.Entries.{head_of, host_of, values_from}
 use Rattle.output.specs.Lines.{refused_line}
-use Rattle.output.specs.LineLaws.{refused_length}
+use Rattle.output.proofs.LineLaws.{refused_length}
 use Rattle.output.specs.Sheet.{Row, carries, count_of, rows_from, laid}
-use Rattle.output.specs.ColumnLaws.{columns, columns_length}
-use Rattle.output.specs.SheetLaws.{rows_few}
+use Rattle.output.specs.ColumnLaws.{columns}
+use Rattle.output.proofs.ColumnLaws.{columns_length}
+use Rattle.output.proofs.SheetLaws.{rows_few}
 use Rattle.format.specs.declared.Text.{Text}
 use Rattle.format.specs.Text.{text_of}
 use Rattle.wall.specs.Listed.{sheet_bytes, row_by, Laid, NameLaid}

@@ -5,27 +5,29 @@ use Rattle.std.proofs.Common.{ap₂, ◌∙◌, arith, eqb-true, eq-eqb}
 use Rattle.std.proofs.Math.Option.{some}
 use Rattle.std.proofs.Math.ListN.{length, get_elem?}
 use Rattle.order.specs.Order.{below}
-use Rattle.order.specs.OrderLaws.{Proper, get_elem?_lt}
+use Rattle.order.specs.OrderLaws.{Proper}
+use Rattle.order.proofs.OrderLaws.{get_elem?_lt}
 use Rattle.order.specs.Sets.{some_of, all_of}
-use Rattle.order.specs.SetLaws.{bool_ext, bit_pow, all_of→, →all_of}
+use Rattle.order.proofs.SetLaws.{bool_ext, bit_pow, all_of→, →all_of}
 use Rattle.order.specs.Effects.{of_word, names, set_names, set_below}
-use Rattle.order.specs.NameSetLaws.{name_bit, bit_name}
+use Rattle.order.proofs.NameSetLaws.{name_bit, bit_name}
 use Rattle.syntax.specs.Types.{Ty}
 use Rattle.syntax.specs.Job.{Name, HostValue, Job, uppers, source_of}
 use Rattle.syntax.specs.ReadLaws.{JobOk}
-use Rattle.syntax.specs.ReadFormed.{names_proper}
+use Rattle.syntax.proofs.ReadFormed.{names_proper}
 use Rattle.names.specs.Ancestors.{names_in, ancestors_by, ancestors_of, eff_below_by, one_of}
-use Rattle.names.specs.Bits.{one_of_lem}
-use Rattle.names.specs.Laws.{eff_below_by_lem}
-use Rattle.names.specs.Pass.{ancestors_by_lem}
-use Rattle.names.specs.Tables.{uppers_length}
+use Rattle.names.proofs.Bits.{one_of_lem}
+use Rattle.names.proofs.Laws.{eff_below_by_lem}
+use Rattle.names.proofs.Pass.{ancestors_by_lem}
+use Rattle.names.proofs.Tables.{uppers_length}
 use Rattle.entry.specs.declared.Shape.{Shape}
 use Rattle.initial.specs.Entries.{values_from}
 use Rattle.initial.specs.Held.{names_are, values_are}
 use Rattle.start.specs.Starts.{Ready}
 use Rattle.output.specs.Sheet.{Row, is_used, carries, count_of, row_of, rows_from, rows_of, sheet_text, laid}
-use Rattle.output.specs.ColumnLaws.{columns, sheet_columns}
-use Rattle.output.specs.SheetExactly.{rows_fit}
+use Rattle.output.specs.ColumnLaws.{columns}
+use Rattle.output.proofs.ColumnLaws.{sheet_columns}
+use Rattle.output.proofs.SheetExactly.{rows_fit}
 use Rattle.wall.specs.Listed.{row_by}
 
 -- the set of one name has that name alone

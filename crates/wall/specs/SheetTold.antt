@@ -10,14 +10,15 @@ use Rattle.order.specs.Effects.{Effect}
 use Rattle.syntax.specs.Types.{Ty}
 use Rattle.syntax.specs.Job.{source_of}
 use Rattle.syntax.specs.Reading.{Refusal}
-use Rattle.syntax.specs.ReadLaws.{read_ok}
+use Rattle.syntax.proofs.ReadLaws.{read_ok}
 use Rattle.typing.specs.Verdict.{Verdict, accept, refuse, verdict_of}
-use Rattle.typing.specs.RefusalLaws.{Stands, by_reading, by_expression, refusal_stands}
+use Rattle.typing.specs.RefusalLaws.{Stands, by_reading, by_expression}
+use Rattle.typing.proofs.RefusalLaws.{refusal_stands}
 use Rattle.output.specs.Sheet.{row_of, rows_of, sheet_of}
-use Rattle.output.specs.LineLaws.{refused_length}
-use Rattle.output.specs.ColumnLaws.{sheet_length}
-use Rattle.output.specs.SheetLaws.{rows_few}
-use Rattle.output.specs.SheetExactly.{sheet_exactly, refused_sheet}
+use Rattle.output.proofs.LineLaws.{refused_length}
+use Rattle.output.proofs.ColumnLaws.{sheet_length}
+use Rattle.output.proofs.SheetLaws.{rows_few}
+use Rattle.output.proofs.SheetExactly.{sheet_exactly, refused_sheet}
 use Rattle.wall.specs.declared.Listing.{Listing}
 use Rattle.wall.specs.Listed.{sheet_bytes, number_of, place_of, sheet_in, SheetTo}
 

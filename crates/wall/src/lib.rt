@@ -1,4 +1,6 @@
 // The sheet for the wall file: its text for the bytes of a job, into a lent buffer.
+#![tactic(auto)]
+
 ghost use Rattle.std.specs.Prelude.{◌≡◌, ◌++◌, ◌+◌, ◌≤◌, length, take, drop};
 ghost use Rattle.order.specs.Effects.{of_word};
 ghost use Rattle.syntax.specs.Job.{Job, source_of};
@@ -25,7 +27,7 @@ use table::{
 pub const SHEET_BYTES: usize = 868;
 
 // The number of the refusal, 0 for an accepted job, and its place; how many bytes the text has.
-#[derive(Drop)]
+#[derive(Clone, Copy)]
 pub struct Listing {
     pub number: u8,
     pub place: usize,

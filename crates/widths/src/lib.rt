@@ -1,4 +1,6 @@
 // The widths of the commands' operands, by command byte.
+#![tactic(auto)]
+
 ghost use Rattle.std.specs.Prelude.{◌≡◌};
 ghost use Rattle.syntax.specs.Widths.{width_byte, width_table};
 

@@ -1,8 +1,10 @@
 // Writing a job from lent tables: its bytes go into a lent buffer. What the tables write is read, so that nothing is sent which the reader would not take.
+#![tactic(auto)]
+
 ghost use Rattle.std.specs.Prelude.{◌≡◌};
 ghost use Rattle.syntax.specs.Reading.{reading};
 ghost use Rattle.syntax.specs.Writing.{judged};
-ghost use Rattle.table.specs.Lent.{job_before, job_after};
+ghost use Rattle.table.specs.Lent.{job_shown, job_tables};
 ghost use Rattle.entry.specs.Shapes.{counts_of};
 ghost use Rattle.writer.specs.Sends.{refused_by, Delivered, WriteTo};
 
@@ -13,7 +15,7 @@ use job::{Answer, long_enough, would_read};
 use table::copy;
 
 // How many bytes there are, or the refusal.
-#[derive(Drop)]
+#[derive(Clone, Copy)]
 pub enum Sent {
     Bytes(usize),
     Refused(Refusal),
@@ -66,7 +68,7 @@ pub fn write(
     g: Shape,
     buffer: &mut [u8],
 ) -> Sent
-    ensures { WriteTo (job_before names types sets values heads slots) (job_after names types sets values heads slots) (counts_of g) result
+    ensures { WriteTo (job_shown names types sets values heads slots) (job_tables names.exit.now types.exit.now sets.exit.now values.exit.now heads.exit.now slots.exit.now) (counts_of g) result
         buffer.old buffer.new }
 {
     if long_enough(

@@ -1,0 +1,8 @@
+use Rattle.calls.proofs.Going.{noted_in, noted_past}
+use Rattle.calls.proofs.note.Goals as goal
+
+pub returns-then-at-answers : goal.returns-then-at-answers
+returns-then-at-answers c = noted_in _ _ _ c.if-at-answers.true
+
+pub returns : goal.returns
+returns c = noted_past _ _ _ c.if-at-answers.false

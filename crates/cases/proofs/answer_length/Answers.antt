@@ -1,0 +1,7 @@
+use Rattle.std.proofs.Common.{◌∙◌}
+use Rattle.cases.specs.Cases.{answer_length}
+use Rattle.cases.proofs.answer_length.Goals as goal
+
+pub returns : goal.returns
+unfolding answer_length
+returns c = c.at8.ensures ∙ simp c.job_length-n.ensures

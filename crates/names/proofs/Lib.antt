@@ -1,0 +1,5 @@
+pub mod Bits
+pub mod Laws
+pub mod Pass
+pub mod Tables
+pub mod Walk

@@ -1,0 +1,12 @@
+use Rattle.rules.specs.Answer.{result_in}
+use Rattle.rules.proofs.Sorts.{not_cell, is_cell_lem}
+use borrow.Enum.Refused.{opened}
+use Rattle.rules.proofs.read.Goals as goal
+
+pub returns-in_default : goal.returns-in_default
+unfolding result_in
+returns-in_default c = not_cell _ c.entry_at.ensures (opened c.in_default.in_default-own.keys2) _
+
+pub returns : goal.returns
+unfolding result_in
+returns c = simp (is_cell_lem c.entry_at.ensures c.in-Cell.is, c.touched.ensures)

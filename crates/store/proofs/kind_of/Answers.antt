@@ -1,0 +1,20 @@
+use borrow.Author.Tests.{ne_eqb}
+use Rattle.store.proofs.kind_of.Goals as goal
+
+pub returns-in-0 : goal.returns-in-0
+returns-in-0 c = λ n. simp c.in-0.is
+
+pub returns-in-1 : goal.returns-in-1
+returns-in-1 c = λ n. simp c.in-1.is
+
+pub returns-in-2 : goal.returns-in-2
+returns-in-2 c = λ n. simp c.in-2.is
+
+pub returns-in-3 : goal.returns-in-3
+returns-in-3 c = λ n. simp c.in-3.is
+
+pub returns-in-4 : goal.returns-in-4
+returns-in-4 c = λ n. simp c.in-4.is
+
+pub returns-in_default : goal.returns-in_default
+returns-in_default c = λ n. simp (ne_eqb _ _ c.in_default.in_default-own.rest.1, ne_eqb _ _ c.in_default.in_default-own.rest.0.1, ne_eqb _ _ c.in_default.in_default-own.rest.0.0.1, ne_eqb _ _ c.in_default.in_default-own.rest.0.0.0.1, ne_eqb _ _ c.in_default.in_default-own.rest.0.0.0.0.1)

@@ -1,0 +1,7 @@
+use mathlib.Core.Path.{refl}
+use Rattle.store.proofs.Writes.{name_put}
+use borrow.Author.Rules.{rules}
+use Rattle.store.proofs.put_name.Goals as goal
+
+pub returns : goal.returns
+returns c = name_put _ _ _ _ _ _ 1024 (search rules) (record { same = c.put64.ensures }) (record { same = c.put64-2.ensures }) _ _ _ c.triple-w.ensures (search rules) (search rules) refl (search rules)

@@ -1,0 +1,7 @@
+use Rattle.store.proofs.Writes.{stored}
+use Rattle.thread.proofs.Owns.{place_owned}
+use borrow.Author.Rules.{rules}
+use Rattle.thread.proofs.owned.put_place.Goals as goal
+
+pub returns : goal.returns
+returns c = place_owned (search rules) (search rules) (stored c.put64.ensures) (stored c.put64-2.ensures) (stored c.put64-3.ensures)
