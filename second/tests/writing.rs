@@ -53,6 +53,15 @@ fn with(
 }
 
 #[test]
+fn operands_are_as_wide_as_commands() {
+    for byte in 0..=255 {
+        let sum: usize = operands(byte).iter().map(|&(_, width)| width).sum();
+        assert_eq!(sum, command(byte).map_or(0, |(_, width)| width), "{byte:02x}");
+        assert_eq!(COMMANDS.contains(&byte), command(byte).is_some(), "{byte:02x}");
+    }
+}
+
+#[test]
 fn what_is_read_is_written_back() {
     let mut read_jobs = 0;
     for seed in 1..3_000 {
