@@ -18,7 +18,6 @@ LEMMAS = ("last_entry", "bound_all", "same_effect", "below_by", "in_head")
 OF_ONE_CRATE = (("crates/tree/", "set_word"), ("crates/print/", "ran_line"))
 MADE = re.compile(r"/proofs/.*/(Proof|Answers|Invariants)\.antt$")
 DECLARED = re.compile(rf"(?m)^ *(?:(?:pub|abbrev|unfoldable|field|constructor) +)*((?:{NAME} +)*{NAME})(?: *\{{[^{{}}\n]*\}}| *\([^()\n]*\))* *:(?=\s)")
-OF_HEAD = re.compile(rf"(?m)^ *(?:(?:pub|abbrev|unfoldable) +)*(?:record|data) +({NAME})")
 
 
 def snake(name):

@@ -2,7 +2,8 @@
 #![tactic(auto)]
 
 ghost use Rattle.syntax.specs.Words.{code_in};
-ghost use Rattle.table.specs.Lent.{job_before, job_after, job_shown, job_tables};
+ghost use Rattle.table.specs.Lent.{job_before, job_after, job_shown};
+ghost use Rattle.writer.specs.Lent.{job_left};
 ghost use Rattle.semantics.specs.Threads.{steps_of};
 ghost use Rattle.machine.specs.View.{seen};
 ghost use Rattle.judge.specs.Lent.{before};
@@ -186,7 +187,7 @@ pub fn jobdesk_write(
     buffer: &mut [u8],
     out: &mut [u64],
 ) -> u64
-    ensures { Writes (job_shown names types sets values heads slots) (job_tables names.exit.now types.exit.now sets.exit.now values.exit.now heads.exit.now slots.exit.now) counts.now result
+    ensures { Writes (job_shown names types sets values heads slots) (job_left names types sets values heads slots) counts.now result
         buffer.old buffer.new out.old out.new }
 {
     exchange::write(

@@ -1,7 +1,8 @@
 // What C and Rust call, under the names that `jobdesk.h` has: each is the function of that name in `capi`, whose promise it makes again. Nothing else stands in the static library.
 #![tactic(auto)]
 
-ghost use Rattle.table.specs.Lent.{job_before, job_after, job_shown, job_tables};
+ghost use Rattle.table.specs.Lent.{job_before, job_after, job_shown};
+ghost use Rattle.writer.specs.Lent.{job_left};
 ghost use Rattle.judge.specs.Lent.{before};
 ghost use Rattle.checker.specs.Lent.{after};
 ghost use Rattle.exchange.specs.Exchanges.{Reads, Writes};
@@ -112,7 +113,7 @@ pub extern "C" fn jobdesk_write(
     buffer: &mut [u8],
     out: &mut [u64],
 ) -> u64
-    ensures { Writes (job_shown names types sets values heads slots) (job_tables names.exit.now types.exit.now sets.exit.now values.exit.now heads.exit.now slots.exit.now) counts.now result
+    ensures { Writes (job_shown names types sets values heads slots) (job_left names types sets values heads slots) counts.now result
         buffer.old buffer.new out.old out.new }
 {
     capi::jobdesk_write(

@@ -4,7 +4,8 @@
 ghost use Rattle.std.specs.Prelude.{◌≡◌};
 ghost use Rattle.syntax.specs.Reading.{reading};
 ghost use Rattle.syntax.specs.Writing.{judged};
-ghost use Rattle.table.specs.Lent.{job_shown, job_tables};
+ghost use Rattle.table.specs.Lent.{job_shown};
+ghost use Rattle.writer.specs.Lent.{job_left};
 ghost use Rattle.entry.specs.Shapes.{counts_of};
 ghost use Rattle.writer.specs.Sends.{refused_by, Delivered, WriteTo};
 
@@ -68,7 +69,7 @@ pub fn write(
     g: Shape,
     buffer: &mut [u8],
 ) -> Sent
-    ensures { WriteTo (job_shown names types sets values heads slots) (job_tables names.exit.now types.exit.now sets.exit.now values.exit.now heads.exit.now slots.exit.now) (counts_of g) result
+    ensures { WriteTo (job_shown names types sets values heads slots) (job_left names types sets values heads slots) (counts_of g) result
         buffer.old buffer.new }
 {
     if long_enough(
