@@ -1,5 +1,6 @@
 -- A limit on one to four values, as one on four of which the last may come again.
 use Prim.Native.Nat.{ℕ, zero, suc, ◌<◌}
+use Rattle.std.specs.Prelude.{Option, Some, None}
 use mathlib.Core.Path.{◌≡◌, refl, ◌∙◌, ap}
 use mathlib.Core.Bool.{Bool, true, false, cond}
 use mathlib.Core.List.{List, [], ◌∷◌, ◌++◌}
@@ -10,8 +11,6 @@ use Rattle.order.specs.Sets.{some_of, all_of}
 use Rattle.semantics.specs.Machine.{Kind, k_num, k_pair, k_fn, k_cell, k_lim, k_grant, Value, Machine as Clean}
 use Rattle.semantics.specs.Keys.{enabled, narrow}
 use Rattle.semantics.specs.Step.{Out, o_stuck, o_denied, room, touch, touch_all, Plan, settle, as_lim, found, limit_keys, keys_of, act_lim}
-use types.Run.{OneOf}
-use denote.Enum.Declared.{tag_of}
 use Rattle.store.specs.declared.Keys.{Keys}
 use Rattle.store.specs.declared.Own.{Own}
 use Rattle.store.specs.Meaning.{keys_in, own_in}
@@ -19,12 +18,8 @@ use Rattle.store.specs.Words.{up_in}
 use Rattle.store.specs.Tables.{capped, list_of}
 use Rattle.store.specs.Frames.{hand_of}
 use Rattle.acts.specs.declared.State.{State}
-use Rattle.acts.specs.declared.Limits.{Limits}
-use Rattle.acts.specs.declared.Limits.TheVariants.{All}
 use Rattle.acts.specs.View.{Tables, view}
 use Rattle.acts.specs.Inner.{go, limits_in}
-use Rattle.acts.specs.contracts.Limits.{the_type as limits_type}
-use Rattle.acts.proofs.Sorts.{not_all}
 
 -- all keys are enabled
 pub touched : (ks : List ℕ) (m : Clean) (o : Out) → touch_all ks m o ≡ cond (all_of (enabled m.store.keys m.thread.on) ks) o o_denied
@@ -104,17 +99,17 @@ padded (suc (suc (suc n))) b p q r v m =
     simp (ne_eqb _ _ e0, ne_eqb _ _ e1, ne_eqb _ _ e2, lt-ltb _ _ l0, lt-ltb _ _ l1, lt-ltb _ _ l2)
 
 -- the act of a limit
-module _ (back : State) (w : Tables) (b : ℕ) (v : List Value) (l : Limits) (hl : (f : List ℕ → Plan) → limit_keys v f ≡ limits_in l f) where
-  pub lim_stuck : OneOf (1 ∷ []) (tag_of limits_type l) → settle (act_lim b v (view back w)) ≡ o_stuck
+module _ (back : State) (w : Tables) (b : ℕ) (v : List Value) (l : Option Own) (hl : (f : List ℕ → Plan) → limit_keys v f ≡ limits_in l f) where
+  pub lim_stuck : l ≡ None → settle (act_lim b v (view back w)) ≡ o_stuck
   unfolding act_lim settle
-  lim_stuck h = simp (hl, not_all l h)
+  lim_stuck h = simp (hl, h)
 
-  pub lim_denied : {own : Own} {o : Bool} → l ≡ All own → o ≡ all_of (enabled (list_of up_in w.keys (capped back.keys 128)) (keys_in back.now.on)) (keys_of v) → o ≡ false →
+  pub lim_denied : {own : Own} {o : Bool} → l ≡ Some own → o ≡ all_of (enabled (list_of up_in w.keys (capped back.keys 128)) (keys_in back.now.on)) (keys_of v) → o ≡ false →
       settle (act_lim b v (view back w)) ≡ o_denied
   unfolding act_lim view settle room
   lim_denied e h f = simp (hl, e, touched (keys_of v), ← h, f)
 
-  pub lim_goes : {own : Own} {o : Bool} (s : Keys) → l ≡ All own → o ≡ all_of (enabled (list_of up_in w.keys (capped back.keys 128)) (keys_in back.now.on)) (keys_of v) → o ≡ true →
+  pub lim_goes : {own : Own} {o : Bool} (s : Keys) → l ≡ Some own → o ≡ all_of (enabled (list_of up_in w.keys (capped back.keys 128)) (keys_in back.now.on)) (keys_of v) → o ≡ true →
       keys_in s ≡ narrow (list_of up_in w.keys (capped back.keys 128)) (keys_in back.now.on) (own_in own) →
       settle (act_lim b v (view back w)) ≡ go b back.now.env (keys_in s) (view back w)
   unfolding act_lim view settle room

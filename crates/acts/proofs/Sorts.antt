@@ -1,7 +1,7 @@
 -- What the other arm of a match on a kind knows.
 use Prim.Native.Nat.{ℕ}
 use mathlib.Core.Path.{◌≡◌, refl}
-use mathlib.Core.List.{List, [], ◌∷◌}
+use mathlib.Core.List.{[], ◌∷◌}
 use types.Run.{OneOf, miss}
 use denote.Enum.Declared.{tag_of}
 use Rattle.semantics.specs.Step.{o_stuck, Plan, p_wrong, settle, as_num, as_pair, as_fn, as_cell, as_lim, as_grant, found}
@@ -9,10 +9,6 @@ use Rattle.store.specs.declared.Kind.{Kind}
 use Rattle.store.specs.declared.Kind.TheVariants.{Number, Pair, Cell, Function, Limit, Grant}
 use Rattle.store.specs.Meaning.{kind_in}
 use Rattle.store.specs.contracts.Kind.{the_type}
-use Rattle.acts.specs.declared.Limits.{Limits}
-use Rattle.acts.specs.declared.Limits.TheVariants.{All, Other}
-use Rattle.acts.specs.Inner.{limits_in}
-use Rattle.acts.specs.contracts.Limits.{the_type as limits_type}
 
 -- a value of a known kind
 pub of_kind : {k l : Kind} (n : ℕ) → k ≡ l → kind_in k n ≡ kind_in l n
@@ -80,7 +76,3 @@ not_grant Cell h n f = refl
 not_grant Function h n f = refl
 not_grant Limit h n f = refl
 not_grant Grant h n f = absurd (miss (0 ∷ 1 ∷ 2 ∷ 3 ∷ 4 ∷ []) 5 tt h)
-
-pub not_all : (l : Limits) → OneOf (1 ∷ []) (tag_of limits_type l) → (f : List ℕ → Plan) → limits_in l f ≡ p_wrong
-not_all (All o) h f = absurd (miss (1 ∷ []) 0 tt h)
-not_all Other h f = refl

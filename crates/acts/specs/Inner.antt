@@ -1,9 +1,10 @@
 -- What the contracts of the state's own functions say.
-use Rattle.std.specs.Prelude.{◌≡◌, Bool, cond, ℕ, ◌≤◌, List, [], ◌∷◌, take}
+use Rattle.std.specs.Prelude.{◌≡◌, Option, Some, None, Bool, cond, ℕ, ◌≤◌, List, [], ◌∷◌, take}
 use Rattle.semantics.specs.Machine.{k_num, Value as SValue, unkeyed, Machine as Clean}
 use Rattle.semantics.specs.Step.{Out, o_step, o_done, o_room, o_stuck, o_denied, handing, entering, Plan, p_wrong, settle, act_sum, act_divide}
 use Rattle.table.specs.declared.Expr.{Expr}
 use Rattle.store.specs.declared.Keys.{Keys}
+use Rattle.store.specs.declared.Own.{Own}
 use Rattle.store.specs.declared.Kind.{Kind}
 use Rattle.store.specs.declared.Value.{Value}
 use Rattle.store.specs.Meaning.{own_in}
@@ -11,8 +12,6 @@ use Rattle.store.specs.Words.{word_in}
 use Rattle.acts.specs.declared.Answer.{Answer}
 use Rattle.acts.specs.declared.Answer.TheVariants.{Taken}
 use Rattle.acts.specs.declared.Control.TheVariants.{Enter, Hand}
-use Rattle.acts.specs.declared.Limits.{Limits}
-use Rattle.acts.specs.declared.Limits.TheVariants.{All, Other}
 use Rattle.acts.specs.declared.Now.{Now}
 use Rattle.acts.specs.declared.State.{State}
 use Rattle.acts.specs.declared.Acted.{Acted}
@@ -107,10 +106,10 @@ unkeyed_number n = unkeyed (k_num n)
 abbrev pub act_numbers : Bool → Bool → SValue → SValue → Clean → Plan
 act_numbers d i x y m = cond d (act_divide x y m) (act_sum i x y m)
 
--- the keys of a limit, or a value that is no limit key
-abbrev pub limits_in : Limits → (List ℕ → Plan) → Plan
-limits_in (All o) f = f (own_in o)
-limits_in Other f = p_wrong
+-- the keys of a limit; none where a value is no limit key
+abbrev pub limits_in : Option Own → (List ℕ → Plan) → Plan
+limits_in (Some o) f = f (own_in o)
+limits_in None f = p_wrong
 
 -- a step that is taken
 pub record Went (r : Acted) (w : Tables) (o : Out) : Type 0 where

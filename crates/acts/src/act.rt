@@ -11,7 +11,7 @@ ghost use Rattle.acts.specs.View.{Tables, view};
 ghost use Rattle.acts.specs.Inner.{acted, tried, act_numbers, unkeyed_number, put_cells, put_keys, put_pairs, put_functions, put_bindings, limits_in, Went};
 ghost use Rattle.acts.specs.Lent.{before_key, after_key};
 
-use crate::{Acted, Answer, Limits, State, unkeyed};
+use crate::{Acted, Answer, State, unkeyed};
 use store::{
     BINDING_WORDS, CELL_WORDS, FUNCTION_WORDS, KEY_BYTES, Kind, MOST_BINDINGS, MOST_CELLS,
     MOST_FUNCTIONS, MOST_KEYS, MOST_PAIRS, Own, PAIR_WORDS, Two, Value,
@@ -22,26 +22,22 @@ use table::{Expr, Key};
 const ROOM_FOR_TWO: u64 = MOST_BINDINGS - 1;
 
 // The keys that four values stand for, where all are limit keys.
-fn limit_keys(a: Value, b: Value, c: Value, d: Value) -> Limits
+fn limit_keys(a: Value, b: Value, c: Value, d: Value) -> Option<Own>
     ensures { (f : List ℕ → Plan) → limit_keys (value_in a ∷ value_in b ∷ value_in c ∷ value_in d ∷ []) f ≡ limits_in result f }
 {
-    let i = a.kind;
-    let j = b.kind;
-    let k = c.kind;
-    let l = d.kind;
-    let Kind::Limit = i else {
-        return Limits::Other;
+    let Kind::Limit = a.kind else {
+        return None;
     };
-    let Kind::Limit = j else {
-        return Limits::Other;
+    let Kind::Limit = b.kind else {
+        return None;
     };
-    let Kind::Limit = k else {
-        return Limits::Other;
+    let Kind::Limit = c.kind else {
+        return None;
     };
-    let Kind::Limit = l else {
-        return Limits::Other;
+    let Kind::Limit = d.kind else {
+        return None;
     };
-    Limits::All(Own(
+    Some(Own(
         store::key_in(a),
         store::key_in(b),
         store::key_in(c),
@@ -53,16 +49,7 @@ impl State {
     fn touch_all(self, a: Value, b: Value, c: Value, d: Value, keys: &[u8; KEY_BYTES]) -> bool
         ensures { result ≡ all_of (enabled (list_of up_in keys.now (capped self.keys most_keys)) (keys_in self.now.on)) (a.key.0 ∷ b.key.0 ∷ c.key.0 ∷ d.key.0 ∷ []) }
     {
-        if self.touch(a, keys) {} else {
-            return false;
-        }
-        if self.touch(b, keys) {} else {
-            return false;
-        }
-        if self.touch(c, keys) {} else {
-            return false;
-        }
-        self.touch(d, keys)
+        self.touch(a, keys) && self.touch(b, keys) && self.touch(c, keys) && self.touch(d, keys)
     }
 
     pub(crate) fn act_pair(
@@ -84,10 +71,11 @@ impl State {
                     second: y,
                 },
             );
-            let mut next = back;
-            next.pairs = n + 1;
-            let v = unkeyed(Kind::Pair, n as u32);
-            next.give(v)
+            State {
+                pairs: n + 1,
+                ..back
+            }
+            .give(unkeyed(Kind::Pair, n as u32))
         } else {
             self.stop(Answer::NoRoom)
         }
@@ -103,23 +91,20 @@ impl State {
     ) -> Acted
         ensures { (w : Tables) → acted result (put_keys (put_pairs w pairs.now) keys.now) ≡ tried self back (put_keys (put_pairs w pairs.now) keys.now) (act_part first (value_in x)) }
     {
-        let k = x.kind;
-        let Kind::Pair = k else {
+        let Kind::Pair = x.kind else {
             return self.stop(Answer::Stuck);
         };
-        if (x.payload as u64) < store::cap(back.pairs, MOST_PAIRS) {} else {
+        if back.pairs.min(MOST_PAIRS) <= x.payload as u64 {
             return self.stop(Answer::Stuck);
         }
-        if back.touch(x, keys) {} else {
+        if !back.touch(x, keys) {
             return self.stop(Answer::Denied);
         }
         let t = store::pair_at(pairs, x.payload);
-        let one = t.first;
-        let two = t.second;
         if first {
-            back.give(one)
+            back.give(t.first)
         } else {
-            back.give(two)
+            back.give(t.second)
         }
     }
 
@@ -136,26 +121,24 @@ impl State {
             acted result (put_bindings (put_functions (put_keys w keys.now) functions.now) bindings.new) ≡
             tried self back (put_bindings (put_functions (put_keys w keys.now) functions.now) bindings.old) (act_app (value_in x) (value_in y)) }
     {
-        let k = x.kind;
-        let Kind::Function = k else {
+        let Kind::Function = x.kind else {
             return self.stop(Answer::Stuck);
         };
-        if (x.payload as u64) < store::cap(back.functions, MOST_FUNCTIONS) {} else {
+        if back.functions.min(MOST_FUNCTIONS) <= x.payload as u64 {
             return self.stop(Answer::Stuck);
         }
-        if back.touch(x, keys) {} else {
+        if !back.touch(x, keys) {
             return self.stop(Answer::Denied);
         }
         let n = back.bindings;
         if n < MOST_BINDINGS {
             let f = store::closure_at(functions, x.payload);
-            let body = f.body;
             store::put_variable(bindings, n as u16, f.var, y, f.env);
-            let now = back.now;
-            let on = now.on;
-            let mut next = back;
-            next.bindings = n + 1;
-            next.go(body, (n + 1) as u16, on)
+            State {
+                bindings: n + 1,
+                ..back
+            }
+            .go(f.body, (n + 1) as u16, back.now.on)
         } else {
             self.stop(Answer::NoRoom)
         }
@@ -167,10 +150,11 @@ impl State {
         let n = back.cells;
         if n < MOST_CELLS {
             store::put_cell(cells, n as u32, x);
-            let mut next = back;
-            next.cells = n + 1;
-            let v = unkeyed(Kind::Cell, n as u32);
-            next.give(v)
+            State {
+                cells: n + 1,
+                ..back
+            }
+            .give(unkeyed(Kind::Cell, n as u32))
         } else {
             self.stop(Answer::NoRoom)
         }
@@ -188,14 +172,13 @@ impl State {
             acted result (put_cells (put_keys w keys.now) cells.new) ≡
             tried self back (put_cells (put_keys w keys.now) cells.old) (act_asg (value_in cell) (value_in value)) }
     {
-        let k = cell.kind;
-        let Kind::Cell = k else {
+        let Kind::Cell = cell.kind else {
             return self.stop(Answer::Stuck);
         };
-        if (cell.payload as u64) < store::cap(back.cells, MOST_CELLS) {} else {
+        if back.cells.min(MOST_CELLS) <= cell.payload as u64 {
             return self.stop(Answer::Stuck);
         }
-        if back.touch(cell, keys) {} else {
+        if !back.touch(cell, keys) {
             return self.stop(Answer::Denied);
         }
         store::put_cell(cells, cell.payload, value);
@@ -211,18 +194,16 @@ impl State {
     ) -> Acted
         ensures { (w : Tables) → acted result (put_cells (put_keys w keys.now) cells.now) ≡ tried self back (put_cells (put_keys w keys.now) cells.now) (act_read (value_in x)) }
     {
-        let k = x.kind;
-        let Kind::Cell = k else {
+        let Kind::Cell = x.kind else {
             return self.stop(Answer::Stuck);
         };
-        if (x.payload as u64) < store::cap(back.cells, MOST_CELLS) {} else {
+        if back.cells.min(MOST_CELLS) <= x.payload as u64 {
             return self.stop(Answer::Stuck);
         }
-        if back.touch(x, keys) {} else {
+        if !back.touch(x, keys) {
             return self.stop(Answer::Denied);
         }
-        let v = store::cell_at(cells, x.payload);
-        back.give(v)
+        back.give(store::cell_at(cells, x.payload))
     }
 
     // The parts of a division, as a pair.
@@ -230,15 +211,17 @@ impl State {
         ensures { (w : Tables) → acted result (put_pairs w pairs.new) ≡ tried self back (put_pairs w pairs.old) (act_pair (unkeyed_number (quotient a b)) (unkeyed_number (remainder a b))) }
     {
         let n = back.pairs;
-        if n < MOST_PAIRS {} else {
+        if MOST_PAIRS <= n {
             return self.stop(Answer::NoRoom);
         }
         let first = unkeyed(Kind::Number, arithmetic::quotient(a, b));
         let second = unkeyed(Kind::Number, arithmetic::remainder(a, b));
         store::put_pair(pairs, n as u16, Two { first, second });
-        let mut next = back;
-        next.pairs = n + 1;
-        next.give(unkeyed(Kind::Pair, n as u32))
+        State {
+            pairs: n + 1,
+            ..back
+        }
+        .give(unkeyed(Kind::Pair, n as u32))
     }
 
     // Two numbers, both touched: their sum or difference, or the pair of their division. One function tests them for both commands: a second one beside it makes every step dearer.
@@ -254,25 +237,22 @@ impl State {
     ) -> Acted
         ensures { (w : Tables) → acted result (put_keys (put_pairs w pairs.new) keys.now) ≡ tried self back (put_keys (put_pairs w pairs.old) keys.now) (act_numbers «divides» sum (value_in x) (value_in y)) }
     {
-        let k = x.kind;
-        let l = y.kind;
-        let Kind::Number = k else {
+        let Kind::Number = x.kind else {
             return self.stop(Answer::Stuck);
         };
-        let Kind::Number = l else {
+        let Kind::Number = y.kind else {
             return self.stop(Answer::Stuck);
         };
-        if back.touch(x, keys) {} else {
+        if !back.touch(x, keys) {
             return self.stop(Answer::Denied);
         }
-        if back.touch(y, keys) {} else {
+        if !back.touch(y, keys) {
             return self.stop(Answer::Denied);
         }
         if divides {
             return self.pair_parts(back, x.payload, y.payload, pairs);
         }
-        let v = unkeyed(Kind::Number, arithmetic::sum_of(sum, x.payload, y.payload));
-        back.give(v)
+        back.give(unkeyed(Kind::Number, arithmetic::sum_of(sum, x.payload, y.payload)))
     }
 
     pub(crate) fn act_test(
@@ -285,19 +265,16 @@ impl State {
     ) -> Acted
         ensures { (w : Tables) → acted result (put_keys w keys.now) ≡ tried self back (put_keys w keys.now) (act_test yes.0 no.0 (value_in x)) }
     {
-        let k = x.kind;
-        let Kind::Number = k else {
+        let Kind::Number = x.kind else {
             return self.stop(Answer::Stuck);
         };
-        if back.touch(x, keys) {} else {
+        if !back.touch(x, keys) {
             return self.stop(Answer::Denied);
         }
-        let now = back.now;
-        let on = now.on;
         if x.payload == 0 {
-            back.go(no, now.env, on)
+            back.go(no, back.now.env, back.now.on)
         } else {
-            back.go(yes, now.env, on)
+            back.go(yes, back.now.env, back.now.on)
         }
     }
 
@@ -313,17 +290,14 @@ impl State {
     ) -> Acted
         ensures { (w : Tables) → acted result (put_keys w keys.now) ≡ tried self back (put_keys w keys.now) (act_lim body.0 (value_in a ∷ value_in b ∷ value_in c ∷ value_in d ∷ [])) }
     {
-        let l = limit_keys(a, b, c, d);
-        let Limits::All(own) = l else {
+        let Some(own) = limit_keys(a, b, c, d) else {
             return self.stop(Answer::Stuck);
         };
-        if back.touch_all(a, b, c, d, keys) {} else {
+        if !back.touch_all(a, b, c, d, keys) {
             return self.stop(Answer::Denied);
         }
-        let now = back.now;
-        let on = now.on;
-        let left = store::narrow(keys, back.keys, on, own);
-        back.go(body, now.env, left)
+        let left = store::narrow(keys, back.keys, back.now.on, own);
+        back.go(body, back.now.env, left)
     }
 
     pub(crate) fn act_grant(
@@ -335,18 +309,14 @@ impl State {
     ) -> Acted
         ensures { (w : Tables) → acted result (put_keys w keys.now) ≡ tried self back (put_keys w keys.now) (act_grant body.0 (value_in x)) }
     {
-        let k = x.kind;
-        let Kind::Grant = k else {
+        let Kind::Grant = x.kind else {
             return self.stop(Answer::Stuck);
         };
-        if back.touch(x, keys) {} else {
+        if !back.touch(x, keys) {
             return self.stop(Answer::Denied);
         }
-        let now = back.now;
-        let on = now.on;
-        let j = store::key_in(x);
-        let more = store::add(back.keys, on, j);
-        back.go(body, now.env, more)
+        let more = store::add(back.keys, back.now.on, store::key_in(x));
+        back.go(body, back.now.env, more)
     }
 
     pub(crate) fn act_new_key(
@@ -364,27 +334,22 @@ impl State {
             acted result (after_key w keys pairs bindings) ≡
             tried self back (before_key w keys pairs bindings) (act_newkey x r body.0 (value_in v)) }
     {
-        let k = v.kind;
-        let Kind::Limit = k else {
+        let Kind::Limit = v.kind else {
             return self.stop(Answer::Stuck);
         };
-        if back.touch(v, keys) {} else {
+        if !back.touch(v, keys) {
             return self.stop(Answer::Denied);
         }
-        let nk = back.keys;
-        let np = back.pairs;
-        let nb = back.bindings;
-        if nk < MOST_KEYS {} else {
+        if MOST_KEYS <= back.keys {
             return self.stop(Answer::NoRoom);
         }
-        if np < MOST_PAIRS {} else {
+        if MOST_PAIRS <= back.pairs {
             return self.stop(Answer::NoRoom);
         }
-        if nb < ROOM_FOR_TWO {} else {
+        if ROOM_FOR_TWO <= back.bindings {
             return self.stop(Answer::NoRoom);
         }
-        let j = store::key_in(v);
-        back.new_key(x, r, body, j, keys, pairs, bindings)
+        back.new_key(x, r, body, store::key_in(v), keys, pairs, bindings)
     }
 
     // A key below j, a pair of its limit and grant key, and bindings of the name and of the variable.
@@ -405,28 +370,25 @@ impl State {
         let nk = self.keys;
         let np = self.pairs;
         let nb = self.bindings;
-        let now = self.now;
-        let on = now.on;
-        let key = Key(nk as u8);
-        let limit = unkeyed(Kind::Limit, nk as u32);
-        let grant = unkeyed(Kind::Grant, nk as u32);
         let pair = unkeyed(Kind::Pair, np as u32);
         store::put_up(keys, nk as u16, j);
         store::put_pair(
             pairs,
             np as u16,
             Two {
-                first: limit,
-                second: grant,
+                first: unkeyed(Kind::Limit, nk as u32),
+                second: unkeyed(Kind::Grant, nk as u32),
             },
         );
-        store::put_name(bindings, nb as u16, r, key, now.env);
+        store::put_name(bindings, nb as u16, r, Key(nk as u8), self.now.env);
         store::put_variable(bindings, (nb + 1) as u16, x, pair, (nb + 1) as u16);
-        let mut next = self;
-        next.keys = nk + 1;
-        next.pairs = np + 1;
-        next.bindings = nb + 2;
-        next.go(body, (nb + 2) as u16, on)
+        State {
+            keys: nk + 1,
+            pairs: np + 1,
+            bindings: nb + 2,
+            ..self
+        }
+        .go(body, (nb + 2) as u16, self.now.on)
     }
 
     pub(crate) fn act_associate(
@@ -438,22 +400,18 @@ impl State {
     ) -> Acted
         ensures { (w : Tables) → acted result (put_keys w keys.now) ≡ tried self back (put_keys w keys.now) (act_assoc (value_in value) (value_in limit)) }
     {
-        let l = limit.kind;
-        let Kind::Limit = l else {
+        let Kind::Limit = limit.kind else {
             return self.stop(Answer::Stuck);
         };
-        if back.touch(value, keys) {} else {
+        if !back.touch(value, keys) {
             return self.stop(Answer::Denied);
         }
-        if back.touch(limit, keys) {} else {
+        if !back.touch(limit, keys) {
             return self.stop(Answer::Denied);
         }
-        let j = store::key_in(limit);
-        let k = value.kind;
         back.give(Value {
-            key: j,
-            kind: k,
-            payload: value.payload,
+            key: store::key_in(limit),
+            ..value
         })
     }
 
@@ -468,20 +426,16 @@ impl State {
     ) -> Acted
         ensures { (w : Tables) → acted result (put_keys w keys.now) ≡ tried self back (put_keys w keys.now) (act_access first.0 second.0 (value_in key)) }
     {
-        let k = key.kind;
-        let Kind::Limit = k else {
+        let Kind::Limit = key.kind else {
             return self.stop(Answer::Stuck);
         };
-        if back.touch(key, keys) {} else {
+        if !back.touch(key, keys) {
             return self.stop(Answer::Denied);
         }
-        let now = back.now;
-        let on = now.on;
-        let j = store::key_in(key);
-        if store::enabled(keys, back.keys, on, j) {
-            back.go(first, now.env, on)
+        if store::enabled(keys, back.keys, back.now.on, store::key_in(key)) {
+            back.go(first, back.now.env, back.now.on)
         } else {
-            back.go(second, now.env, on)
+            back.go(second, back.now.env, back.now.on)
         }
     }
 }

@@ -43,10 +43,10 @@ impl State {
             tried self back (before_one w cells keys pairs bindings) (act (lent_code heads slots at.0) (word_in v ∷ [])) }
     {
         let i = at.0 as usize;
-        let head = table::at64(heads, i);
+        let head = table::get_or(heads, i, 0);
         let op = head % 256;
         let x = head / 256 % 4294967296;
-        let b = Expr(table::at16(slots, i * 5 + 1));
+        let b = Expr(table::get_or(slots, i * 5 + 1, 0));
         match op {
             0x34 => self.act_part(back, x == 1, store::unpack(v), keys, pairs),
             0x37 => self.act_cell(back, store::unpack(v), cells),
@@ -54,7 +54,7 @@ impl State {
             0x3B => self.act_test(
                 back,
                 b,
-                Expr(table::at16(slots, i * 5 + 2)),
+                Expr(table::get_or(slots, i * 5 + 2, 0)),
                 store::unpack(v),
                 keys,
             ),
@@ -72,7 +72,7 @@ impl State {
             0x40 => self.act_access(
                 back,
                 b,
-                Expr(table::at16(slots, i * 5 + 2)),
+                Expr(table::get_or(slots, i * 5 + 2, 0)),
                 store::unpack(v),
                 keys,
             ),
@@ -151,9 +151,9 @@ impl State {
             (act (lent_code heads slots at.0) (hand_of held (held_in frames.now top 0) (held_in frames.now top 1) (held_in frames.now top 2) ++ (word_in v ∷ []))) }
     {
         let i = at.0 as usize;
-        let head = table::at64(heads, i);
+        let head = table::get_or(heads, i, 0);
         if head % 256 == 0x3C {
-            let body = Expr(table::at16(slots, i * 5 + 4));
+            let body = Expr(table::get_or(slots, i * 5 + 4, 0));
             let a = store::unpack(in_hand(frames, top, held, 0, v));
             let b = store::unpack(in_hand(frames, top, held, 1, v));
             let c = store::unpack(in_hand(frames, top, held, 2, v));

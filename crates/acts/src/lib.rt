@@ -12,7 +12,7 @@ ghost use Rattle.store.specs.Words.{up_in};
 ghost use Rattle.store.specs.Tables.{capped, list_of};
 ghost use Rattle.acts.specs.Inner.{stop_of, go_of, resume_of, unkeyed_of, Gave};
 
-use store::{KEY_BYTES, Keys, Kind, Own, Value};
+use store::{KEY_BYTES, Keys, Kind, Value};
 use table::{Expr, Key};
 
 // An expression to enter or the word of a value to hand on.
@@ -23,7 +23,7 @@ pub enum Control {
 }
 
 // The answers of a thread's step. `Starts`: the expression to enter is a 0x42. To start a thread is for who holds all threads, and the step changes nothing.
-#[derive(Clone, Copy)]
+#[derive(Clone, Copy, PartialEq, Eq)]
 pub enum Answer {
     Taken,
     Finished,
@@ -31,13 +31,6 @@ pub enum Answer {
     Stuck,
     Denied,
     Starts,
-}
-
-// The keys of a limit, or a value that is no limit key.
-#[derive(Clone, Copy)]
-pub enum Limits {
-    All(Own),
-    Other,
 }
 
 // The control, with the bindings and the enabled keys of the expression to enter.
@@ -73,7 +66,7 @@ pub fn unkeyed(k: Kind, payload: u32) -> Value
     Value {
         key: Key(0),
         kind: k,
-        payload: payload,
+        payload,
     }
 }
 
@@ -83,39 +76,37 @@ impl State {
     {
         Acted {
             state: self,
-            answer: answer,
+            answer,
         }
     }
 
-    pub fn give(mut self, v: Value) -> Acted
+    pub fn give(self, v: Value) -> Acted
         ensures { Gave self (value_in v) result }
     {
-        let w = store::pack(v);
-        let now = self.now;
-        let on = now.on;
-        let n = Now {
-            control: Control::Hand(w),
-            env: now.env,
-            on: on,
-        };
-        self.now = n;
         Acted {
-            state: self,
+            state: State {
+                now: Now {
+                    control: Control::Hand(store::pack(v)),
+                    ..self.now
+                },
+                ..self
+            },
             answer: Answer::Taken,
         }
     }
 
-    pub fn go(mut self, e: Expr, env: u16, on: Keys) -> Acted
+    pub fn go(self, e: Expr, env: u16, on: Keys) -> Acted
         ensures { result ≡ go_of self e env on }
     {
-        let n = Now {
-            control: Control::Enter(e),
-            env: env,
-            on: on,
-        };
-        self.now = n;
         Acted {
-            state: self,
+            state: State {
+                now: Now {
+                    control: Control::Enter(e),
+                    env,
+                    on,
+                },
+                ..self
+            },
             answer: Answer::Taken,
         }
     }
@@ -124,26 +115,21 @@ impl State {
     pub fn resume(self, top: u16, env: u16, on: Keys) -> State
         ensures { result ≡ resume_of self top env on }
     {
-        let now = self.now;
-        let control = now.control;
-        let n = Now {
-            control: control,
-            env: env,
-            on: on,
-        };
-        let mut next = self;
-        next.now = n;
-        next.frames = top as u64;
-        next
+        State {
+            now: Now {
+                env,
+                on,
+                ..self.now
+            },
+            frames: top as u64,
+            ..self
+        }
     }
 
     // Is the value's key enabled?
     pub fn touch(self, x: Value, keys: &[u8; KEY_BYTES]) -> bool
         ensures { result ≡ enabled (list_of up_in keys.now (capped self.keys most_keys)) (keys_in self.now.on) x.key.0 }
     {
-        let key = x.key;
-        let now = self.now;
-        let on = now.on;
-        store::enabled(keys, self.keys, on, key)
+        store::enabled(keys, self.keys, self.now.on, x.key)
     }
 }

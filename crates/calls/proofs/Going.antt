@@ -4,7 +4,7 @@ use Prim.Native.Nat.{ℕ, zero, suc, ◌+◌, ◌-◌, ◌*◌, ◌≤◌, ◌<�
 use native.Mathlib.Omega.{arith}
 use native.Mathlib.Numerals.{add-one}
 use mathlib.Core.List.{List, [], ◌∷◌, ◌++◌}
-use lib.ListN.{length, drop, get_or, set, drop_of_length-le}
+use lib.ListN.{length, take, drop, get_or, set, drop_of_length-le}
 use lib.Seq.{sets, drop-cons, length-sets}
 use Rattle.semantics.specs.Machine.{System, most_threads}
 use Rattle.semantics.specs.Threads.{Steps}
@@ -34,12 +34,12 @@ going_within {n = n} g h = omega (arith, g.bound, h)
 
 pub going_on : {K : Steps} {ws before : List ℕ} {m : System} {answers : List ℕ} {last : System} {at place n : ℕ} (after : List ℕ) (o : Ran) (r : ℕ)
     → 0 < n → o ≡ call K (call_at ws at) last → NotedAll answers after place (answer_words o.answer o.thread o.counts) r → Going K ws before m answers last at place n
-    → Going K ws before m after o.machine (at + call_words) r (n - 1)
+    → (p k : ℕ) → p ≡ at + call_words → k ≡ n - 1 → Going K ws before m after o.machine p r k
 unfolding calls_from calls result_words last_of
-going_on {n = zero} after o r h e v g = absurd (omega (arith, h))
-going_on {K} {ws} {before} {m} {answers} {last} {at} {place} {n = suc n} after o r h e v g =
-    let q : suc n - 1 ≡ n = omega arith in
-    rw q (record {
+going_on {n = zero} after o r h e v g p k f d = absurd (omega (arith, h))
+going_on {K} {ws} {before} {m} {answers} {last} {at} {place} {n = suc n} after o r h e v g p k f d =
+    let q : k ≡ n = omega (arith, d) in
+    rw (f, q) (record {
       bound = omega (arith, g.bound);
       same = ap length (v.onward []) ∙ length-sets answers place (answer_words o.answer o.thread o.counts ++ []) ∙ g.same;
       noted =
@@ -94,10 +94,22 @@ noted_answer a b c d at x y p q r v i counts e f m n k = record {
 }
 
 -- the allowances at a place
-pub eight_are : (ws : List ℕ) (p : ℕ) {a b c d e f g h : ℕ} → a ≡ get_or ws (p + 1) 0 → b ≡ get_or ws (p + 2) 0 → c ≡ get_or ws (p + 3) 0 → d ≡ get_or ws (p + 4) 0 → e ≡ get_or ws (p + 5) 0 → f ≡ get_or ws (p + 6) 0
-    → g ≡ get_or ws (p + 7) 0 → h ≡ get_or ws (p + 8) 0 → (a ∷ b ∷ c ∷ d ∷ e ∷ f ∷ g ∷ h ∷ []) ≡ allowances_at ws p
+one : (n : ℕ) (ws : List ℕ) (j k : ℕ) → j ≡ k → k < length ws → take (suc n) (drop j ws) ≡ get_or ws k 0 ∷ take n (drop (suc j) ws)
+one n ws j k e h = rw (e, drop-cons ws k 0 h)
+
+pub eight_are : (ws : List ℕ) (p : ℕ) → p + call_words ≤ length ws → take 8 (drop (p + 1) ws) ≡ allowances_at ws p
 unfolding allowances_at
-eight_are ws p i j k l m n o q = rw (i, j, k, l, m, n, o, q)
+eight_are ws p h =
+    rw (
+      one 7 ws (p + 1) (p + 1) refl (omega arith),
+      one 6 ws (suc (p + 1)) (p + 2) (omega arith) (omega arith),
+      one 5 ws (suc (suc (p + 1))) (p + 3) (omega arith) (omega arith),
+      one 4 ws (suc (suc (suc (p + 1)))) (p + 4) (omega arith) (omega arith),
+      one 3 ws (suc (suc (suc (suc (p + 1))))) (p + 5) (omega arith) (omega arith),
+      one 2 ws (suc (suc (suc (suc (suc (p + 1)))))) (p + 6) (omega arith) (omega arith),
+      one 1 ws (suc (suc (suc (suc (suc (suc (p + 1))))))) (p + 7) (omega arith) (omega arith),
+      one 0 ws (suc (suc (suc (suc (suc (suc (suc (p + 1)))))))) (p + 8) (omega arith) (omega arith),
+    )
 
 -- the call at a place
 pub made_step : (K : Steps) (m : System) {r : Ran} (ws : List ℕ) (p : ℕ) {x : ℕ} → x ≡ get_or ws p 0 → x ≡ 0 → r ≡ call K one_step m → r ≡ call K (call_at ws p) m

@@ -1,7 +1,7 @@
 -- The words of calls, given and read back: a list of calls written as nine words each is the list that those words are read as. So each allowance stands at its own thread's place, and no word is read twice or left out.
 use Rattle.std.specs.Prelude.{◌≡◌, refl, ℕ, ◌+◌, ◌*◌, List, [], ◌∷◌, ◌++◌, length, get_or}
 use Rattle.std.proofs.Common.{ap, ap₂, ◌∙◌, subst, arith, append_assoc, length-append, get_or-append-add}
-use Rattle.semantics.specs.Calls.{Call, one_step, run_of, no_steps}
+use Rattle.semantics.specs.Calls.{Call, one_step}
 use Rattle.calls.specs.Words.{call_words, allowances_at, call_at, calls_from, call_count, calls_in}
 use Rattle.calls.specs.WordsBack.{AllNine, Nine, all_more, all_none, all_words, of_run, of_step, words_of}
 

@@ -1,8 +1,6 @@
 -- The words of calls, given and read back: a list of calls written as nine words each is the list that those words are read as. So each allowance stands at its own thread's place, and no word is read twice or left out.
-use Rattle.std.specs.Prelude.{◌≡◌, refl, ℕ, ◌+◌, ◌*◌, List, [], ◌∷◌, ◌++◌, length, get_or}
-use Rattle.std.proofs.Common.{ap, ap₂, ◌∙◌, subst, arith, append_assoc, length-append, get_or-append-add}
+use Rattle.std.specs.Prelude.{ℕ, List, [], ◌∷◌, ◌++◌}
 use Rattle.semantics.specs.Calls.{Call, one_step, run_of, no_steps}
-use Rattle.calls.specs.Words.{call_words, allowances_at, call_at, calls_from, call_count, calls_in}
 
 -- 0 and eight words at which a step does not look; 1 and the allowances of a run
 unfoldable pub words_of : Call → List ℕ

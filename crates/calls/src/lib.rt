@@ -11,7 +11,7 @@ ghost use Rattle.calls.specs.Made.{Made, Noted, NotedAll};
 
 use machine::{Answer, Machine, Outcome};
 use store::{MOST_THREADS, THREADS_WORDS};
-use table::{at64, wide8};
+use table::get_or;
 
 // The words of a call, and those of its answer.
 pub const CALL_WORDS: usize = MOST_THREADS + 1;
@@ -19,17 +19,11 @@ pub const CALL_WORDS: usize = MOST_THREADS + 1;
 pub const ANSWER_WORDS: usize = MOST_THREADS + 2;
 
 // The number of an answer.
+#[tactic(auto, unfolding(crate::specs::Words::answer_no))]
 pub fn number(a: Answer) -> u64
     ensures { result ≡ answer_no (answer_in a) }
 {
-    match a {
-        Answer::Taken => 0,
-        Answer::Finished => 1,
-        Answer::Spent => 2,
-        Answer::NoRoom => 3,
-        Answer::Stuck => 4,
-        Answer::Denied => 5,
-    }
+    a as u64
 }
 
 // The allowances of the call that begins at a place.
@@ -37,16 +31,9 @@ fn allowances(calls: &[u64], at: usize) -> [u64; MOST_THREADS]
     requires { at + call_words ≤ length calls.now }
     ensures { result ≡ allowances_at calls.now at }
 {
-    [
-        at64(calls, at + 1),
-        at64(calls, at + 2),
-        at64(calls, at + 3),
-        at64(calls, at + 4),
-        at64(calls, at + 5),
-        at64(calls, at + 6),
-        at64(calls, at + 7),
-        at64(calls, at + 8),
-    ]
+    let mut allow = [0u64; MOST_THREADS];
+    allow.copy_from_slice(&calls[at + 1..at + CALL_WORDS]);
+    allow
 }
 
 // The call that begins at a place: 0 is a step, and any other number a run with the eight allowances after it.
@@ -61,11 +48,11 @@ fn make(
     requires { at + call_words ≤ length calls.now }
     ensures { ran_in result frames.new ≡ call (steps_of (code_in heads.now slots.now)) (call_at calls.now at) (seen m frames.old) }
 {
-    if at64(calls, at) == 0 {
-        return m.step(heads, slots, frames);
+    if get_or(calls, at, 0) == 0 {
+        m.step(heads, slots, frames)
+    } else {
+        m.run(allowances(calls, at), heads, slots, frames)
     }
-    let allow = allowances(calls, at);
-    m.run(allow, heads, slots, frames)
 }
 
 // x at place `at`, if there is one. Returns the next place.
@@ -74,9 +61,10 @@ fn note(answers: &mut [u64], at: usize, x: u64) -> usize
 {
     if at < answers.len() {
         answers[at] = x;
-        return at + 1;
+        at + 1
+    } else {
+        at
     }
-    at
 }
 
 // The steps of each thread, from place `at` on. Returns the next place.
@@ -84,11 +72,8 @@ fn note_counts(answers: &mut [u64], at: usize, counts: [u64; MOST_THREADS]) -> u
     ensures { NotedAll answers.old answers.new at counts result }
 {
     let mut next = at;
-    let mut i: usize = 0;
-    while i < MOST_THREADS {
-        let n = counts[i];
-        next = note(answers, next, n);
-        i = i + 1;
+    for n in &counts {
+        next = note(answers, next, *n);
     }
     next
 }
@@ -97,22 +82,16 @@ fn note_counts(answers: &mut [u64], at: usize, counts: [u64; MOST_THREADS]) -> u
 fn note_answer(answers: &mut [u64], at: usize, o: Outcome) -> usize
     ensures { NotedAll answers.old answers.new at (answer_words (answer_in o.answer) o.thread o.counts) result }
 {
-    let a = o.answer;
-    let n = number(a);
-    let counts = o.counts;
-    let first = note(answers, at, n);
-    let second = note(answers, first, wide8(o.thread));
-    note_counts(answers, second, counts)
+    let first = note(answers, at, number(o.answer));
+    let second = note(answers, first, u64::from(o.thread));
+    note_counts(answers, second, o.counts)
 }
 
 // Whether the words are no whole number of calls, or the answers have fewer than ten places for each.
 pub fn lacks_room<'a>(calls: &'a [u64], answers: &'a [u64]) -> bool
     ensures { result ≡ not (room_for calls.now answers.now) }
 {
-    if calls.len() % CALL_WORDS == 0 {
-        return answers.len() / ANSWER_WORDS < calls.len() / CALL_WORDS;
-    }
-    true
+    calls.len() % CALL_WORDS != 0 || answers.len() / ANSWER_WORDS < calls.len() / CALL_WORDS
 }
 
 // All calls are made, in order, on the machine that the last one gave, which is returned at the end. Each is nine words; words at the end that are fewer are no call.
@@ -129,16 +108,11 @@ pub fn make_calls(
         answers.old answers.new (seen result frames.new) }
 {
     let mut last = m;
-    let mut at: usize = 0;
-    let mut place: usize = 0;
-    let mut left = calls.len() / CALL_WORDS;
-    while 0 < left {
-        let o = make(last, heads, slots, frames, calls, at);
+    let mut place = 0;
+    for i in 0..calls.len() / CALL_WORDS {
+        let o = make(last, heads, slots, frames, calls, i * CALL_WORDS);
         place = note_answer(answers, place, o);
-        let next = o.machine;
-        last = next;
-        at = at + CALL_WORDS;
-        left = left - 1;
+        last = o.machine;
     }
     last
 }

@@ -16,10 +16,10 @@ use Rattle.machine.specs.View.{seen}
 use Rattle.machine.proofs.Tells.{seen_few}
 use Rattle.calls.specs.Words.{room_for, over}
 use Rattle.calls.proofs.Laws.{results_fit}
-use Rattle.start.specs.declared.Told.{Told}
-use Rattle.start.specs.declared.Told.TheVariants as told
+use Rattle.std.specs.Prelude.{Ok, Err}
+use Rattle.table.specs.declared.Refusal.{Refusal}
 use Rattle.start.specs.declared.Opened.{Opened}
-use Rattle.start.specs.Starts.{told_in, Starts}
+use Rattle.start.specs.Starts.{Told, told_in, Starts}
 use Rattle.results.specs.Told.{room_words}
 use Rattle.capi.specs.Runs.{number_of, opened_with, opened_tables, Goes, Ran, Runs}
 
@@ -54,7 +54,7 @@ module _ (bytes ws a : List ℕ) {w x : JobTables} (o : Opened) (to : Starts byt
   tables_are = to.tables ∙ sym (ap (λ (b : Bool). opened_tables b w bytes) room)
 
   module _ {k k' : List ℕ} where
-    pub runs_started : (fs : List ℕ) {a' : List ℕ} → o.told ≡ told.Started → Goes (steps_of (code_in x.heads x.slots)) ws (seen o.machine fs) a a' k k' → Runs bytes 0 ws w x a a' k k'
+    pub runs_started : (fs : List ℕ) {a' : List ℕ} → o.told ≡ Ok tt → Goes (steps_of (code_in x.heads x.slots)) ws (seen o.machine fs) a a' k k' → Runs bytes 0 ws w x a a' k k'
     unfolding number_of
     runs_started fs {a'} e g =
         record {
@@ -64,12 +64,12 @@ module _ (bytes ws a : List ℕ) {w x : JobTables} (o : Opened) (to : Starts byt
           stops = λ q z. absurd (let y : ◌≡◌ {A = ℕ} 0 1 = cc (sym (outcome fs e) ∙ z) in omega arith);
         }
 
-    pub runs_refused : (n p : ℕ) {r : ℕ} → o.told ≡ told.Refused n p → Tells n p r k k' → Runs bytes r ws w x a a k k'
+    pub runs_refused : (d : Refusal) {r : ℕ} → o.told ≡ Err d → Tells d.number d.place r k k' → Runs bytes r ws w x a a k k'
     unfolding number_of
-    runs_refused n p e z =
+    runs_refused d e z =
         record {
           tables = tables_are;
           number = z.number ∙ sym (ap number_of (outcome [] e));
           goes = λ m y. absurd (let q : ◌≡◌ {A = ℕ} 0 1 = cc (sym (outcome [] e) ∙ y) in omega arith);
-          stops = λ q y. let s : p ≡ q.place = cc (sym (outcome [] e) ∙ y) in record { answers = refl; rooms = z.told ∙ ap (λ (i : ℕ). set k 0 i) s };
+          stops = λ q y. let s : d.place ≡ q.place = cc (sym (outcome [] e) ∙ y) in record { answers = refl; rooms = z.told ∙ ap (λ (i : ℕ). set k 0 i) s };
         }

@@ -4,32 +4,31 @@ use Rattle.std.specs.Prelude.{◌≡◌, refl, ℕ, ◌*◌, Bool, true, false, 
 use Rattle.std.proofs.Common.{ap, ◌∙◌}
 use Rattle.std.proofs.Math.Path.{fun_ext}
 use Rattle.syntax.specs.Commands.{Cmd}
-use Rattle.syntax.specs.Job.{Job, source_of}
-use Rattle.syntax.specs.Reading.{read, reading}
+use Rattle.syntax.specs.Job.{source_of}
+use Rattle.syntax.specs.Reading.{read}
 use Rattle.syntax.specs.Words.{code_in}
 use Rattle.syntax.specs.WordLaws.{Bytes}
 use Rattle.syntax.specs.Loading.{JobTables, short, loading, tables_after_load}
 use Rattle.typing.specs.Tables.{Tables}
 use Rattle.semantics.specs.Start.{start_of}
 use Rattle.semantics.specs.Starting.{started}
-use Rattle.semantics.specs.Calls as semantics
 use Rattle.semantics.specs.Threads.{steps_of}
 use Rattle.semantics.specs.Calls.{calls}
-use Rattle.semantics.specs.Demand3.{expr_of, calls_of, Allowed}
+use Rattle.semantics.specs.Demand3.{expr_of, calls_of}
 use Rattle.calls.specs.Words.{answer_words_lem, call_count, calls_in, room_for, result_words}
 use Rattle.checker.specs.declared.Checked.{Checked}
-use Rattle.judge.specs.declared.Verdict.TheVariants as verdicts
+use Rattle.std.specs.Prelude.{Ok}
 use Rattle.checker.specs.Answer.{CheckTo}
 use Rattle.safety.proofs.Accepting.{accepting}
 use Rattle.safety.proofs.FromContracts.{accepted_loads, start_is, loaded_code}
 use Rattle.capi.specs.Runs.{number_of, opened_with, opened_tables, Runs}
 use Rattle.capi.specs.RunSafety.{SafeRun}
 
-pub accepted_run : (bytes words : List ℕ) → Bytes bytes → {c : Checked} {w x : Tables} {i s : ℕ} → CheckTo bytes c w x → c.verdict ≡ verdicts.Accepted i s
+pub accepted_run : (bytes words : List ℕ) → Bytes bytes → {c : Checked} {w x : Tables} → CheckTo bytes (Ok c) w x
     → {r : ℕ} (u : JobTables) {y : JobTables} {a a' k k' : List ℕ} → Runs bytes r words u y a a' k k' → short u ≡ false → room_for words a ≡ true → SafeRun bytes words r a a'
 unfolding opened_with opened_tables number_of
-accepted_run bytes words by {c} {w} {x} {i} {s} to v {r} u {y} {a} {a'} h l room =
-    let its = accepting bytes by c w x i s to v in
+accepted_run bytes words by {c} {w} {x} to {r} u {y} {a} {a'} h l room =
+    let its = accepting bytes by c w x to in
     let J = its.job in
     let loads : loading bytes ≡ read J = accepted_loads bytes J its.verdict its.is in
     let opens : opened_with (room_for words a) u bytes ≡ started (start_of (source_of J)) = ap (λ (b : Bool). opened_with b u bytes) room ∙ start_is u bytes J l loads in

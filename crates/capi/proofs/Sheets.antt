@@ -1,8 +1,6 @@
 -- The sheet of a job: its text, and what is told of it in numbers.
 use Rattle.std.specs.Prelude.{◌≡◌, ℕ, List, [], ◌∷◌}
 use Rattle.calls.specs.Words.{over}
-use Rattle.wall.specs.declared.Listing.{Listing}
-use Rattle.wall.specs.Listed.{SheetTo}
 use Rattle.capi.specs.Sheets.{Sheets}
 
 -- what is told of a sheet, word by word: its length, the place, and every other word as it was; of fewer words those that there are

@@ -16,7 +16,6 @@ ghost use Rattle.capi.specs.Sessions.{lent_before, lent_after, Reported, Session
 
 use machine::Machine;
 use session::Held;
-use start::Told;
 use store::THREADS_WORDS;
 
 // The calls on a machine, and the room that the last machine uses. Nobody looks at the frames afterwards.
@@ -32,8 +31,10 @@ fn go(
     ensures { Goes (steps_of (code_in heads.now slots.now)) calls.now (seen m frames.old)
         answers.old answers.new rooms.old rooms.new }
 {
-    let last = calls::make_calls(m, heads, slots, frames, calls, answers);
-    results::count(last, rooms);
+    results::count(
+        calls::make_calls(m, heads, slots, frames, calls, answers),
+        rooms,
+    );
 }
 
 // Starts the job and makes the calls, without a check: 0 says that the job is started, and is no verdict on it. Only of a job that
@@ -60,16 +61,22 @@ pub fn jobdesk_run(
     if calls::lacks_room(calls, answers) {
         return table::tell(1, 0, rooms);
     }
-    let o = start::start(job, names, types, sets, values, heads, slots);
-    let told = o.told;
-    match told {
-        Told::Started => {
-            let m = o.machine;
+    let opened = start::start(job, names, types, sets, values, heads, slots);
+    match opened.told {
+        Ok(()) => {
             let mut frames = [0u64; THREADS_WORDS];
-            go(m, heads, slots, &mut frames, calls, answers, rooms);
+            go(
+                opened.machine,
+                heads,
+                slots,
+                &mut frames,
+                calls,
+                answers,
+                rooms,
+            );
             0
         }
-        Told::Refused(n, p) => table::tell(n, p, rooms),
+        Err(refusal) => table::tell(refusal.number, refusal.place, rooms),
     }
 }
 
@@ -92,21 +99,18 @@ pub fn jobdesk_check(
         (after names types sets values heads slots entries effects)
         out.old out.new }
 {
-    let c = checker::check(
+    let checked = checker::check(
         job, names, types, sets, values, heads, slots, entries, effects,
     );
-    let v = c.verdict;
-    results::tell(v, out)
+    results::tell(checked.map(|c| c.accepted), out)
 }
 
 // What a session ended with.
 fn finish(h: Held, value: &mut [u64], cells: &mut [u64], out: &mut [u64]) -> u64
     ensures { Reported h result value.old value.new cells.old cells.new out.old out.new }
 {
-    let m = h.machine;
-    let v = h.verdict;
-    results::hand_over(m, value, cells);
-    results::tell(v, out)
+    results::hand_over(h.machine, value, cells);
+    results::tell(h.verdict, out)
 }
 
 // Checks the job and, where it is accepted, starts it and makes the calls, each on the machine that the last one gave, with words as `jobdesk_run` has them. Returns 0 where the job is
@@ -139,7 +143,7 @@ pub fn jobdesk_session(
         return 1;
     }
     let mut frames = [0u64; THREADS_WORDS];
-    let h = session::session(
+    let held = session::session(
         job,
         names,
         types,
@@ -153,7 +157,7 @@ pub fn jobdesk_session(
         calls,
         answers,
     );
-    finish(h, value, cells, out)
+    finish(held, value, cells, out)
 }
 
 // Reads a job into the tables, 1 to 7 alone. Returns 0 where it is read: counts[0] to counts[3] are how many names it declares, types, host values and
@@ -202,6 +206,6 @@ pub fn jobdesk_sheet(job: &[u8], text: &mut [u8], out: &mut [u64]) -> u64
     ensures { Sheets job.now result text.old text.new out.old out.new }
 {
     let told = wall::sheet(job, text);
-    table::put_two(out, 0, table::wide(told.len), table::wide(told.place));
-    table::wide8(told.number)
+    table::put_two(out, 0, told.len as u64, told.place as u64);
+    u64::from(told.number)
 }

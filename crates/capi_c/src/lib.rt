@@ -1,4 +1,5 @@
 // What C and Rust call, under the names that `jobdesk.h` has: each is the function of that name in `capi`, whose promise it makes again. Nothing else stands in the static library.
+// The clauses of `capi` stand here a second time because of the C interface: a static library is no library, so no crate can use what it exports, and a library exports nothing to C.
 #![tactic(auto)]
 
 ghost use Rattle.table.specs.Lent.{job_before, job_after, job_shown};

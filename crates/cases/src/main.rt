@@ -5,9 +5,11 @@
 ghost use Rattle.std.specs.Prelude.{◌≡◌};
 ghost use Rattle.output.specs.Lines.{printed};
 ghost use Rattle.cases.specs.Cases.{job_length, answer_length, case_length, same, agrees as agreesOf, at_end, after as after_of, tally_of};
+ghost use Rattle.stream.specs.Input.{read_length};
 
 use format::TEXT_BYTES;
 use std::io;
+use stream::Cut;
 
 // How many recorded answers are what the desk prints, and how many are not.
 #[derive(Clone, Copy)]
@@ -20,8 +22,8 @@ struct Tally {
 fn job_length(file: &[u8]) -> u16
     ensures { result ≡ job_length file.now }
 {
-    let low = table::at8(file, 0);
-    let high = table::at8(file, 1);
+    let low = table::get_or(file, 0, 0);
+    let high = table::get_or(file, 1, 0);
     (low as u16) + (high as u16) * 256
 }
 
@@ -30,7 +32,7 @@ fn answer_length(file: &[u8]) -> u8
     ensures { result ≡ answer_length file.now }
 {
     let n = job_length(file) as usize;
-    table::at8(file, n + 2)
+    table::get_or(file, n + 2, 0)
 }
 
 // How many bytes the first case takes.
@@ -106,10 +108,7 @@ fn count(file: &[u8]) -> Tally
         let next = after(left);
         left = next;
     }
-    Tally {
-        agree: agree,
-        differ: differ,
-    }
+    Tally { agree, differ }
 }
 
 // One line of the result.
@@ -117,15 +116,25 @@ fn write(rt: &impl Print, word: &str, n: usize) -> io::Result<()> {
     println!(rt; "{word}{n}")
 }
 
+// How many bytes were read, all or not.
+fn length_of(input: Result<usize, Cut>) -> usize
+    ensures { result ≡ read_length input }
+{
+    match input {
+        Ok(n) => n,
+        Err(cut) => cut.length,
+    }
+}
+
 fn main(rt: HostRuntime) -> io::Result<()> {
     let mut file = [0u8; 65536];
     let input = stream::read_all(&mut rt.stdin(), &mut file);
-    let n = input.length;
+    let n = length_of(input);
     let t = count(&file[..n]);
     write(&rt, "agree ", t.agree)?;
     write(&rt, "differ ", t.differ)?;
-    if !input.whole {
-        return Err(io::Error::other("standard input cannot be read"));
+    match input {
+        Ok(_) => Ok(()),
+        Err(_) => Err(io::Error::other("standard input cannot be read")),
     }
-    Ok(())
 }

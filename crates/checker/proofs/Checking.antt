@@ -1,7 +1,7 @@
 -- From what the parts of the check answer to the verdict of the rules and the tables.
 use Rattle.std.specs.Prelude.{◌≡◌, Bool, true, false, cond, List, map, length, ltb, eqb}
 use Rattle.std.proofs.Math.Path.{refl, sym, ap}
-use Rattle.std.proofs.Common.{◌∙◌, subst, arith, lt-ltb, le-ltb, ne_eqb}
+use Rattle.std.proofs.Common.{◌∙◌, subst, arith, lt-ltb, le-ltb, ne_eqb, Ok, Err}
 use Prim.Native.Nat.{ℕ, suc, ◌≤◌, ◌<◌}
 use Rattle.std.proofs.Math.ListN.{replicate}
 use Rattle.std.proofs.lemmas.List.{length-replicate}
@@ -33,19 +33,16 @@ use Rattle.typing.specs.NumberedVerdict.{last_of, last_entry, filled_from}
 use Rattle.typing.proofs.NumberedVerdict.{tables_accepted}
 use Rattle.typing.proofs.NumberedVerdict.{tables_refused, tables_short}
 use Rattle.elaborate.specs.OpsLaws.{job_ops, agree}
-use Rattle.table.specs.declared.Refusal.{Refusal as Refused_with}
+use Rattle.table.specs.declared.Refusal.{Refusal}
 use Rattle.entry.specs.declared.Shape.{Shape}
 use Rattle.entry.specs.Shapes.{shape_of}
-use Rattle.job.specs.declared.Answer.{Answer}
-use Rattle.job.specs.declared.Answer.TheVariants as answers
+use Rattle.job.specs.Answer.{Answer as Loading}
 use Rattle.load.specs.Loads.{LoadTo}
 use Rattle.load.proofs.Cases.{refused_by_lem, job_loaded}
-use Rattle.judge.specs.declared.Verdict.{Verdict}
-use Rattle.judge.specs.declared.Verdict.TheVariants.{Accepted, Refused}
-use Rattle.checker.specs.declared.Checked.{Checked}
+use Rattle.judge.specs.declared.Accepted.{Accepted}
 use Rattle.judge.specs.Answer as judged
-use Rattle.judge.specs.Answer.{tables, Given, Untyped, Judged, accepted}
-use Rattle.checker.specs.Answer.{tree_of, verdict_in, refused_by, shape_read, shape_for, last_in, CheckTo, unless_one}
+use Rattle.judge.specs.Answer.{Verdict, tables, Given, Untyped, Judged, accepted}
+use Rattle.checker.specs.Answer.{Answer, tree_of, verdict_in, refused_by, shape_read, shape_for, last_in, CheckTo, unless_one}
 use Rattle.judge.specs.Judging.{is_read}
 use Rattle.checker.specs.Checking.{Lengths}
 
@@ -89,7 +86,7 @@ unfolding tables_after
 after_long w bytes h = ap (λ (b : Bool). cond b w (kept_on (rules.verdict_of bytes) (reading bytes) w)) h
 
 -- for tables of other contents and the same lengths
-check_on : {bytes : List ℕ} {r : Checked} {w x y : Tables} → Lengths w x → short w ≡ false → CheckTo bytes r x y → CheckTo bytes r w y
+check_on : {bytes : List ℕ} {r : Answer} {w x y : Tables} → Lengths w x → short w ≡ false → CheckTo bytes r x y → CheckTo bytes r w y
 check_on {bytes} {r} {w} {x} {y} l h c =
     let k : short x ≡ false = sym (short_same w x l) ∙ h in
     let v : verdict_with x bytes ≡ verdict_with w bytes = with_long x bytes k ∙ sym (with_long w bytes h) in
@@ -100,26 +97,20 @@ check_on {bytes} {r} {w} {x} {y} l h c =
       entry = c.entry;
     }
 
-refused_not : {X : Type 0} {n p i s : ℕ} → Refused n p ≡ Accepted i s → X
-refused_not e = absurd (let z : ◌≡◌ {A = ℕ} 0 1 = cc in omega arith)
-
 -- the same tables
 same : {w : Tables} → Lengths w w
 same = record { job = record { names = refl; types = refl; sets = refl; values = refl; heads = refl; slots = refl }; entries = refl; effects = refl }
 
 -- 1
-short_to : (bytes : List ℕ) (w : Tables) → short w ≡ true → CheckTo bytes (refused_by 1 0) w w
+pub short_to : (bytes : List ℕ) (w : Tables) → short w ≡ true → CheckTo bytes (refused_by 1 0) w w
 unfolding verdict_in verdict_with shape_for
 short_to bytes w h =
     record {
       verdict = sym (ap (λ (b : Bool). cond b (rules.refuse (record { number = 1; place = 0 })) (rules.verdict_of bytes)) h);
       tables = sym (tables_short bytes w h);
       shape = sym (ap (λ (b : Bool). shape_for (cond b (rules.refuse (record { number = 1; place = 0 })) (rules.verdict_of bytes)) (reading bytes)) h);
-      entry = λ i s e. refused_not e;
+      entry = tt;
     }
-
-pub short_told : {bytes : List ℕ} {r : Checked} {w : Tables} → r ≡ refused_by 1 0 → short w ≡ true → CheckTo bytes r w w
-short_told {bytes} {r} {w} e h = subst (λ (c : Checked). CheckTo bytes c w w) (sym e) (short_to bytes w h)
 
 -- every other refusal
 refused_to : {bytes : List ℕ} {w x y : Tables} {n p : ℕ} → Lengths w x → short w ≡ false → rules.verdict_of bytes ≡ rules.refuse (record { number = n; place = p }) → y ≡ cleared x → CheckTo bytes (refused_by n p) w y
@@ -130,20 +121,12 @@ refused_to {bytes} {w} {x} {y} {n} {p} l h v c =
       verdict = sym z;
       tables = c ∙ sym (cleared_same w x l) ∙ sym (tables_refused bytes w h _ v);
       shape = sym (ap (λ (u : rules.Verdict). shape_for u (reading bytes)) z);
-      entry = λ i s e. refused_not e;
+      entry = tt;
     }
 
-judged_refused : {bytes : List ℕ} {J : Job} {v : Verdict} {x : Tables} {n p : ℕ} → Judged bytes J v x → v ≡ Refused n p → rules.verdict_of bytes ≡ rules.refuse (record { number = n; place = p })
+judged_refused : {bytes : List ℕ} {J : Job} {v : Verdict} {x : Tables} {r : Refusal} → Judged bytes J v x → v ≡ Err r → rules.verdict_of bytes ≡ rules.refuse (record { number = r.number; place = r.place })
 judged_refused (accepted k σ x i s a b c d e f) q = absurd (let z : ◌≡◌ {A = ℕ} 0 1 = cc in omega arith)
-judged_refused (judged.refused_by_lem m o x f) q = f ∙ (λ i. rules.refuse (record { number = number (q i); place = place (q i) }))
-  where
-    number : Verdict → ℕ
-    number (Accepted i s) = 0
-    number (Refused k l) = k
-
-    place : Verdict → ℕ
-    place (Accepted i s) = 0
-    place (Refused k l) = l
+judged_refused {r = r} (judged.refused_by_lem m o x f) q = let y : record { number = m; place = o } ≡ r = cc in f ∙ (λ i. rules.refuse (record { number = (y i).number; place = (y i).place }))
 
 -- the entry of the last expression stands in the table
 last_entry_lem : (J : Job) (σ : Sofar) (g : Shape) (l : List ℕ) (k : ℕ) → g ≡ shape_of J → l ≡ filled k 0 σ.of → last_entry J σ ≡ last_in l g.cmds
@@ -151,22 +134,19 @@ unfolding last_in last_of shape_of
 last_entry_lem J σ g l k m n = rw (m, n) (sym (filled_at k σ.of (predecessor (length J.cmds))))
 
 -- an acceptance
-accepted_to : {bytes : List ℕ} {J : Job} {v : Verdict} {g : Shape} {w x : Tables} {t u : ℕ} → reading bytes ≡ read J → g ≡ shape_of J → Lengths w x → short w ≡ false → Judged bytes J v x → v ≡ Accepted t u
-    → CheckTo bytes (record { verdict = Accepted t u; shape = g }) w x
+accepted_to : {bytes : List ℕ} {J : Job} {v : Verdict} {g : Shape} {w x : Tables} {t : Accepted} → reading bytes ≡ read J → g ≡ shape_of J → Lengths w x → short w ≡ false → Judged bytes J v x → v ≡ Ok t
+    → CheckTo bytes (Ok (record { accepted = t; shape = g })) w x
 accepted_to q m l h (judged.refused_by_lem n p x f) z = absurd (let y : ◌≡◌ {A = ℕ} 0 1 = cc in omega arith)
-accepted_to {bytes} {J} {g = g} {w} q m l h (accepted k σ x i s a b c d e f) z =
-    subst (λ (y : Verdict). CheckTo bytes (record { verdict = y; shape = g }) w x) z
+accepted_to {bytes} {J} {g = g} {w} {t = t} q m l h (accepted k σ x i s a b c d e f) z =
+    let y : record { entry = i; effect = s } ≡ t = cc in
+    subst (λ (u : Accepted). CheckTo bytes (Ok (record { accepted = u; shape = g })) w x) y
     (record {
       verdict = unfold verdict_in in trees ∙ sym whole_verdict;
       tables = c ∙ sym (from_same J σ w x l) ∙ sym (tables_accepted (job_ops k) (λ K j. agree k j) bytes J q w h σ a f);
       shape = unfold shape_for shape_read in m ∙ sym (ap (λ (r : Read). shape_read r) q) ∙ sym (ap (λ (y : rules.Verdict). shape_for y (reading bytes)) whole_verdict);
-      entry = λ j o y. ap number (sym y) ∙ d ∙ last_entry_lem J σ g x.entries (length x.entries) m (unfold filled_from in ap (λ (y : Tables). y.entries) c);
+      entry = d ∙ last_entry_lem J σ g x.entries (length x.entries) m (unfold filled_from in ap (λ (y : Tables). y.entries) c);
     })
   where
-    number : Verdict → ℕ
-    number (Accepted j o) = j
-    number (Refused j o) = 0
-
     whole_verdict : verdict_with w bytes ≡ rules.accept (tree σ.entries i) (of_word s)
     whole_verdict = with_long w bytes h ∙ f
 
@@ -205,12 +185,11 @@ module _ {bytes : List ℕ} {J : Job} {g : Shape} {w : Tables} {o e : List ℕ} 
     long_clear : short w' ≡ false
     long_clear = given_clear.long
 
-    pub settled : {t u : ℕ} → v ≡ Accepted t u → CheckTo bytes (record { verdict = Accepted t u; shape = g }) w x
+    pub settled : {t : Accepted} → v ≡ Ok t → CheckTo bytes (Ok (record { accepted = t; shape = g })) w x
     settled q = check_on as_long given.long (accepted_to (is_read given) given.shape l long_clear judged_to q)
 
-    pub settled_refused : {c : Checked} {n p : ℕ} {y : Tables} → v ≡ Refused n p → c ≡ refused_by n p → y ≡ cleared x → CheckTo bytes c w y
-    settled_refused {y = y} q d z =
-        subst (λ (c : Checked). CheckTo bytes c w y) (sym d) (check_on as_long given.long (refused_to l long_clear (judged_refused judged_to q) z))
+    pub settled_refused : {r : Refusal} {y : Tables} → v ≡ Err r → y ≡ cleared x → CheckTo bytes (Err r) w y
+    settled_refused q z = check_on as_long given.long (refused_to l long_clear (judged_refused judged_to q) z)
 
 -- Loading, then the rest
 
@@ -231,11 +210,11 @@ decided w h k = (λ i. loads.short w.job or le-ltb _ most_expressions h i or le-
     at true = refl
     at false = refl
 
-module _ {bytes : List ℕ} {r : Answer} {w : Tables} (ho : most_expressions ≤ length w.entries) (he : most_expressions ≤ length w.effects) {x : JobTables} (to : LoadTo bytes r w.job x) where
-  load_out : {o e : List ℕ} (k : Refused_with) → r ≡ answers.Refused k → o ≡ unless_one k.number w.entries → e ≡ unless_one k.number w.effects
-      → CheckTo bytes (refused_by k.number k.place) w (record { job = x; entries = o; effects = e })
+module _ {bytes : List ℕ} {r : Loading} {w : Tables} (ho : most_expressions ≤ length w.entries) (he : most_expressions ≤ length w.effects) {x : JobTables} (to : LoadTo bytes r w.job x) where
+  pub load_refused : {o e : List ℕ} (k : Refusal) → r ≡ Err k → o ≡ unless_one k.number w.entries → e ≡ unless_one k.number w.effects
+      → CheckTo bytes (Err k) w (record { job = x; entries = o; effects = e })
   unfolding unless_one cleared holding
-  load_out {o} {e} k q oi ei = at (loads.short w.job) refl
+  load_refused {o} {e} k q oi ei = at (loads.short w.job) refl
     where
       number : Read → ℕ
       number (refused y) = y.number
@@ -245,7 +224,7 @@ module _ {bytes : List ℕ} {r : Answer} {w : Tables} (ho : most_expressions ≤
       place (refused y) = y.place
       place (read J) = 0
 
-      at : (b : Bool) → loads.short w.job ≡ b → CheckTo bytes (refused_by k.number k.place) w (record { job = x; entries = o; effects = e })
+      at : (b : Bool) → loads.short w.job ≡ b → CheckTo bytes (Err k) w (record { job = x; entries = o; effects = e })
       at true l =
           let z : refused_at 1 0 ≡ refused_at k.number k.place = sym (short_load w.job bytes l) ∙ refused_by_lem to k q in
           let n : 1 ≡ k.number = ap number z in
@@ -263,11 +242,7 @@ module _ {bytes : List ℕ} {r : Answer} {w : Tables} (ho : most_expressions ≤
           let t : x ≡ loads.cleared w.job = to.tables ∙ long_after w.job bytes l ∙ ap (λ (R : Read). holding R w.job) z in
           refused_to {x = w} same (decided w ho he ∙ l) (verdict_load bytes _ z) (λ i. record { job = t i; entries = d i; effects = f i })
 
-  pub load_refused : {c : Checked} {o e : List ℕ} (k : Refused_with) → r ≡ answers.Refused k → c ≡ refused_by k.number k.place → o ≡ unless_one k.number w.entries → e ≡ unless_one k.number w.effects
-      → CheckTo bytes c w (record { job = x; entries = o; effects = e })
-  load_refused {o = o} {e} k q d oi ei = subst (λ (c : Checked). CheckTo bytes c w (record { job = x; entries = o; effects = e })) (sym d) (load_out k q oi ei)
-
-  pub load_settled : {g : Shape} {c : Checked} {y : Tables} → Bytes bytes → r ≡ answers.Job g → lengths_defs.Lengths w.job x
+  pub load_settled : {g : Shape} {c : Answer} {y : Tables} → Bytes bytes → r ≡ Ok g → lengths_defs.Lengths w.job x
       → ((J : Job) → Given bytes J g (record { job = x; entries = w.entries; effects = w.effects }) → CheckTo bytes c (record { job = x; entries = w.entries; effects = w.effects }) y) → CheckTo bytes c w y
   load_settled {g} {c} {y} b q m f =
       let z = job_loaded to q in

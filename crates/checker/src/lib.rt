@@ -4,31 +4,22 @@
 ghost use Rattle.std.specs.Prelude.{◌≡◌, List, ℕ};
 ghost use Rattle.syntax.specs.Job.{Job};
 ghost use Rattle.typing.specs.Tables.{cleared};
-ghost use Rattle.checker.specs.Answer.{refused_by, unless_one, CheckTo};
+ghost use Rattle.checker.specs.Answer.{unless_one, CheckTo};
 ghost use Rattle.judge.specs.Answer.{Given};
 ghost use Rattle.judge.specs.Lent.{before};
 ghost use Rattle.checker.specs.Lent.{after};
 
-use job::{Answer, Shape};
-pub use judge::Verdict;
+use job::Shape;
+pub use judge::Accepted;
 use judge::typed;
-use table::{MOST_EXPRESSIONS, Refusal, clear16, clear64};
+use table::MOST_EXPRESSIONS;
+pub use table::Refusal;
 
-// A verdict, and how many entries of each kind an accepted job has, with its rights.
+// What a job is accepted with, and how many entries of each kind it has, with its rights.
 #[derive(Clone, Copy)]
 pub struct Checked {
-    pub verdict: Verdict,
+    pub accepted: Accepted,
     pub shape: Shape,
-}
-
-fn refused(n: u8, p: usize) -> Checked
-    ensures { result ≡ refused_by n p }
-{
-    let s = job::no_shape();
-    Checked {
-        verdict: Verdict::Refused(n, p),
-        shape: s,
-    }
 }
 
 // Every table zero to its end.
@@ -46,22 +37,19 @@ fn clear_all(
         ≡ cleared (before names types sets values heads slots entries effects) }
 {
     job::clear_all(names, types, sets, values, heads, slots);
-    clear16(entries);
-    clear64(effects);
+    entries.fill(0);
+    effects.fill(0);
 }
 
-// A job that is not loaded: 1 leaves the tables of entries and effects as they were, every other refusal clears them.
-fn unloaded(r: Refusal, entries: &mut [u16], effects: &mut [u64]) -> Checked
-    ensures answer { result ≡ refused_by r.number r.place }
-    ensures entries { entries.new ≡ unless_one r.number entries.old }
-    ensures effects { effects.new ≡ unless_one r.number effects.old }
+// A job that is not loaded, by the refusal's number: 1 leaves the tables of entries and effects as they were, every other one clears them.
+fn unloaded(number: u8, entries: &mut [u16], effects: &mut [u64])
+    ensures entries { entries.new ≡ unless_one number entries.old }
+    ensures effects { effects.new ≡ unless_one number effects.old }
 {
-    if r.number == 1 {
-        return refused(r.number, r.place);
+    if number != 1 {
+        entries.fill(0);
+        effects.fill(0);
     }
-    clear16(entries);
-    clear64(effects);
-    refused(r.number, r.place)
 }
 
 // A job that is loaded: its verdict, and the tables that it leaves.
@@ -75,25 +63,22 @@ fn settle(
     slots: &mut [u16],
     entries: &mut [u16],
     effects: &mut [u64],
-) -> Checked
+) -> Result<Checked, Refusal>
     ensures { (bytes : List ℕ) (J : Job)
         → Given bytes J g (before names types sets values heads slots entries effects)
         → CheckTo bytes result
         (before names types sets values heads slots entries effects)
         (after names types sets values heads slots entries effects) }
 {
-    clear16(entries);
-    clear64(effects);
+    entries.fill(0);
+    effects.fill(0);
     match typed(
         g, names, values, heads, slots, types, sets, entries, effects,
     ) {
-        Verdict::Accepted(i, s) => return Checked {
-            verdict: Verdict::Accepted(i, s),
-            shape: g,
-        },
-        Verdict::Refused(n, p) => {
+        Ok(accepted) => Ok(Checked { accepted, shape: g }),
+        Err(refusal) => {
             clear_all(names, types, sets, values, heads, slots, entries, effects);
-            return refused(n, p);
+            Err(refusal)
         }
     }
 }
@@ -110,21 +95,24 @@ pub fn check(
     slots: &mut [u16],
     entries: &mut [u16],
     effects: &mut [u64],
-) -> Checked
+) -> Result<Checked, Refusal>
     ensures { CheckTo job.now result
         (before names types sets values heads slots entries effects)
         (after names types sets values heads slots entries effects) }
 {
-    if entries.len() < MOST_EXPRESSIONS {
-        return refused(1, 0);
-    }
-    if effects.len() < MOST_EXPRESSIONS {
-        return refused(1, 0);
+    if entries.len() < MOST_EXPRESSIONS || effects.len() < MOST_EXPRESSIONS {
+        return Err(Refusal {
+            number: 1,
+            place: 0,
+        });
     }
     match load::load(job, names, types, sets, values, heads, slots) {
-        Answer::Refused(r) => return unloaded(r, entries, effects),
-        Answer::Job(g) => return settle(
+        Ok(g) => settle(
             g, names, types, sets, values, heads, slots, entries, effects,
         ),
+        Err(refusal) => {
+            unloaded(refusal.number, entries, effects);
+            Err(refusal)
+        }
     }
 }

@@ -1,7 +1,7 @@
 // A line of the sheet for the wall file: thirteen columns and the line's end, byte by byte.
 #![tactic(auto)]
 
-ghost use Rattle.std.specs.Prelude.{◌≡◌, cond, ◌<◌};
+ghost use Rattle.std.specs.Prelude.{◌≡◌, ◌<◌};
 ghost use Rattle.output.specs.ColumnLaws.{column, last, columns};
 
 // The bytes of a line.
@@ -13,22 +13,17 @@ fn digit(p: usize, n: usize) -> u8
     ensures { result ≡ column p n }
 {
     if n < p {
-        return b' ';
+        b' '
+    } else {
+        b'0' + (n / p % 10) as u8
     }
-    48 + (n / p % 10) as u8
 }
 
-// The last digit of n.
+// The last digit of n, which every number has.
 fn ones(n: usize) -> u8
     ensures { result ≡ last n }
 {
-    48 + (n % 10) as u8
-}
-
-fn pick(on: bool, a: u8, b: u8) -> u8
-    ensures { result ≡ cond on a b }
-{
-    if on { a } else { b }
+    b'0' + (n % 10) as u8
 }
 
 // The line of a name, its upper name, whether the job uses it, and how many host cells carry it. Names have two columns and the count has three; digits before these are left out, and no job has
@@ -36,6 +31,7 @@ fn pick(on: bool, a: u8, b: u8) -> u8
 pub fn line(name: usize, upper: usize, used: bool, cells: usize) -> [u8; LINE_BYTES]
     ensures { result ≡ columns (record { name = name; upper = upper; used = used; cells = cells }) }
 {
+    let [y, e, s] = if used { *b"yes" } else { *b"no " };
     [
         digit(10, name),
         ones(name),
@@ -43,9 +39,9 @@ pub fn line(name: usize, upper: usize, used: bool, cells: usize) -> [u8; LINE_BY
         digit(10, upper),
         ones(upper),
         b' ',
-        pick(used, b'y', b'n'),
-        pick(used, b'e', b'o'),
-        pick(used, b's', b' '),
+        y,
+        e,
+        s,
         b' ',
         digit(100, cells),
         digit(10, cells),

@@ -1,7 +1,9 @@
 -- What is read of an input, and what is printed for it.
-use Rattle.std.proofs.Common.{◌≡◌, ℕ, ◌<◌, ◌≤◌, Bool, true, false, cond, Option, Some, None, IfSome, List, [], ◌++◌, length, take, sym, ap, ◌∙◌, subst, inl, inr, arith, append-nil, length-take-le}
+use Rattle.std.proofs.Common.{◌≡◌, ℕ, ◌<◌, ◌≤◌, Bool, true, false, cond, Option, Some, None, IfSome, List, [], ◌++◌, length, take, sym, ap, ◌∙◌, subst, inl, inr, arith, is_ok, OnOk, IfOk, Result, Ok, Err, append-nil, length-take-le}
 use Rattle.std.proofs.Math.Seq.{take-nil}
-use Rattle.std.proofs.lemmas.Bool.{cases_lt}
+use Rattle.std.proofs.lemmas.Bool.{cases_lt, false≢true}
+use Rattle.stream.specs.declared.Cut.{Cut}
+use Rattle.stream.specs.Input.{read_length}
 use Rattle.std.proofs.lemmas.List.{take-append-le, take-take}
 use Rattle.std.specs.Io.KnownBytes.{Appends, Consumes, IsAtEnd, Keeps}
 use Rattle.output.specs.Lines.{printed, desk_of, most_bytes}
@@ -41,3 +43,12 @@ keeps w w' p bytes whole len is told part =
     let none : take len bytes ≡ [] = told ∙ ap (λ b. cond b p []) is in
     let short : take k bytes ≡ [] = sym (take-take k len bytes part.1) ∙ ap (take k) none ∙ take-nil k in
     Appends-nothing w w' (subst (Appends w w') short part.2)
+
+-- what a call that went well says
+pub on_ok : {T E : Type 0} {P : Type 0} (r : Result T E) → is_ok r ≡ true → OnOk r P → P
+on_ok (Ok x) e h = h
+on_ok (Err x) e h = absurd (false≢true e)
+
+pub ended : (P : ℕ → Type 0) (r : Result ℕ Cut) → is_ok r ≡ true → IfOk r P → P (read_length r)
+ended P (Ok n) e h = h
+ended P (Err k) e h = absurd (false≢true e)

@@ -2,24 +2,27 @@
 // fails, is said on standard error, where nothing else is written. The exit status is 0 then too, but where nothing can be said: the command `desk` at the top makes one of what is said.
 #![tactic(auto)]
 
-ghost use Rattle.std.specs.Prelude.{◌≡◌, true, false, cond, [], IfSome};
+ghost use Rattle.std.specs.Prelude.{◌≡◌, true, false, cond, [], ◌≤◌, length, take, is_ok, IfSome};
 ghost use Rattle.std.specs.Io.KnownBytes.{Appends, Keeps};
 ghost use Rattle.output.specs.Lines.{printed};
 ghost use Rattle.format.specs.Text.{text_of};
+ghost use Rattle.stream.specs.Input.{read_length};
 
 use format::Text;
 use std::io;
 use std::io::{Read, Write};
+use stream::Cut;
 use table::MOST_BYTES;
 
 // The lines for a job that is read whole, and none for another.
-fn reply(job: &[u8], whole: bool) -> Text
-    ensures { text_of result ≡ cond whole (printed job.now) [] }
+fn reply(job: &[u8], told: Result<usize, Cut>) -> Text
+    requires { read_length told ≤ length job.now }
+    ensures { text_of result ≡ cond (is_ok told) (printed (take (read_length told) job.now)) [] }
 {
-    if whole {
-        return print::print(job);
+    match told {
+        Ok(n) => print::print(&job[..n]),
+        Err(_) => format::empty(),
     }
-    format::empty()
 }
 
 // Whether the job was read whole, and whether all of its lines were written.
@@ -37,13 +40,11 @@ fn serve<R: Read, W: Write>(input: &mut R, output: &mut W) -> Served
 {
     let mut job = [0u8; MOST_BYTES];
     let told = stream::read_all(input, &mut job);
-    let n = told.length;
-    let text = reply(&job[..n], told.whole);
-    let bytes = text.bytes;
-    let written = stream::write(output, &bytes, text.len);
+    let text = reply(&job, told);
+    let written = stream::write(output, &text.bytes, text.len);
     Served {
-        read: told.whole,
-        written,
+        read: told.is_ok(),
+        written: written.is_ok(),
     }
 }
 

@@ -2,33 +2,21 @@
 use mathlib.Core.Path.{◌≡◌, refl, sym, ap, ◌∙◌, subst}
 use Prim.Native.Nat.{ℕ, zero, suc, ◌+◌, ◌-◌, ◌/◌, ◌%◌, ◌<◌, ◌≤◌}
 use native.Mathlib.Omega.{arith}
-use mathlib.Core.List.{List, [], ◌∷◌}
+use mathlib.Core.List.{List}
 use lib.ListN.{get_or, set, replicate}
-use types.Run.{OneOf, miss}
-use denote.Enum.Declared.{tag_of}
-use Rattle.syntax.specs.Types.{e_num}
-use Rattle.syntax.specs.Words.{set_word, decode, code_in}
+use Rattle.syntax.specs.Words.{decode, code_in}
 use Rattle.syntax.proofs.DecodeLaws.{decode_cases}
-use Rattle.typing.specs.Numbered.{Result, makes, points, wrong}
-use Rattle.equality.specs.declared.Entry.{Entry}
-use Rattle.equality.specs.declared.Entry.TheVariants.{Number, Pair, Cell, Limit, Grant}
-use Rattle.equality.specs.declared.Entry.TheVariants as entry
-use Rattle.equality.specs.Entry.{entry_of}
-use Rattle.equality.specs.contracts.Entry.{the_type}
+use Rattle.typing.specs.Numbered.{Result}
 use Rattle.equality.specs.Known.{Known}
 use Rattle.equality.proofs.Known.{known_none}
-use Rattle.elaborate.specs.contracts.Binder.{the_type as binders}
-use Rattle.rules.specs.Answer.{made, result_in}
+use Rattle.rules.specs.Answer.{result_in}
 use Rattle.elaborate.specs.declared.Binder.{Binder}
 use Rattle.elaborate.specs.declared.Binder.TheVariants.{Nothing, Function, NewKey}
-use Rattle.elaborate.specs.declared.Next.{Next}
-use Rattle.elaborate.specs.declared.Next.TheVariants.{Count, Stop}
-use Rattle.elaborate.specs.declared.Passed.TheVariants as passed
+use Rattle.std.proofs.Common.{Ok, Err}
 use Rattle.elaborate.specs.Binders.{binder_of, Bound, bound, bound_one, bound_from, hosts_from}
-use Rattle.elaborate.specs.declared.Passed.{Passed}
 use Rattle.rules.specs.declared.Typing.{Typing}
-use Rattle.rules.specs.declared.Typing.TheVariants.{Makes, Shares, Points, Wrong}
-use Rattle.elaborate.specs.Pass.{Work, work, next_of, settled, Settled, Out, out, turn, result_by, typed_from, Ended, binders_by, after_binders, numbered_by, after}
+use Rattle.rules.specs.declared.Typing.TheVariants.{Makes, Shares, Points}
+use Rattle.elaborate.specs.Pass.{Work, work, Answer, refusal, settled, Settled, Out, out, turn, result_by, typed_from, Ended, binders_by, after_binders, numbered_by, after}
 
 -- Kinds
 
@@ -37,32 +25,6 @@ unfolding binder_of
 no_binder byte x a b c d e h g = decode_cases (λ k. Nothing ≡ binder_of k) byte x a b c d e
     (λ z. refl) (λ z. refl) (λ z. refl) (λ z. refl) (λ z. absurd (h z)) (λ z. refl) (λ z. refl) (λ z. refl) (λ z. refl) (λ z. refl)
     (λ z. refl) (λ z. refl) (λ z. refl) (λ z. absurd (g z)) (λ z. refl) (λ z. refl) (λ z. refl) (λ z. refl) refl
-
-pub no_set : (e : Entry) → OneOf (0 ∷ 1 ∷ 2 ∷ 4 ∷ 5 ∷ 6 ∷ []) (tag_of the_type e) → 0 ≡ set_word (made (entry_of e))
-unfolding set_word made entry_of
-no_set (Number q) h = refl
-no_set (Pair q a b) h = refl
-no_set (Cell q a) h = refl
-no_set (entry.Function q a b s) h = absurd (miss (0 ∷ 1 ∷ 2 ∷ 4 ∷ 5 ∷ 6 ∷ []) 3 tt h)
-no_set (Limit q r) h = refl
-no_set (Grant q r) h = refl
-no_set entry.Nothing h = refl
-
-pub no_entry : (e : Entry) → OneOf (6 ∷ []) (tag_of the_type e) → made (entry_of e) ≡ e_num 0
-unfolding made entry_of
-no_entry (Number q) h = absurd (miss (6 ∷ []) 0 tt h)
-no_entry (Pair q a b) h = absurd (miss (6 ∷ []) 1 tt h)
-no_entry (Cell q a) h = absurd (miss (6 ∷ []) 2 tt h)
-no_entry (entry.Function q a b s) h = absurd (miss (6 ∷ []) 3 tt h)
-no_entry (Limit q r) h = absurd (miss (6 ∷ []) 4 tt h)
-no_entry (Grant q r) h = absurd (miss (6 ∷ []) 5 tt h)
-no_entry entry.Nothing h = refl
-
-pub bind_none : (b : Binder) → OneOf (0 ∷ []) (tag_of binders b) → (x : Bound) → x ≡ bound_one b x
-unfolding bound_one
-bind_none Nothing h x = refl
-bind_none (Function v t) h x = absurd (miss (0 ∷ []) 1 tt h)
-bind_none (NewKey v r) h x = absurd (miss (0 ∷ []) 2 tt h)
 
 bound_le : (b : Binder) (x : Bound) → (bound_one b x).count ≤ x.count + 3
 unfolding bound_one
@@ -97,66 +59,47 @@ pub host_end : (values : List ℕ) (n i : ℕ) (vars : List ℕ) {k : List ℕ} 
 unfolding hosts_from
 host_end values n i vars h p = let z : n - i ≡ 0 = omega arith in sym (p ∙ ap (λ (m : ℕ). hosts_from values m i vars) z)
 
--- an expression that has a type
-turn_count : (r : Result) (e : ℕ) (w : Work) (go : Work → Out) (m : ℕ) (ts ss os es : List ℕ) (n : Next) → Settled r e w n ts ss os es → n ≡ Count m → turn r e w go ≡ go (work m ts ss os es)
-unfolding turn settled next_of
-turn_count (makes l x s) e w go m ts ss os es n p q =
-    let z : after w.count l + 1 ≡ m = ap counted (sym p.next ∙ q) in
-    λ i. go (work (z i) (sym p.types i) (sym p.sets i) (sym p.entries i) (sym p.effects i))
-  where
-    counted : Next → ℕ
-    counted (Count k) = k
-    counted (Stop k) = 0
-turn_count (points x s) e w go m ts ss os es n p q =
-    let z : w.count ≡ m = ap counted (sym p.next ∙ q) in
-    λ i. go (work (z i) (sym p.types i) (sym p.sets i) (sym p.entries i) (sym p.effects i))
-  where
-    counted : Next → ℕ
-    counted (Count k) = k
-    counted (Stop k) = 0
-turn_count (wrong k) e w go m ts ss os es n p q = absurd (let z : ◌≡◌ {A = ℕ} 0 1 = cc p.next in omega arith)
-
 -- the count grows by two at most
-pub next_le : (t : Typing) (n m : ℕ) (k : Next) → k ≡ next_of (result_in t) n → k ≡ Count m → m ≤ n + 2
-unfolding next_of result_in after
-next_le (Makes x s) n m k p q = let z : m ≡ n + 1 = cc in omega arith
-next_le (Shares x s) n m k p q = let z : m ≡ n + 1 + 1 = cc in omega arith
-next_le (Points x s) n m k p q = let z : m ≡ n = cc in omega arith
-next_le (Wrong x) n m k p q = absurd (let z : ◌≡◌ {A = ℕ} 0 1 = cc in omega arith)
+settled_le : (t : Typing) (e : ℕ) (w : Work) → (settled (result_in (Ok t)) e w).count ≤ w.count + 2
+unfolding settled result_in after
+settled_le (Makes x s) e w = omega arith
+settled_le (Shares x s) e w = omega arith
+settled_le (Points x s) e w = omega arith
 
-turn_stop : (r : Result) (e : ℕ) (w : Work) (go : Work → Out) (k : ℕ) (ts ss os es : List ℕ) (n : Next) → Settled r e w n ts ss os es → n ≡ Stop k
-    → turn r e w go ≡ out (passed.Halted k e) (work w.count ts ss os es)
-unfolding turn settled next_of
-turn_stop (makes l x s) e w go k ts ss os es n p q = absurd (let z : ◌≡◌ {A = ℕ} 0 1 = cc p.next in omega arith)
-turn_stop (points x s) e w go k ts ss os es n p q = absurd (let z : ◌≡◌ {A = ℕ} 0 1 = cc p.next in omega arith)
-turn_stop (wrong x) e w go k ts ss os es n p q =
-    let z : x ≡ k = ap number (sym p.next ∙ q) in
-    λ i. out (passed.Halted (z i) e) (work w.count (sym p.types i) (sym p.sets i) (sym p.entries i) (sym p.effects i))
-  where
-    number : Next → ℕ
-    number (Count x) = 0
-    number (Stop x) = x
+pub count_le : (t : Typing) (e : ℕ) (w : Work) {n : ℕ} {ts ss os es : List ℕ} → Settled (result_in (Ok t)) e w n ts ss os es → n ≤ w.count + 2
+count_le t e w a = omega (arith, a.count, settled_le t e w)
 
-module _ (anc names vars heads slots : List ℕ) (cmds e : ℕ) (w : Work) {o : Out} {r : Result} (sofar : o ≡ typed_from anc names vars heads slots (cmds - e) e w)
-    (now : r ≡ result_by anc names vars heads slots e w) {n : Next} {ts ss os es : List ℕ} (after : Settled r e w n ts ss os es) where
-  step : e < cmds → o ≡ turn r e w (λ v. typed_from anc names vars heads slots (cmds - (e + 1)) (e + 1) v)
+turn_typed : (t : Typing) (e : ℕ) (w : Work) (go : Work → Out) → turn (result_in (Ok t)) e w go ≡ go (settled (result_in (Ok t)) e w)
+unfolding turn result_in
+turn_typed (Makes x s) e w go = refl
+turn_typed (Shares x s) e w go = refl
+turn_typed (Points x s) e w go = refl
+
+module _ (anc names vars heads slots : List ℕ) (cmds e : ℕ) (w : Work) {o : Out} (sofar : o ≡ typed_from anc names vars heads slots (cmds - e) e w) (h : e < cmds) where
+  step : {r : Result} → r ≡ result_by anc names vars heads slots e w → o ≡ turn r e w (λ v. typed_from anc names vars heads slots (cmds - (e + 1)) (e + 1) v)
   unfolding typed_from
-  step h =
+  step {r} now =
       let z : cmds - e ≡ suc (cmds - (e + 1)) = omega arith in
       sofar ∙ ap (λ (m : ℕ). typed_from anc names vars heads slots m e w) z ∙ ap (λ (x : Result). turn x e w (λ v. typed_from anc names vars heads slots (cmds - (e + 1)) (e + 1) v)) (sym now)
 
-  pub type_turn : {m : ℕ} → e < cmds → n ≡ Count m → o ≡ typed_from anc names vars heads slots (cmds - (e + 1)) (e + 1) (work m ts ss os es)
-  type_turn h q = step h ∙ turn_count r e w _ _ ts ss os es n after q
+  -- an expression that has a type
+  pub type_turn : (t : Typing) → result_in (Ok t) ≡ result_by anc names vars heads slots e w → {n : ℕ} {ts ss os es : List ℕ} → Settled (result_in (Ok t)) e w n ts ss os es
+      → o ≡ typed_from anc names vars heads slots (cmds - (e + 1)) (e + 1) (work n ts ss os es)
+  type_turn t now a =
+      step now ∙ turn_typed t e w _
+      ∙ λ i. typed_from anc names vars heads slots (cmds - (e + 1)) (e + 1) (work (sym a.count i) (sym a.types i) (sym a.sets i) (sym a.entries i) (sym a.effects i))
 
-  pub type_stop : {k : ℕ} → e < cmds → n ≡ Stop k → o ≡ out (passed.Halted k e) (work w.count ts ss os es)
-  type_stop h q = step h ∙ turn_stop r e w _ _ ts ss os es n after q
+  -- the first that has none
+  pub type_stop : (k : ℕ) → result_in (Err k) ≡ result_by anc names vars heads slots e w → o ≡ out (Err (refusal k e)) w
+  unfolding turn result_in
+  type_stop k now = step now
 
-pub type_end : (anc names vars heads slots : List ℕ) (cmds e : ℕ) (w : Work) {o : Out} → cmds ≤ e → o ≡ typed_from anc names vars heads slots (cmds - e) e w → o ≡ out passed.Whole w
+pub type_end : (anc names vars heads slots : List ℕ) (cmds e : ℕ) (w : Work) {o : Out} → cmds ≤ e → o ≡ typed_from anc names vars heads slots (cmds - e) e w → o ≡ out (Ok tt) w
 unfolding typed_from
 type_end anc names vars heads slots cmds e w h p = let z : cmds - e ≡ 0 = omega arith in p ∙ ap (λ (n : ℕ). typed_from anc names vars heads slots n e w) z
 
 -- what a pass came to
-pub ended : {o : Out} {a : Passed} {w : Work} → o ≡ out a w → Ended o a w.types w.sets w.entries w.effects
+pub ended : {o : Out} {a : Answer} {w : Work} → o ≡ out a w → Ended o a w.types w.sets w.entries w.effects
 ended e =
     record {
       answer = ap (λ (o : Out). o.answer) (sym e);
@@ -167,7 +110,7 @@ ended e =
     }
 
 -- the binders, then the expressions
-pub begun : (anc names values heads slots : List ℕ) (nt nv nc : ℕ) (types sets entries effects : List ℕ) {n : ℕ} {us vs ts : List ℕ} {a : Passed} {ps qs rs ss : List ℕ}
+pub begun : (anc names values heads slots : List ℕ) (nt nv nc : ℕ) (types sets entries effects : List ℕ) {n : ℕ} {us vs ts : List ℕ} {a : Answer} {ps qs rs ss : List ℕ}
     → us ≡ hosts_from values nv 0 (replicate 64 0) → bound n ts vs ≡ bound_from heads slots nc 0 (bound nt types us)
     → Ended (typed_from anc names vs heads slots nc 0 (work n ts sets entries effects)) a ps qs rs ss
     → Ended (numbered_by anc names values heads slots nt nv nc types sets entries effects) a ps qs rs ss

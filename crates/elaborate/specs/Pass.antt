@@ -1,15 +1,14 @@
 -- The pass over the expressions by the tables: each writes its type entry and its effect, and the entries that it makes.
 use Rattle.std.specs.Prelude.{◌≡◌, ℕ, zero, suc, ◌+◌, ◌%◌, List, [], ◌∷◌, ◌++◌, get_or, set, replicate}
+use Rattle.std.proofs.Common as std
+use Rattle.std.proofs.Common.{Ok, Err}
 use Rattle.order.specs.Effects.{of_word}
 use Rattle.syntax.specs.Types.{TypeEntry}
 use Rattle.syntax.specs.Words.{type_words, set_words, code_in, entry_in}
 use Rattle.typing.specs.Numbered.{Result, makes, points, wrong, result_at}
 use Rattle.equality.specs.Known.{Known}
 use Rattle.rules.specs.Ops.{ops_by}
-use Rattle.elaborate.specs.declared.Next.{Next}
-use Rattle.elaborate.specs.declared.Next.TheVariants.{Count, Stop}
-use Rattle.elaborate.specs.declared.Passed.{Passed}
-use Rattle.elaborate.specs.declared.Passed.TheVariants as passed
+use Rattle.table.specs.declared.Refusal.{Refusal}
 use Rattle.elaborate.specs.Binders.{Bound, bound, bound_from, hosts_from}
 
 -- the number of entries, and the tables that the pass writes
@@ -33,10 +32,13 @@ unfoldable pub stored : List ℕ → ℕ → List ℕ → List ℕ
 stored t n [] = t
 stored t n (w ∷ l) = stored (set t n w) (n + 1) l
 
-unfoldable pub next_of : Result → ℕ → Next
-next_of (makes l x s) n = Count (after n l + 1)
-next_of (points i s) n = Count n
-next_of (wrong k) n = Stop k
+-- the answer of a pass: all expressions have a type, or the first refusal
+abbrev pub Answer : Type 0
+Answer = std.Result (Unit {0}) Refusal
+
+-- number, place
+abbrev pub refusal : ℕ → ℕ → Refusal
+refusal n e = record { number = n; place = e }
 
 -- the result of expression e is written
 unfoldable pub settled : Result → ℕ → Work → Work
@@ -47,8 +49,8 @@ settled (points i s) e w = work w.count w.types w.sets (set w.entries e i) (set 
 settled (wrong k) e w = w
 
 -- so it is after `settle`
-pub record Settled (r : Result) (e : ℕ) (w : Work) (n : Next) (ts ss os es : List ℕ) : Type 0 where
-  pub next : n ≡ next_of r w.count
+pub record Settled (r : Result) (e : ℕ) (w : Work) (n : ℕ) (ts ss os es : List ℕ) : Type 0 where
+  pub count : n ≡ (settled r e w).count
   pub types : ts ≡ (settled r e w).types
   pub sets : ss ≡ (settled r e w).sets
   pub entries : os ≡ (settled r e w).entries
@@ -60,16 +62,16 @@ pub record Kept (types sets known types' sets' known' : List ℕ) : Type 0 where
 
 -- the answer, and the tables afterwards
 pub record Out : Type 0 where
-  pub answer : Passed
+  pub answer : Answer
   pub work : Work
 
-abbrev pub out : Passed → Work → Out
+abbrev pub out : Answer → Work → Out
 out a w = record { answer = a; work = w }
 
 unfoldable pub turn : Result → ℕ → Work → (Work → Out) → Out
 turn (makes l x s) e w go = go (settled (makes l x s) e w)
 turn (points i s) e w go = go (settled (points i s) e w)
-turn (wrong k) e w go = out (passed.Halted k e) w
+turn (wrong k) e w go = out (Err (refusal k e)) w
 
 -- ancestors, names, the entries of the variables, heads, slots
 module _ (anc names vars heads slots : List ℕ) where
@@ -80,11 +82,11 @@ module _ (anc names vars heads slots : List ℕ) where
 
   -- n expressions from e on
   unfoldable pub typed_from : ℕ → ℕ → Work → Out
-  typed_from zero e w = out passed.Whole w
+  typed_from zero e w = out (Ok tt) w
   typed_from (suc n) e w = turn (result_by e w) e w (λ v. typed_from n (e + 1) v)
 
 -- the answer of a pass and the tables after it
-pub record Ended (o : Out) (r : Passed) (ts ss os es : List ℕ) : Type 0 where
+pub record Ended (o : Out) (r : Answer) (ts ss os es : List ℕ) : Type 0 where
   pub answer : r ≡ o.answer
   pub types : ts ≡ o.work.types
   pub sets : ss ≡ o.work.sets

@@ -36,9 +36,9 @@ use Rattle.typing.proofs.NumberedWords.{words_back}
 use Rattle.names.specs.Ancestors.{ancestors_by}
 use Rattle.elaborate.specs.declared.Binder.{Binder}
 use Rattle.elaborate.specs.declared.Binder.TheVariants.{Nothing, Function, NewKey}
-use Rattle.elaborate.specs.declared.Passed.TheVariants as passed
+use Rattle.std.proofs.Common.{Ok, Err}
 use Rattle.elaborate.specs.Binders.{binder_by, binder_of, Bound, bound, hosts_from}
-use Rattle.elaborate.specs.Pass.{Work, work, settled, Out, out, turn, result_by, typed_from, binders_by, after_binders, numbered_by, after, stored}
+use Rattle.elaborate.specs.Pass.{Work, work, settled, refusal, Out, out, turn, result_by, typed_from, binders_by, after_binders, numbered_by, after, stored}
 use Rattle.elaborate.specs.OpsLaws.{job_ops, agree}
 use Rattle.elaborate.specs.BinderLaws.{bound_all, bound_all_lem, Keys, keys_all, sets_kept, entry_or, Binds, by_fn, by_key, Apart, vars_all, hosts_length, hosts_all, both}
 
@@ -112,8 +112,8 @@ work_of kt ks ko ke σ = work (length σ.entries) (filled kt 0 (type_words σ.en
 
 -- what a pass and the typing come to
 pub data Reached (J : Job) (kt ks ko ke : ℕ) : Out → Whole → Type 0 where
-  r_whole : (σ : Sofar) → Inv J (length J.cmds) σ → Reached J kt ks ko ke (out passed.Whole (work_of kt ks ko ke σ)) (whole σ)
-  r_halted : (n e : ℕ) (w : Work) → Reached J kt ks ko ke (out (passed.Halted n e) w) (halted (record { number = n; place = e }))
+  r_whole : (σ : Sofar) → Inv J (length J.cmds) σ → Reached J kt ks ko ke (out (Ok tt) (work_of kt ks ko ke σ)) (whole σ)
+  r_halted : (n e : ℕ) (w : Work) → Reached J kt ks ko ke (out (Err (refusal n e)) w) (halted (record { number = n; place = e }))
 
 words_more : {A : Type 0} (f : A → ℕ) (k : ℕ) (T : List A) (x : A) → length T < k → set (filled k 0 (map f T)) (length T) (f x) ≡ filled k 0 (map f (T ++ (x ∷ [])))
 words_more f k T x h = filled_set k (map f T) (length T) (f x) (omega (arith, length-map T f)) (sym (length-map T f)) ∙ ap (filled k 0) (sym (map_snoc f T x))
@@ -241,7 +241,7 @@ module _ {J : Job} (j : JobOk J) (f : JobFits J) (scoped : tree_refusal (source_
     unfolding typed_from number_at
     all zero e σ q v =
         let z : e ≡ length J.cmds = omega arith in
-        subst (λ (w : Whole). Reached J kt ks ko ke (out passed.Whole (work_of kt ks ko ke σ)) w) (sym (number_end (job_ops kn J) (var_entry J) J.cmds e (omega arith) σ)) (r_whole σ (subst (λ (n : ℕ). Inv J n σ) z v))
+        subst (λ (w : Whole). Reached J kt ks ko ke (out (Ok tt) (work_of kt ks ko ke σ)) w) (sym (number_end (job_ops kn J) (var_entry J) J.cmds e (omega arith) σ)) (r_whole σ (subst (λ (n : ℕ). Inv J n σ) z v))
     all (suc m) e σ q v =
         let h : e < length J.cmds = omega arith in
         let z : suc e ≡ e + 1 = omega arith in

@@ -1,5 +1,6 @@
 -- What typing all expressions comes to: the pass over the tables for all tables, and typing by numbers for a job that the tables hold.
 use Rattle.std.specs.Prelude.{◌≡◌, ℕ, ◌≤◌, List, [], length}
+use Rattle.std.proofs.Common.{Ok, Err}
 use Rattle.std.proofs.Common.{subst}
 use Rattle.std.proofs.Math.Option.{none}
 use Rattle.syntax.specs.Job.{Job, source_of}
@@ -10,9 +11,7 @@ use Rattle.syntax.specs.WordLaws.{JobFits}
 use Rattle.syntax.specs.Loading.{most_entries}
 use Rattle.typing.specs.Numbered.{Whole, whole, halted, numbering}
 use Rattle.names.specs.Ancestors.{ancestors_by}
-use Rattle.elaborate.specs.declared.Passed.{Passed}
-use Rattle.elaborate.specs.declared.Passed.TheVariants as passed
-use Rattle.elaborate.specs.Pass.{Out, Ended, numbered_by}
+use Rattle.elaborate.specs.Pass.{Answer, refusal, Out, Ended, numbered_by}
 use Rattle.elaborate.specs.OpsLaws.{job_ops}
 use Rattle.elaborate.specs.Right.{Reached, r_whole, r_halted, numbered_right}
 
@@ -50,24 +49,24 @@ pub record Held (J : Job) (k : Lengths) (anc names values heads slots : List ℕ
   pub is_effects : effects ≡ filled k.effects 0 []
 
 -- the answer and the tables say what typing by numbers came to
-unfoldable pub Says : Lengths → Passed → List ℕ → List ℕ → List ℕ → List ℕ → Whole → Type 0
+unfoldable pub Says : Lengths → Answer → List ℕ → List ℕ → List ℕ → List ℕ → Whole → Type 0
 Says k r ts ss os es (whole σ) =
-    (r ≡ passed.Whole) × (ts ≡ filled k.types 0 (type_words σ.entries)) × (ss ≡ filled k.sets 0 (set_words σ.entries)) × (os ≡ filled k.entries 0 σ.of) × (es ≡ filled k.effects 0 (effect_words σ.effects))
-Says k r ts ss os es (halted ρ) = r ≡ passed.Halted ρ.number ρ.place
+    (r ≡ Ok tt) × (ts ≡ filled k.types 0 (type_words σ.entries)) × (ss ≡ filled k.sets 0 (set_words σ.entries)) × (os ≡ filled k.entries 0 σ.of) × (es ≡ filled k.effects 0 (effect_words σ.effects))
+Says k r ts ss os es (halted ρ) = r ≡ Err (refusal ρ.number ρ.place)
 
-pub record Typed (anc names values heads slots : List ℕ) (nt nv nc : ℕ) (types sets entries effects : List ℕ) (r : Passed) (ts ss os es : List ℕ) : Type 0 where
+pub record Typed (anc names values heads slots : List ℕ) (nt nv nc : ℕ) (types sets entries effects : List ℕ) (r : Answer) (ts ss os es : List ℕ) : Type 0 where
   -- for all tables
   pub by : Ended (numbered_by anc names values heads slots nt nv nc types sets entries effects) r ts ss os es
   -- of a job
   pub right : (J : Job) (k : Lengths) → Held J k anc names values heads slots nt nv nc types sets entries effects → Says k r ts ss os es (numbering (job_ops k.names J) J)
 
-says : {J : Job} (k : Lengths) {o : Out} {w : Whole} → Reached J k.types k.sets k.entries k.effects o w → {r : Passed} {ts ss os es : List ℕ} → Ended o r ts ss os es → Says k r ts ss os es w
+says : {J : Job} (k : Lengths) {o : Out} {w : Whole} → Reached J k.types k.sets k.entries k.effects o w → {r : Answer} {ts ss os es : List ℕ} → Ended o r ts ss os es → Says k r ts ss os es w
 unfolding Says
 says k (r_whole σ i) e = (e.answer, e.types, e.sets, e.entries, e.effects)
 says k (r_halted n p w) e = e.answer
 
 -- the first gives the second
-pub typed : {anc names values heads slots : List ℕ} {nt nv nc : ℕ} {types sets entries effects : List ℕ} {r : Passed} {ts ss os es : List ℕ}
+pub typed : {anc names values heads slots : List ℕ} {nt nv nc : ℕ} {types sets entries effects : List ℕ} {r : Answer} {ts ss os es : List ℕ}
     → Ended (numbered_by anc names values heads slots nt nv nc types sets entries effects) r ts ss os es → Typed anc names values heads slots nt nv nc types sets entries effects r ts ss os es
 typed {anc} {names} {values} {heads} {slots} {nt} {nv} {nc} {types} {sets} {entries} {effects} {r} {ts} {ss} {os} {es} e = record { by = e; right = λ J k h. at J k h }
   where

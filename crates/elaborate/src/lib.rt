@@ -1,5 +1,5 @@
 // Elaboration: from the tables of a job, the type entry and the effect of each expression, and the entries that the job makes.
-#![tactic(auto)]
+#![tactic(auto, unfolding(syntax::specs::Words::type_word, syntax::specs::Words::set_word, equality::specs::Entry::entry_of, rules::specs::Answer::made, rules::specs::Answer::result_in, crate::specs::Binders::store_key, crate::specs::Binders::bound_one, crate::specs::Pass::after, crate::specs::Pass::stored, crate::specs::Pass::settled))]
 
 ghost use Rattle.std.specs.Prelude.{◌≡◌, ◌%◌, ◌≤◌, set};
 ghost use Rattle.syntax.specs.Words.{type_word, set_word, code_in};
@@ -12,7 +12,7 @@ ghost use Rattle.elaborate.specs.Typed.{Typed};
 
 use infer::Typing;
 use table::{
-    Expr, MOST_NAMES, MOST_VARIABLES, Name, at16, at64, byte_of, key_of, name_of, put16, put64,
+    Expr, MOST_NAMES, MOST_VARIABLES, Name, Refusal, byte_of, get_or, key_of, name_of, set_at,
     type_word,
 };
 use types::{Entry, MEMORY};
@@ -23,20 +23,6 @@ pub enum Binder {
     Nothing,
     Function(u8, u16),
     NewKey(u8, u8),
-}
-
-// The number of entries after an expression, or the number of a refusal.
-#[derive(Clone, Copy)]
-pub enum Next {
-    Count(usize),
-    Stop(u8),
-}
-
-// All expressions have a type, or the number of the first refusal and its expression.
-#[derive(Clone, Copy)]
-pub enum Passed {
-    Whole,
-    Halted(u8, u16),
 }
 
 // The number of an entry, as operands have it.
@@ -75,11 +61,11 @@ fn binder_at<'a>(heads: &'a [u64], slots: &'a [u16], e: Expr) -> Binder
     ensures { result ≡ binder_of (code_in heads.now slots.now e.0) }
 {
     let i = e.0 as usize;
-    let w = at64(heads, i);
+    let w = get_or(heads, i, 0);
     match byte_of(w) {
-        0x35 => return Binder::Function(key_of(w), at16(slots, i * 5 + 1)),
-        0x3E => return Binder::NewKey(key_of(w), name_of(w)),
-        _ => return Binder::Nothing,
+        0x35 => Binder::Function(key_of(w), get_or(slots, i * 5 + 1, 0)),
+        0x3E => Binder::NewKey(key_of(w), name_of(w)),
+        _ => Binder::Nothing,
     }
 }
 
@@ -88,9 +74,9 @@ fn store_key(types: &mut [u64], n: usize, r: u8)
     requires { n ≤ 327680 }
     ensures { types.new ≡ store_key types.old n r }
 {
-    put64(types, n, type_word(0x14, 0, r as u16, 0));
-    put64(types, n + 1, type_word(0x15, 0, r as u16, 0));
-    put64(types, n + 2, type_word(0x11, 0, short(n), short(n + 1)));
+    set_at(types, n, type_word(0x14, 0, r as u16, 0));
+    set_at(types, n + 1, type_word(0x15, 0, r as u16, 0));
+    set_at(types, n + 2, type_word(0x11, 0, short(n), short(n + 1)));
 }
 
 // One binder more, when n entries stand before; the number of entries afterwards.
@@ -99,15 +85,15 @@ fn bind_one(b: Binder, n: usize, types: &mut [u64], vars: &mut [u16; MOST_VARIAB
     ensures { bound result types.new vars.new ≡ bound_one b (bound n types.old vars.old) }
 {
     match b {
-        Binder::Nothing => return n,
+        Binder::Nothing => n,
         Binder::Function(v, t) => {
-            put16(vars, v as usize, t);
-            return n;
+            set_at(vars, v as usize, t);
+            n
         }
         Binder::NewKey(v, r) => {
             store_key(types, n, r);
-            put16(vars, v as usize, short(n + 2));
-            return n + 3;
+            set_at(vars, v as usize, short(n + 2));
+            n + 3
         }
     }
 }
@@ -125,12 +111,9 @@ fn bind<'a>(
         ≡ bound_from heads.now slots.now cmds 0 (bound n types.old vars.old)) }
 {
     let mut count = n as usize;
-    let mut i: u16 = 0;
-    while i < cmds {
+    for i in 0..cmds {
         let b = binder_at(heads, slots, Expr(i));
-        let more = bind_one(b, count, types, vars);
-        count = more;
-        i = i + 1;
+        count = bind_one(b, count, types, vars);
     }
     count
 }
@@ -139,11 +122,9 @@ fn bind<'a>(
 fn hosts(values: &[u64], n: u16, vars: &mut [u16; MOST_VARIABLES])
     ensures { vars.new ≡ hosts_from values.now n 0 vars.old }
 {
-    let mut i: usize = 0;
-    while i < (n as usize) {
-        let w = at64(values, i);
-        put16(vars, i, (w / 256 % 65536) as u16);
-        i = i + 1;
+    for i in 0..n as usize {
+        let w = get_or(values, i, 0);
+        set_at(vars, i, (w / 256 % 65536) as u16);
     }
 }
 
@@ -154,13 +135,13 @@ fn store(x: Entry, n: usize, types: &mut [u64], sets: &mut [u64], known: &mut [u
         × Kept types.old sets.old known.old types.new sets.new known.new }
 {
     types::make_room(types, n, known);
-    put64(types, n, entry_word(x));
-    put64(sets, n, set_word(x));
+    set_at(types, n, entry_word(x));
+    set_at(sets, n, set_word(x));
 }
 
-// Writes the result of expression e, when n entries stand in the type table. What is known of comparisons stays right.
+// Writes the type and effect of expression e, when n entries stand in the type table; the number of entries afterwards. What is known of comparisons stays right.
 fn settle(
-    t: Typing,
+    typing: Typing,
     e: Expr,
     n: usize,
     types: &mut [u64],
@@ -168,41 +149,39 @@ fn settle(
     entries: &mut [u16],
     effects: &mut [u64],
     known: &mut [u64],
-) -> Next
+) -> usize
     requires { n ≤ 524288 }
-    ensures { Settled (result_in t) e.0 (work n types.old sets.old entries.old effects.old) result
+    ensures { Settled (result_in (Ok typing)) e.0 (work n types.old sets.old entries.old effects.old) result
         types.new sets.new entries.new effects.new
         × Kept types.old sets.old known.old types.new sets.new known.new }
 {
     let i = e.0 as usize;
-    match t {
+    match typing {
         Typing::Makes(x, s) => {
             types::make_room(types, n, known);
-            put64(types, n, entry_word(x));
-            put64(sets, n, set_word(x));
-            put16(entries, i, short(n));
-            put64(effects, i, s);
-            let more = n + 1;
-            return Next::Count(more);
+            set_at(types, n, entry_word(x));
+            set_at(sets, n, set_word(x));
+            set_at(entries, i, short(n));
+            set_at(effects, i, s);
+            n + 1
         }
         Typing::Shares(t, s) => {
             store(Entry::Number(Name(0)), n, types, sets, known);
             let last = n + 1;
             store(Entry::Pair(Name(0), t, t), last, types, sets, known);
-            put16(entries, i, short(last));
-            put64(effects, i, s);
-            return Next::Count(last + 1);
+            set_at(entries, i, short(last));
+            set_at(effects, i, s);
+            last + 1
         }
         Typing::Points(j, s) => {
-            put16(entries, i, j);
-            put64(effects, i, s);
-            return Next::Count(n);
+            set_at(entries, i, j);
+            set_at(effects, i, s);
+            n
         }
-        Typing::Wrong(k) => return Next::Stop(k),
     }
 }
 
-// The expressions in order, when n entries stand in the type table.
+// The expressions in order, when n entries stand in the type table. The first refusal ends it, with its expression as the place.
 fn type_all<'a>(
     names: &'a [u16],
     anc: &'a [u64; MOST_NAMES],
@@ -216,14 +195,14 @@ fn type_all<'a>(
     entries: &mut [u16],
     effects: &mut [u64],
     known: &mut [u64],
-) -> Passed
+) -> Result<(), Refusal>
     requires { (n ≤ 262144) × Known anc.now types.old sets.old known.old }
     ensures { Ended (typed_from anc.now names.now vars.now heads.now slots.now cmds 0 (work n types.old sets.old entries.old effects.old)) result types.new sets.new entries.new effects.new }
 {
     let mut count = n;
-    let mut e: u16 = 0;
-    while e < cmds {
-        let t = infer::result(
+    for e in 0..cmds {
+        let place = e as usize;
+        match infer::result(
             Expr(e),
             heads,
             slots,
@@ -236,18 +215,18 @@ fn type_all<'a>(
             anc,
             short(count),
             known,
-        );
-        match settle(t, Expr(e), count, types, sets, entries, effects, known) {
-            Next::Count(m) => count = m,
-            Next::Stop(k) => return Passed::Halted(k, e),
+        ) {
+            Ok(typing) => {
+                count = settle(typing, Expr(e), count, types, sets, entries, effects, known);
+            }
+            Err(number) => return Err(Refusal { number, place }),
         }
-        e = e + 1;
     }
-    Passed::Whole
+    Ok(())
 }
 
 // From the tables of a job with so many declared types, host values and expressions: the entries of each 0x3E, then for each
-// expression its entry and its effect, and the entries that it makes. The first refusal ends it.
+// expression its entry and its effect, and the entries that it makes. The first refusal ends it, with its expression as the place.
 pub fn number_all<'a>(
     names: &'a [u16],
     anc: &'a [u64; MOST_NAMES],
@@ -261,7 +240,7 @@ pub fn number_all<'a>(
     sets: &mut [u64],
     entries: &mut [u16],
     effects: &mut [u64],
-) -> Passed
+) -> Result<(), Refusal>
     ensures { Typed anc.now names.now values.now heads.now slots.now declared given cmds
         types.old sets.old entries.old effects.old result
         types.new sets.new entries.new effects.new }

@@ -1,10 +1,14 @@
 -- Bytes laid one after the other.
 use mathlib.Core.Path.{◌≡◌, refl, sym, ap, ap₂, ◌∙◌, subst}
-use Prim.Native.Nat.{ℕ, suc, ◌+◌, ◌/◌, ◌%◌, ◌≤◌, ◌<◌}
+use Prim.Native.Nat.{ℕ, suc, ◌+◌, ◌-◌, ◌/◌, ◌%◌, ◌≤◌, ◌<◌}
 use native.Mathlib.Omega.{arith}
 use mathlib.Core.List.{List, [], ◌∷◌, ◌++◌, append_assoc}
-use lib.ListN.{length, set, length-append}
+use lib.ListN.{length, set, take, drop, length-append}
 use lib.Seq.{sets}
+use borrow.Rule.Slice.PartMut.{put_mid}
+use Rattle.std.proofs.lemmas.Slice.{put_mid-paste}
+use Rattle.std.proofs.lemmas.List.Edits.{paste_all, sets-eq}
+use Rattle.std.specs.Int.{to_le_bytes, w16, w32, w64}
 use Rattle.syntax.specs.JobBytes.{bytes_of}
 use Rattle.syntax.proofs.RowsRead.{bytes_length}
 use Rattle.encode.specs.Laid.{most_scratch, Pushed}
@@ -41,16 +45,42 @@ four_length a b c d = omega (arith, length-append (bytes_of 2 a ++ bytes_of 2 b)
 pub pushed_as : {l m : List ℕ} {at r : ℕ} {a b : List ℕ} → a ≡ b → Pushed l m at r a → Pushed l m at r b
 pushed_as {l} {m} {at} {r} e x = subst (Pushed l m at r) e x
 
-pub push_one : (l : List ℕ) (at x : ℕ) → x < 256 → Pushed l (set l at x) at (at + 1) (bytes_of 1 x)
-unfolding bytes_of
-push_one l at x h = let z : x ≡ x % 256 = omega arith in record { reach = omega arith; bytes = ap (set l at) z }
+-- a copy of b into the part that begins at `at`
+pub pushed_copy : (l b new : List ℕ) (at n : ℕ) → n ≡ length b → at + n ≤ length l → new ≡ b → Pushed l (put_mid at (at + n - at) l new) at (at + n) b
+pushed_copy l b new at n e h f =
+    record {
+      reach = omega (arith, e);
+      bytes = put_mid-paste at (at + n - at) l new b n f (omega arith) e ∙ paste_all l at b n e ∙ ap (λ (m : ℕ). take at l ++ (b ++ drop (at + m) l)) e ∙ sym (append_assoc (take at l) b (drop (at + length b) l)) ∙ sym (sets-eq b l at (omega (arith, e, h)));
+    }
 
-pub push_two : (l : List ℕ) (at x : ℕ) → x < 65536 → Pushed l (set (set l at (x % 256)) (at + 1) (x / 256)) at (at + 2) (bytes_of 2 x)
+-- the low bytes of a number
+pub bytes_one : (x : ℕ) → x < 256 → x ∷ [] ≡ bytes_of 1 x
 unfolding bytes_of
-push_two l at x h =
-    let z : x / 256 ≡ x / 256 % 256 = omega arith in
-    let y : at + 1 ≡ suc at = omega arith in
-    record { reach = omega arith; bytes = ap₂ (λ (p n : ℕ). set (set l at (x % 256)) p n) y z }
+bytes_one x h = let z : x ≡ x % 256 = omega arith in ap (λ (y : ℕ). y ∷ []) z
+
+pub bytes_two : (x : ℕ) → to_le_bytes w16 x ≡ bytes_of 2 x
+unfolding bytes_of
+bytes_two x = refl
+
+pub bytes_four : (x : ℕ) → to_le_bytes w32 x ≡ bytes_of 4 x
+unfolding bytes_of
+bytes_four x =
+    let a : x / 65536 ≡ x / 256 / 256 = omega arith in
+    let b : x / 16777216 ≡ x / 256 / 256 / 256 = omega arith in
+    cc
+
+pub bytes_eight : (x : ℕ) → to_le_bytes w64 x ≡ bytes_of 8 x
+unfolding bytes_of
+bytes_eight x =
+    let y : ℕ = x / 256 / 256 / 256 in
+    let z : ℕ = y / 256 / 256 in
+    let a : x / 65536 ≡ x / 256 / 256 = omega arith in
+    let b : x / 16777216 ≡ y = omega arith in
+    let c : x / 4294967296 ≡ y / 256 = omega (arith, b) in
+    let d : x / 1099511627776 ≡ z = omega (arith, b) in
+    let e : x / 281474976710656 ≡ z / 256 = omega (arith, d) in
+    let f : x / 72057594037927936 ≡ z / 256 / 256 = omega (arith, d) in
+    cc
 
 -- a number in two halves
 split_two : (n x : ℕ) → bytes_of (suc (suc n)) x ≡ bytes_of 2 x ++ bytes_of n (x / 65536)
@@ -67,9 +97,6 @@ low_two x =
     let c : y % 256 % 256 ≡ y % 256 = omega arith in
     ap₂ (λ (u v : ℕ). u ∷ v ∷ []) a (ap (λ (n : ℕ). n % 256) b ∙ c)
 
-pub bytes_four : (x : ℕ) → bytes_of 2 (x % 65536) ++ bytes_of 2 (x / 65536) ≡ bytes_of 4 x
-bytes_four x = ap (λ l. l ++ bytes_of 2 (x / 65536)) (low_two x) ∙ sym (split_two 2 x)
-
 pub low_four : (x : ℕ) → bytes_of 4 (x % 4294967296) ≡ bytes_of 4 x
 low_four x =
     let r : ℕ = x % 4294967296 in
@@ -78,12 +105,3 @@ low_four x =
     let a : r % 65536 ≡ x % 65536 = omega arith in
     let b : r / 65536 ≡ y % 65536 = omega (arith, z) in
     split_two 2 r ∙ ap₂ (λ u v. u ++ v) (sym (low_two r) ∙ ap (bytes_of 2) a ∙ low_two x) (ap (bytes_of 2) b ∙ low_two y) ∙ sym (split_two 2 x)
-
-pub bytes_eight : (x : ℕ) → bytes_of 4 (x % 4294967296) ++ bytes_of 4 (x / 4294967296) ≡ bytes_of 8 x
-bytes_eight x =
-    let y : ℕ = x / 65536 in
-    let z : x / 4294967296 ≡ y / 65536 = omega arith in
-    ap₂ (λ u v. u ++ v) (low_four x ∙ split_two 2 x) (ap (bytes_of 4) z)
-    ∙ append_assoc (bytes_of 2 x) (bytes_of 2 y) (bytes_of 4 (y / 65536))
-    ∙ ap (λ l. bytes_of 2 x ++ l) (sym (split_two 4 y))
-    ∙ sym (split_two 6 x)

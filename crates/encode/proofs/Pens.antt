@@ -13,29 +13,32 @@ use Rattle.syntax.proofs.ReadPlaces.{width_most, widest_few}
 use Rattle.syntax.specs.JobBytes.{command_bytes}
 use Rattle.syntax.proofs.RowsRead.{all_length}
 use Rattle.syntax.specs.Writing.{Item, item, fault, fits, item_of, Script, script, each, within}
-use Rattle.encode.specs.declared.Pen.{Pen}
+use Rattle.std.specs.Prelude.{Ok, Err}
+use Rattle.table.specs.declared.Refusal.{Refusal}
 use Rattle.encode.specs.Laid.{Pushed}
-use Rattle.encode.specs.Penned.{Penned, alone, pen_over}
+use Rattle.encode.specs.Penned.{Pen, Penned, reach_of, fault_in, alone}
 use Rattle.encode.proofs.Laying.{pushed_then, pushed_none, pushed_as}
 
-pub penned_fault : {l : List ℕ} {at n : ℕ} {r : Pen} {e : Item} → r ≡ pen_over at n → e ≡ fault n → Penned l l at r (alone e)
+pub penned_fault : {l : List ℕ} {at n : ℕ} {k : Refusal} {e : Item} → k.place ≡ at → 0 < n → k.number ≡ n → e ≡ fault n → Penned l l at (Err k) (alone e)
 unfolding alone
-penned_fault {l} {at} {n} {r} {e} z k =
-    let s : alone e ≡ record { bytes = []; fault = n } = ap alone k in
+penned_fault {l} {at} {n} {k} {e} p above z q =
+    let s : alone e ≡ record { bytes = []; fault = n } = ap alone q in
     record {
-      reach = ap (λ (p : Pen). p.at) z ∙ (let q : at ≡ at + 0 = omega arith in q) ∙ ap (λ (x : Script). at + length x.bytes) (sym s);
+      reach = p ∙ (let q : at ≡ at + 0 = omega arith in q) ∙ ap (λ (x : Script). at + length x.bytes) (sym s);
       bytes = ap (λ (x : Script). sets l at x.bytes) (sym s);
-      fault_is = ap (λ (p : Pen). p.fault) z ∙ ap (λ (x : Script). x.fault) (sym s);
+      fault_is = z ∙ ap (λ (x : Script). x.fault) (sym s);
+      refused = omega arith;
     }
 
-pub penned_item : {l m : List ℕ} {at p : ℕ} {r : Pen} {e : Item} {op : Op} {o : List ℕ} → r ≡ pen_over p 0 → e ≡ item (op, o) → Pushed l m at p (command_bytes (op, o)) → Penned l m at r (alone e)
+pub penned_item : {l m : List ℕ} {at p : ℕ} {e : Item} {op : Op} {o : List ℕ} → e ≡ item (op, o) → Pushed l m at p (command_bytes (op, o)) → Penned l m at (Ok p) (alone e)
 unfolding alone
-penned_item {l} {m} {at} {p} {r} {e} {op} {o} z k x =
+penned_item {l} {m} {at} {p} {e} {op} {o} k x =
     let s : alone e ≡ record { bytes = command_bytes (op, o); fault = 0 } = ap alone k in
     record {
-      reach = ap (λ (q : Pen). q.at) z ∙ x.reach ∙ ap (λ (y : Script). at + length y.bytes) (sym s);
+      reach = x.reach ∙ ap (λ (y : Script). at + length y.bytes) (sym s);
       bytes = x.bytes ∙ ap (λ (y : Script). sets l at y.bytes) (sym s);
-      fault_is = ap (λ (q : Pen). q.fault) z ∙ ap (λ (y : Script). y.fault) (sym s);
+      fault_is = ap (λ (y : Script). y.fault) (sym s);
+      refused = tt;
     }
 
 -- a command has 14 bytes at most
@@ -117,18 +120,18 @@ pub penned_as : {l m : List ℕ} {at : ℕ} {r : Pen} {s t : Script} → s ≡ t
 penned_as {l} {m} {at} {r} e x = subst (Penned l m at r) e x
 
 -- the bytes that it has written
-pushed_by : {l m : List ℕ} {at : ℕ} {r : Pen} {s : Script} → Penned l m at r s → Pushed l m at r.at s.bytes
+pushed_by : {l m : List ℕ} {at : ℕ} {r : Pen} {s : Script} → Penned l m at r s → Pushed l m at (reach_of r) s.bytes
 pushed_by x = record { reach = x.reach; bytes = x.bytes }
 
 -- bytes, and what is written after them
 penned_behind : {l m n : List ℕ} {at p : ℕ} {r : Pen} {b : List ℕ} {s : Script} → Pushed l m at p b → Penned m n p r s → Penned l n at r (joined b s)
 penned_behind {l} {m} {n} {at} {p} {r} {b} {s} x y =
-    let z = pushed_then x (pushed_by y) in record { reach = z.reach; bytes = z.bytes; fault_is = y.fault_is }
+    let z = pushed_then x (pushed_by y) in record { reach = z.reach; bytes = z.bytes; fault_is = y.fault_is; refused = y.refused }
 
-pub penned_stop : {l m : List ℕ} {at : ℕ} {r : Pen} (a b : List Item) → Penned l m at r (script a) → 0 < r.fault → Penned l m at r (script (a ++ b))
+pub penned_stop : {l m : List ℕ} {at : ℕ} {r : Pen} (a b : List Item) → Penned l m at r (script a) → 0 < fault_in r → Penned l m at r (script (a ++ b))
 penned_stop a b x h = penned_as (sym (script_stops a b (omega (arith, x.fault_is, h)))) x
 
-pub penned_then : {l m n : List ℕ} {at : ℕ} {r q : Pen} (a b : List Item) → AllSound a → Penned l m at r (script a) → r.fault ≤ 0 → Penned m n r.at q (script b) → Penned l n at q (script (a ++ b))
+pub penned_then : {l m n : List ℕ} {at : ℕ} {r q : Pen} (a b : List Item) → AllSound a → Penned l m at r (script a) → fault_in r ≤ 0 → Penned m n (reach_of r) q (script b) → Penned l n at q (script (a ++ b))
 penned_then a b s x h y =
     penned_as (sym (script_append (whole_is s (omega (arith, x.fault_is, h))) b)) (penned_behind (pushed_by x) y)
 
@@ -136,10 +139,9 @@ pub penned_row : {l m n : List ℕ} {at p : ℕ} {q : Pen} (r : Op × List ℕ) 
 unfolding script
 penned_row r b x y = penned_behind x y
 
-pub penned_none : {l : List ℕ} {at : ℕ} {r : Pen} → r ≡ pen_over at 0 → Penned l l at r (script [])
+pub penned_none : {l : List ℕ} {at : ℕ} → Penned l l at (Ok at) (script [])
 unfolding script
-penned_none {l} {at} e =
-    record { reach = ap (λ (p : Pen). p.at) e ∙ (let q : at ≡ at + 0 = omega arith in q); bytes = refl; fault_is = ap (λ (p : Pen). p.fault) e }
+penned_none {l} {at} = record { reach = omega arith; bytes = refl; fault_is = refl; refused = tt }
 
 -- The pen along a list: l became m, from `at` to p, by the first i entries
 pub record Along (f : ℕ → Item) (l m : List ℕ) (at p i : ℕ) : Type 0 where
@@ -152,7 +154,7 @@ unfolding each script
 along_start f l at = record { whole = whole_none; pushed = pushed_none l at; room = omega arith }
 
 -- one entry more
-pub along_next : {f : ℕ → Item} {l m n : List ℕ} {at p i : ℕ} {r : Pen} → Along f l m at p i → Sound (f i) → Penned m n p r (alone (f i)) → r.fault ≤ 0 → Along f l n at r.at (i + 1)
+pub along_next : {f : ℕ → Item} {l m n : List ℕ} {at p i : ℕ} {r : Pen} → Along f l m at p i → Sound (f i) → Penned m n p r (alone (f i)) → fault_in r ≤ 0 → Along f l n at (reach_of r) (i + 1)
 unfolding script alone
 along_next {f} {l} {m} {n} {at} {p} {i} {r} x s y h = by (f i) s y refl
   where
@@ -164,7 +166,7 @@ along_next {f} {l} {m} {n} {at} {p} {i} {r} x s y h = by (f i) s y refl
         ap (λ b. (script (each f 0 i)).bytes ++ b) (sym (append-nil (command_bytes e)))
         ∙ sym (ap (λ (t : Script). t.bytes) (ap script (more e z) ∙ script_append x.whole (item e ∷ [])))
 
-    by : (e : Item) → Sound e → Penned m n p r (alone e) → f i ≡ e → Along f l n at r.at (i + 1)
+    by : (e : Item) → Sound e → Penned m n p r (alone e) → f i ≡ e → Along f l n at (reach_of r) (i + 1)
     by e (sound_item q) y z =
         record {
           whole = subst Whole (sym (more q z)) (whole_snoc x.whole q);
@@ -174,7 +176,7 @@ along_next {f} {l} {m} {n} {at} {p} {i} {r} x s y h = by (f i) s y refl
     by e (sound_fault k g) y z = absurd (omega (arith, y.fault_is, h, g))
 
 -- a fault
-pub along_stop : {f : ℕ → Item} {l m k : List ℕ} {at p i n : ℕ} {r : Pen} → Along f l m at p i → i < n → Penned m k p r (alone (f i)) → 0 < r.fault → Penned l k at r (script (each f 0 n))
+pub along_stop : {f : ℕ → Item} {l m k : List ℕ} {at p i n : ℕ} {r : Pen} → Along f l m at p i → i < n → Penned m k p r (alone (f i)) → 0 < fault_in r → Penned l k at r (script (each f 0 n))
 unfolding each alone script
 along_stop {f} {l} {m} {k} {at} {p} {i} {n} {r} x b y h =
     penned_as (sym whole_script) (penned_behind x.pushed (by (f i) y))
@@ -198,11 +200,10 @@ along_stop {f} {l} {m} {k} {at} {p} {i} {n} {r} x b y h =
     by (fault u) y = y
 
 -- the end
-pub along_end : {f : ℕ → Item} {l m : List ℕ} {at p i n : ℕ} {r : Pen} → Along f l m at p i → i ≡ n → r ≡ pen_over p 0 → Penned l m at r (script (each f 0 n))
-along_end {f} {l} {m} {at} {p} {i} {n} {r} x e z =
-    let y : Penned l m at r (script (each f 0 i)) =
-    record { reach = ap (λ (q : Pen). q.at) z ∙ x.pushed.reach; bytes = x.pushed.bytes; fault_is = ap (λ (q : Pen). q.fault) z ∙ sym (whole_fault x.whole) } in
-    subst (λ (k : ℕ). Penned l m at r (script (each f 0 k))) e y
+pub along_end : {f : ℕ → Item} {l m : List ℕ} {at p i n : ℕ} → Along f l m at p i → i ≡ n → Penned l m at (Ok p) (script (each f 0 n))
+along_end {f} {l} {m} {at} {p} {i} {n} x e =
+    let y : Penned l m at (Ok p) (script (each f 0 i)) = record { reach = x.pushed.reach; bytes = x.pushed.bytes; fault_is = sym (whole_fault x.whole); refused = tt } in
+    subst (λ (k : ℕ). Penned l m at (Ok p) (script (each f 0 k))) e y
 
 -- Entries within the limit, and past it
 pub sound_item_of : (sec : ℕ) (o : Option Op) (f : Op → List ℕ) → Sound (item_of sec o f)

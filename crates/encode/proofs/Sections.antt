@@ -1,5 +1,5 @@
 -- The pen along one table, within its limit.
-use mathlib.Core.Path.{◌≡◌, sym, ap}
+use mathlib.Core.Path.{◌≡◌, refl, sym, ap}
 use Prim.Native.Nat.{ℕ, ◌+◌, ◌*◌, ◌≤◌, ◌<◌}
 use native.Mathlib.Omega.{arith}
 use mathlib.Core.Bool.{Bool, true, false, cond}
@@ -8,10 +8,10 @@ use lib.Dec.{eqb}
 use borrow.Author.Tests.{lt-ltb, le-ltb}
 use Rattle.syntax.specs.Loading.{JobTables}
 use Rattle.syntax.specs.Writing.{Item, fault, within}
-use Rattle.encode.specs.declared.Pen.{Pen}
+use Rattle.std.specs.Prelude.{Ok, Err}
 use Rattle.encode.specs.Laid.{most_scratch}
 use Rattle.encode.specs.Entries.{limit_of, entry_item, item_in}
-use Rattle.encode.specs.Penned.{Penned, alone, pen_over, Sectioned}
+use Rattle.encode.specs.Penned.{Pen, Penned, reach_of, fault_in, alone, Sectioned}
 use Rattle.encode.proofs.Pens.{Sound, sound_item_of, sound_within, entry_length, penned_fault, penned_as, Along, along_next, along_stop, along_end}
 
 -- a bound that was told
@@ -52,26 +52,23 @@ module _ (w : JobTables) (sec : ℕ) where
 
   module _ {l m : List ℕ} {at p i : ℕ} (x : Along (item_in w sec) l m at p i) where
     -- one more than the limit
-    pub section_past : (n : ℕ) {k : ℕ} {r : Pen} → i < n → i ≤ limit_of sec → k ≡ limit_of sec → k ≤ i → r ≡ pen_over p 5 → Sectioned (item_in w sec) (limit_of sec) n l m at r
-    section_past n {k} {r} b e q h z =
-        let a : r.at ≡ p = ap (λ (y : Pen). y.at) z in
-        let f : r.fault ≡ 5 = ap (λ (y : Pen). y.fault) z in
-        record { penned = along_stop x b (penned_fault z (beyond i (omega (arith, q, h)))) (omega (arith, f)); room = omega (arith, x.room, a, e) }
+    pub section_past : (n : ℕ) {k : ℕ} → i < n → i ≤ limit_of sec → k ≡ limit_of sec → k ≤ i → Sectioned (item_in w sec) (limit_of sec) n l m at (Err (record { number = 5; place = p }))
+    section_past n {k} b e q h =
+        record { penned = along_stop x b (penned_fault refl (omega arith) refl (beyond i (omega (arith, q, h)))) (omega arith); room = omega (arith, x.room, e) }
 
     module _ {k : List ℕ} {r : Pen} (y : Penned m k p r (alone (entry_item w sec i))) (h : i < limit_of sec) where
       here : Penned m k p r (alone (item_in w sec i))
       here = penned_as (ap alone (inside i h)) y
 
       -- an entry that has a fault
-      pub section_stop : (n : ℕ) → i < n → 0 < r.fault → Sectioned (item_in w sec) (limit_of sec) n l k at r
+      pub section_stop : (n : ℕ) → i < n → 0 < fault_in r → Sectioned (item_in w sec) (limit_of sec) n l k at r
       section_stop n b f = record { penned = along_stop x b here f; room = omega (arith, x.room, y.reach, entry_length (entry_item w sec i)) }
 
-      pub section_next : r.fault ≤ 0 → Along (item_in w sec) l k at r.at (i + 1)
+      pub section_next : fault_in r ≤ 0 → Along (item_in w sec) l k at (reach_of r) (i + 1)
       section_next f = along_next x (sound_in i) here f
 
-    pub section_end : (n : ℕ) {r : Pen} → i ≤ n → n ≤ i → i ≤ limit_of sec → r ≡ pen_over p 0 → Sectioned (item_in w sec) (limit_of sec) n l m at r
-    section_end n {r} a b e z =
-        let q : r.at ≡ p = ap (λ (y : Pen). y.at) z in record { penned = along_end x (omega arith) z; room = omega (arith, x.room, q, e) }
+    pub section_end : (n : ℕ) → i ≡ n → i ≤ limit_of sec → Sectioned (item_in w sec) (limit_of sec) n l m at (Ok p)
+    section_end n a e = record { penned = along_end x a; room = omega (arith, x.room, e) }
 
     -- there is room for one entry more
     pub section_room : at + 14 * limit_of sec ≤ most_scratch → i < limit_of sec → (p + 14 ≤ most_scratch) × (i < 512)

@@ -10,10 +10,10 @@ use Rattle.syntax.specs.Commands.{o_rights, o_end, operands, section_of}
 use Rattle.syntax.specs.Loading.{JobTables}
 use Rattle.syntax.specs.JobBytes.{bytes_of, operand_bytes, command_bytes}
 use Rattle.syntax.specs.Writing.{Counts, Item, item, fits, item_of, name_item, type_item, value_item, cmd_item, each, items, script}
-use Rattle.encode.specs.declared.Pen.{Pen}
+use Rattle.std.specs.Prelude.{Ok}
 use Rattle.encode.specs.Laid.{most_scratch, Pushed}
 use Rattle.encode.specs.Entries.{limit_of, entry_item, item_in}
-use Rattle.encode.specs.Penned.{Penned, pen_over, Sectioned, Encoded}
+use Rattle.encode.specs.Penned.{Pen, Penned, reach_of, fault_in, Sectioned, Encoded}
 use Rattle.syntax.proofs.RowsRead.{bytes_length}
 use Rattle.encode.proofs.Laying.{pushed_then, pushed_as}
 use Rattle.encode.proofs.Pens.{sound_each, penned_as, penned_none, penned_row, penned_stop, penned_then}
@@ -47,7 +47,7 @@ module _ (w : JobTables) (c : Counts) (rights : c.rights < 256 ^ 8) where
   unfolding items item_in entry_item limit_of name_item type_item value_item cmd_item
   items_are = ap (λ e. names ++ (types ++ (values ++ (e ∷ (exprs ++ last))))) (sym rights_item)
 
-  encoded : {l m : List ℕ} {r : Pen} → Penned l m 0 r (script (names ++ (types ++ (values ++ from_rights)))) → r.at ≤ most_scratch → Encoded w c l m r
+  encoded : {l m : List ℕ} {r : Pen} → Penned l m 0 r (script (names ++ (types ++ (values ++ from_rights)))) → (reach_of r) ≤ most_scratch → Encoded w c l m r
   encoded {l} {m} {r} x h = record { penned = penned_as (ap script items_are) x; room = h }
 
   rights_bytes : bytes_of 1 0x21 ++ bytes_of 8 c.rights ≡ command_bytes (o_rights, c.rights ∷ [])
@@ -60,50 +60,50 @@ module _ (w : JobTables) (c : Counts) (rights : c.rights < 256 ^ 8) where
 
   -- after the names
   module _ {l m : List ℕ} {a : Pen} (x : Sectioned (item_in w 0) (limit_of 0) c.names l m 0 a) where
-    names_room : a.at ≤ 868
+    names_room : (reach_of a) ≤ 868
     unfolding limit_of
     names_room = omega (arith, x.room)
 
-    pub room_types : a.at + 14 * limit_of 1 ≤ most_scratch
+    pub room_types : (reach_of a) + 14 * limit_of 1 ≤ most_scratch
     unfolding limit_of
     room_types = omega (arith, names_room)
 
-    pub stop_names : 0 < a.fault → Encoded w c l m a
+    pub stop_names : 0 < fault_in a → Encoded w c l m a
     stop_names h = encoded (penned_stop names _ x.penned h) (omega (arith, names_room))
 
     -- after the types
-    module _ {n : List ℕ} {b : Pen} (no_fault : a.fault ≤ 0) (y : Sectioned (item_in w 1) (limit_of 1) c.types m n a.at b) where
-      after_names_lem : {k : List ℕ} {q : Pen} → Penned m k a.at q (script (types ++ (values ++ from_rights))) → Penned l k 0 q (script (names ++ (types ++ (values ++ from_rights))))
+    module _ {n : List ℕ} {b : Pen} (no_fault : fault_in a ≤ 0) (y : Sectioned (item_in w 1) (limit_of 1) c.types m n (reach_of a) b) where
+      after_names_lem : {k : List ℕ} {q : Pen} → Penned m k (reach_of a) q (script (types ++ (values ++ from_rights))) → Penned l k 0 q (script (names ++ (types ++ (values ++ from_rights))))
       after_names_lem z = penned_then names _ (sound_each (item_in w 0) (sound_in w 0) 0 c.names) x.penned no_fault z
 
-      types_room : b.at ≤ 4452
+      types_room : (reach_of b) ≤ 4452
       unfolding limit_of
       types_room = omega (arith, names_room, y.room)
 
-      pub room_values : b.at + 14 * limit_of 2 ≤ most_scratch
+      pub room_values : (reach_of b) + 14 * limit_of 2 ≤ most_scratch
       unfolding limit_of
       room_values = omega (arith, types_room)
 
-      pub stop_types : 0 < b.fault → Encoded w c l n b
+      pub stop_types : 0 < fault_in b → Encoded w c l n b
       stop_types h = encoded (after_names_lem (penned_stop types _ y.penned h)) (omega (arith, types_room))
 
       -- after the host values
-      module _ {o : List ℕ} {d : Pen} (none_yet : b.fault ≤ 0) (z : Sectioned (item_in w 2) (limit_of 2) c.values n o b.at d) where
-        after_types_lem : {k : List ℕ} {q : Pen} → Penned n k b.at q (script (values ++ from_rights)) → Penned l k 0 q (script (names ++ (types ++ (values ++ from_rights))))
+      module _ {o : List ℕ} {d : Pen} (none_yet : fault_in b ≤ 0) (z : Sectioned (item_in w 2) (limit_of 2) c.values n o (reach_of b) d) where
+        after_types_lem : {k : List ℕ} {q : Pen} → Penned n k (reach_of b) q (script (values ++ from_rights)) → Penned l k 0 q (script (names ++ (types ++ (values ++ from_rights))))
         after_types_lem v = after_names_lem (penned_then types _ (sound_each (item_in w 1) (sound_in w 1) 0 c.types) y.penned none_yet v)
 
-        values_room : d.at ≤ 5348
+        values_room : (reach_of d) ≤ 5348
         unfolding limit_of
         values_room = omega (arith, types_room, z.room)
 
-        pub room_byte : d.at + 1 ≤ most_scratch
+        pub room_byte : (reach_of d) + 1 ≤ most_scratch
         room_byte = omega (arith, values_room)
 
-        pub stop_values : 0 < d.fault → Encoded w c l o d
+        pub stop_values : 0 < fault_in d → Encoded w c l o d
         stop_values h = encoded (after_types_lem (penned_stop values _ z.penned h)) (omega (arith, values_room))
 
         -- after the rights
-        module _ {p : List ℕ} {u : ℕ} (still : d.fault ≤ 0) (f : Pushed o p d.at u (bytes_of 1 0x21)) where
+        module _ {p : List ℕ} {u : ℕ} (still : fault_in d ≤ 0) (f : Pushed o p (reach_of d) u (bytes_of 1 0x21)) where
           pub room_rights : u + 8 ≤ most_scratch
           room_rights = omega (arith, values_room, f.reach, bytes_length 1 0x21)
 
@@ -123,19 +123,18 @@ module _ (w : JobTables) (c : Counts) (rights : c.rights < 256 ^ 8) where
 
             -- after the expressions
             module _ {k : List ℕ} {g : Pen} (e : Sectioned (item_in w 4) (limit_of 4) c.cmds q k v g) where
-              exprs_room : g.at ≤ 12525
+              exprs_room : (reach_of g) ≤ 12525
               unfolding limit_of
               exprs_room = omega (arith, rights_room, e.room)
 
-              pub stop_exprs : 0 < g.fault → Encoded w c l k g
+              pub stop_exprs : 0 < fault_in g → Encoded w c l k g
               stop_exprs h = encoded (after_rights_lem (penned_stop exprs _ e.penned h)) (omega (arith, exprs_room))
 
-              pub room_end : g.at + 1 ≤ most_scratch
+              pub room_end : (reach_of g) + 1 ≤ most_scratch
               room_end = omega (arith, exprs_room)
 
-              pub all_encoded : {j : List ℕ} {t : ℕ} {r : Pen} → g.fault ≤ 0 → Pushed k j g.at t (bytes_of 1 0xFF) → r ≡ pen_over t 0 → Encoded w c l j r
-              all_encoded {j} {t} {r} h y z =
-                  let reach : r.at ≡ t = ap (λ (b : Pen). b.at) z in
+              pub all_encoded : {j : List ℕ} {t : ℕ} → fault_in g ≤ 0 → Pushed k j (reach_of g) t (bytes_of 1 0xFF) → Encoded w c l j (Ok t)
+              all_encoded {j} {t} h y =
                   encoded
-                  (after_rights_lem (penned_then exprs _ (sound_each (item_in w 4) (sound_in w 4) 0 c.cmds) e.penned h (penned_row (o_end, []) [] (pushed_as end_bytes y) (penned_none z))))
-                  (omega (arith, exprs_room, y.reach, bytes_length 1 0xFF, reach))
+                  (after_rights_lem (penned_then exprs _ (sound_each (item_in w 4) (sound_in w 4) 0 c.cmds) e.penned h (penned_row (o_end, []) [] (pushed_as end_bytes y) penned_none)))
+                  (omega (arith, exprs_room, y.reach, bytes_length 1 0xFF))

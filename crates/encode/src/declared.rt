@@ -6,21 +6,19 @@ ghost use Rattle.encode.specs.Entries.{type_wide, type_tail};
 ghost use Rattle.encode.specs.Penned.{Penned, alone};
 
 use super::push::{push8, push16, push32, push64, two};
-use super::{Pen, SCRATCH, foreign, pen_at};
-use table::{byte_of, first_of, key_of, name_of, second_of};
+use super::{SCRATCH, foreign};
+use entry::Section;
+use table::{Refusal, byte_of, first_of, key_of, name_of, second_of};
 
 // The word of a name: its command above its upper name.
-pub fn name_bytes(d: u16, out: &mut [u8; SCRATCH], at: usize) -> Pen
+pub fn name_bytes(d: u16, out: &mut [u8; SCRATCH], at: usize) -> Result<usize, Refusal>
     requires { at + 14 ≤ most_scratch }
     ensures { Penned out.old out.new at result (alone (name_fields d)) }
 {
     let op = (d / 256) as u8;
-    let f = foreign(op, 0);
-    if 0 < f {
-        return pen_at(at, f);
-    }
+    foreign(op, Section::Names, at)?;
     let p = push8(out, at, op);
-    pen_at(push8(out, p, (d % 256) as u8), 0)
+    Ok(push8(out, p, (d % 256) as u8))
 }
 
 // Whether a part of a type is too wide: the second one for a type's number, the first one for a name.
@@ -54,37 +52,37 @@ fn type_operands(op: u8, d: u64, s: u64, out: &mut [u8; SCRATCH], at: usize) -> 
     }
 }
 
-pub fn type_bytes(d: u64, s: u64, out: &mut [u8; SCRATCH], at: usize) -> Pen
+pub fn type_bytes(d: u64, s: u64, out: &mut [u8; SCRATCH], at: usize) -> Result<usize, Refusal>
     requires { at + 14 ≤ most_scratch }
     ensures { Penned out.old out.new at result (alone (type_fields d s)) }
 {
     let op = byte_of(d);
-    let f = foreign(op, 1);
-    if 0 < f {
-        return pen_at(at, f);
-    }
+    foreign(op, Section::Types, at)?;
     if type_wide(op, d) {
-        return pen_at(at, 6);
+        return Err(Refusal {
+            number: 6,
+            place: at,
+        });
     }
     let p = push8(out, at, op);
-    pen_at(type_operands(op, d, s, out, p), 0)
+    Ok(type_operands(op, d, s, out, p))
 }
 
 // The word of a host value: its command, its type, its number.
-pub fn value_bytes(d: u64, out: &mut [u8; SCRATCH], at: usize) -> Pen
+pub fn value_bytes(d: u64, out: &mut [u8; SCRATCH], at: usize) -> Result<usize, Refusal>
     requires { at + 14 ≤ most_scratch }
     ensures { Penned out.old out.new at result (alone (value_fields d)) }
 {
     let op = byte_of(d);
-    let f = foreign(op, 2);
-    if 0 < f {
-        return pen_at(at, f);
-    }
+    foreign(op, Section::Values, at)?;
     let n = d / 16777216;
     if 4294967296 <= n {
-        return pen_at(at, 6);
+        return Err(Refusal {
+            number: 6,
+            place: at,
+        });
     }
     let p = push8(out, at, op);
     let q = push16(out, p, (d / 256 % 65536) as u16);
-    pen_at(push32(out, q, n as u32), 0)
+    Ok(push32(out, q, n as u32))
 }

@@ -6,8 +6,9 @@ ghost use Rattle.encode.specs.Entries.{head_wide, expr_tail};
 ghost use Rattle.encode.specs.Penned.{Penned, alone};
 
 use super::push::{four, push8, push16, push32, two};
-use super::{Pen, SCRATCH, foreign, pen_at};
-use table::byte_of;
+use super::{SCRATCH, foreign};
+use entry::Section;
+use table::{Refusal, byte_of};
 
 // Whether what the head has of the operands is too wide for them.
 fn head_wide(op: u8, x: u64) -> bool
@@ -85,19 +86,19 @@ pub fn expr_bytes(
     e: u16,
     out: &mut [u8; SCRATCH],
     at: usize,
-) -> Pen
+) -> Result<usize, Refusal>
     requires { at + 14 ≤ most_scratch }
     ensures { Penned out.old out.new at result (alone (expr_fields h a b c d e)) }
 {
     let op = byte_of(h);
-    let f = foreign(op, 4);
-    if 0 < f {
-        return pen_at(at, f);
-    }
+    foreign(op, Section::Expressions, at)?;
     let x = h / 256;
     if head_wide(op, x) {
-        return pen_at(at, 6);
+        return Err(Refusal {
+            number: 6,
+            place: at,
+        });
     }
     let p = push8(out, at, op);
-    pen_at(expr_operands(op, x, a, b, c, d, e, out, p), 0)
+    Ok(expr_operands(op, x, a, b, c, d, e, out, p))
 }

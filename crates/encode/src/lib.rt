@@ -5,63 +5,61 @@ mod declared;
 mod exprs;
 mod push;
 
-ghost use Rattle.std.specs.Prelude.{◌≡◌, ◌+◌, ◌*◌, ◌≤◌, ◌<◌};
+ghost use Rattle.std.specs.Prelude.{◌≡◌, ◌+◌, ◌*◌, ◌≤◌, ◌<◌, MatchResult};
 ghost use Rattle.table.specs.Lent.{job_shown};
+ghost use Rattle.entry.specs.Bytes.{section_no};
 ghost use Rattle.entry.specs.Shapes.{counts_of};
 ghost use Rattle.encode.specs.Laid.{most_scratch};
 ghost use Rattle.encode.specs.Entries.{foreign_by, limit_of, item_in, entry_item};
-ghost use Rattle.encode.specs.Penned.{Penned, alone, pen_over, Sectioned, Encoded};
+ghost use Rattle.encode.specs.Penned.{Penned, alone, Sectioned, Encoded};
 
 use declared::{name_bytes, type_bytes, value_bytes};
-use entry::{Shape, section, width};
+use entry::{Section, Shape, width};
 use exprs::expr_bytes;
 use push::{push8, push64};
-use table::{MOST_DECLARED, MOST_EXPRESSIONS, MOST_TYPES, MOST_VARIABLES, at16, at64};
+use table::{MOST_DECLARED, MOST_EXPRESSIONS, MOST_TYPES, MOST_VARIABLES, Refusal, get_or};
 
 // Room for the bytes of every entry that there can be: 896 commands of 14 bytes at most.
 pub const SCRATCH: usize = 12544;
 
-// How far the bytes of the entries reach, and the number of the fault that stopped them; 0 for none.
-#[derive(Clone, Copy)]
-pub struct Pen {
-    pub at: usize,
-    pub fault: u8,
-}
-
-fn pen_at(at: usize, n: u8) -> Pen
-    ensures { result ≡ pen_over at n }
+// What is wrong with a command byte in the table of section `sec`, at a place: 2 where it is no command, 3 where it is foreign to the table.
+#[tactic(auto, unfolding(crate::specs::Entries::foreign_by))]
+fn foreign(op: u8, sec: Section, at: usize) -> Result<(), Refusal>
+    ensures { MatchResult result (λ _. foreign_by op (section_no sec) ≡ 0)
+        (λ k. (k.place ≡ at) × (0 < k.number) × (k.number ≡ foreign_by op (section_no sec))) }
 {
-    Pen { at: at, fault: n }
-}
-
-// What is wrong with a command byte in the table of section `sec`: 2 where it is no command, 3 where it is foreign to the table, 0 for nothing.
-fn foreign(op: u8, sec: u8) -> u8
-    ensures { result ≡ foreign_by op sec }
-{
+    // 255 stays a number: `width_byte` of entry/specs/Bytes says it of a byte that is no command.
     if width(op) == 255 {
-        return 2;
+        Err(Refusal {
+            number: 2,
+            place: at,
+        })
+    } else if Section::of(op) == sec {
+        Ok(())
+    } else {
+        Err(Refusal {
+            number: 3,
+            place: at,
+        })
     }
-    if section(op) == sec {
-        return 0;
-    }
-    3
 }
 
 // The most entries of section `sec`.
-fn limit(sec: u8) -> usize
-    ensures { result ≡ limit_of sec }
+#[tactic(auto, unfolding(crate::specs::Entries::limit_of))]
+fn limit(sec: Section) -> usize
+    ensures { result ≡ limit_of (section_no sec) }
 {
     match sec {
-        0 => MOST_DECLARED,
-        1 => MOST_TYPES,
-        2 => MOST_VARIABLES,
-        _ => MOST_EXPRESSIONS,
+        Section::Names => MOST_DECLARED,
+        Section::Types => MOST_TYPES,
+        Section::Values => MOST_VARIABLES,
+        Section::Rights | Section::Expressions | Section::End => MOST_EXPRESSIONS,
     }
 }
 
 // Entry i of section `sec`.
 fn entry_bytes(
-    sec: u8,
+    sec: Section,
     i: usize,
     names: &[u16],
     types: &[u64],
@@ -71,30 +69,30 @@ fn entry_bytes(
     slots: &[u16],
     out: &mut [u8; SCRATCH],
     at: usize,
-) -> Pen
+) -> Result<usize, Refusal>
     requires at_bound { at + 14 ≤ most_scratch }
     requires i_bound { i < 512 }
-    ensures { Penned out.old out.new at result (alone (entry_item (job_shown names types sets values heads slots) sec i)) }
+    ensures { Penned out.old out.new at result (alone (entry_item (job_shown names types sets values heads slots) (section_no sec) i)) }
 {
     match sec {
-        0 => name_bytes(at16(names, 2 + i), out, at),
-        1 => type_bytes(at64(types, i), at64(sets, i), out, at),
-        2 => value_bytes(at64(values, i), out, at),
-        _ => {
+        Section::Names => name_bytes(get_or(names, 2 + i, 0), out, at),
+        Section::Types => type_bytes(get_or(types, i, 0), get_or(sets, i, 0), out, at),
+        Section::Values => value_bytes(get_or(values, i, 0), out, at),
+        Section::Rights | Section::Expressions | Section::End => {
             let k = i * 5;
-            let a = at16(slots, k);
-            let b = at16(slots, k + 1);
-            let c = at16(slots, k + 2);
-            let d = at16(slots, k + 3);
-            let e = at16(slots, k + 4);
-            expr_bytes(at64(heads, i), a, b, c, d, e, out, at)
+            let a = get_or(slots, k, 0);
+            let b = get_or(slots, k + 1, 0);
+            let c = get_or(slots, k + 2, 0);
+            let d = get_or(slots, k + 3, 0);
+            let e = get_or(slots, k + 4, 0);
+            expr_bytes(get_or(heads, i, 0), a, b, c, d, e, out, at)
         }
     }
 }
 
-// The first n entries of section `sec`, up to the first fault; one more than the limit is one.
+// The first n entries of section `sec`, up to the first fault, whose place is how far the bytes before it reach; one entry more than the limit is a fault.
 fn section_bytes(
-    sec: u8,
+    sec: Section,
     n: usize,
     names: &[u16],
     types: &[u64],
@@ -104,24 +102,21 @@ fn section_bytes(
     slots: &[u16],
     out: &mut [u8; SCRATCH],
     at: usize,
-) -> Pen
-    requires { at + 14 * limit_of sec ≤ most_scratch }
-    ensures { Sectioned (item_in (job_shown names types sets values heads slots) sec) (limit_of sec) n out.old out.new at result }
+) -> Result<usize, Refusal>
+    requires { at + 14 * limit_of (section_no sec) ≤ most_scratch }
+    ensures { Sectioned (item_in (job_shown names types sets values heads slots) (section_no sec)) (limit_of (section_no sec)) n out.old out.new at result }
 {
     let mut p = at;
-    let mut i: usize = 0;
-    while i < n {
+    for i in 0..n {
         if limit(sec) <= i {
-            return pen_at(p, 5);
+            return Err(Refusal {
+                number: 5,
+                place: p,
+            });
         }
-        let e = entry_bytes(sec, i, names, types, sets, values, heads, slots, out, p);
-        if 0 < e.fault {
-            return e;
-        }
-        p = e.at;
-        i = i + 1;
+        p = entry_bytes(sec, i, names, types, sets, values, heads, slots, out, p)?;
     }
-    pen_at(p, 0)
+    Ok(p)
 }
 
 // All entries in the order of the job, by its counts: names, types, host values, the rights, expressions, the end.
@@ -134,30 +129,58 @@ pub fn encode(
     slots: &[u16],
     g: Shape,
     out: &mut [u8; SCRATCH],
-) -> Pen
+) -> Result<usize, Refusal>
     ensures { Encoded (job_shown names types sets values heads slots) (counts_of g) out.old out.new result }
 {
-    let n = g.names;
-    let a = section_bytes(0, n, names, types, sets, values, heads, slots, out, 0);
-    if 0 < a.fault {
-        return a;
-    }
-    let t = g.types;
-    let b = section_bytes(1, t, names, types, sets, values, heads, slots, out, a.at);
-    if 0 < b.fault {
-        return b;
-    }
-    let v = g.values;
-    let c = section_bytes(2, v, names, types, sets, values, heads, slots, out, b.at);
-    if 0 < c.fault {
-        return c;
-    }
-    let p = push8(out, c.at, 0x21);
+    let a = section_bytes(
+        Section::Names,
+        g.names,
+        names,
+        types,
+        sets,
+        values,
+        heads,
+        slots,
+        out,
+        0,
+    )?;
+    let b = section_bytes(
+        Section::Types,
+        g.types,
+        names,
+        types,
+        sets,
+        values,
+        heads,
+        slots,
+        out,
+        a,
+    )?;
+    let c = section_bytes(
+        Section::Values,
+        g.values,
+        names,
+        types,
+        sets,
+        values,
+        heads,
+        slots,
+        out,
+        b,
+    )?;
+    let p = push8(out, c, 0x21);
     let q = push64(out, p, g.rights);
-    let e = g.cmds;
-    let d = section_bytes(4, e, names, types, sets, values, heads, slots, out, q);
-    if 0 < d.fault {
-        return d;
-    }
-    pen_at(push8(out, d.at, 0xFF), 0)
+    let d = section_bytes(
+        Section::Expressions,
+        g.cmds,
+        names,
+        types,
+        sets,
+        values,
+        heads,
+        slots,
+        out,
+        q,
+    )?;
+    Ok(push8(out, d, 0xFF))
 }

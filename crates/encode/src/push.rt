@@ -5,37 +5,41 @@ ghost use Rattle.encode.specs.Laid.{most_scratch, Pushed};
 
 use super::SCRATCH;
 
+// The bytes of an array, at a place.
+fn push<const N: usize>(out: &mut [u8; SCRATCH], at: usize, bytes: [u8; N]) -> usize
+    requires { at + N ≤ most_scratch }
+    ensures { Pushed out.old out.new at result bytes.entry }
+{
+    out[at..at + N].copy_from_slice(&bytes);
+    at + N
+}
+
 pub fn push8(out: &mut [u8; SCRATCH], at: usize, x: u8) -> usize
     requires { at + 1 ≤ most_scratch }
     ensures { Pushed out.old out.new at result (bytes_of 1 x) }
 {
-    out[at] = x;
-    at + 1
+    push(out, at, [x])
 }
 
 pub fn push16(out: &mut [u8; SCRATCH], at: usize, x: u16) -> usize
     requires { at + 2 ≤ most_scratch }
     ensures { Pushed out.old out.new at result (bytes_of 2 x) }
 {
-    out[at] = (x % 256) as u8;
-    out[at + 1] = (x / 256) as u8;
-    at + 2
+    push(out, at, x.to_le_bytes())
 }
 
 pub fn push32(out: &mut [u8; SCRATCH], at: usize, x: u32) -> usize
     requires { at + 4 ≤ most_scratch }
     ensures { Pushed out.old out.new at result (bytes_of 4 x) }
 {
-    let p = push16(out, at, (x % 65536) as u16);
-    push16(out, p, (x / 65536) as u16)
+    push(out, at, x.to_le_bytes())
 }
 
 pub fn push64(out: &mut [u8; SCRATCH], at: usize, x: u64) -> usize
     requires { at + 8 ≤ most_scratch }
     ensures { Pushed out.old out.new at result (bytes_of 8 x) }
 {
-    let p = push32(out, at, (x % 4294967296) as u32);
-    push32(out, p, (x / 4294967296) as u32)
+    push(out, at, x.to_le_bytes())
 }
 
 // Two operands, and four.

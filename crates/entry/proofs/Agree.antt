@@ -2,12 +2,13 @@
 use mathlib.Core.Path.{◌≡◌, refl, sym, ap, ap₂, ◌∙◌, subst}
 use Prim.Native.Nat.{ℕ, ◌+◌, ◌≤◌, ◌<◌}
 use native.Mathlib.Omega.{arith}
-use mathlib.Core.Bool.{Bool, true, false, cond, not, true≢false}
+use mathlib.Core.Bool.{Bool, true, false, cond, not}
 use mathlib.Core.List.{List, ◌∷◌}
 use mathlib.Core.Option.{Option, some}
 use lib.ListN.{length, length-append, length-replicate, length-take, get_or, get_elem?, take, drop}
 use lib.Dec.{eqb, ltb, leb}
 use borrow.Author.Tests.{ne_eqb, ltb-false}
+use Rattle.std.specs.Prelude.{Ok, Err}
 use Rattle.order.specs.Bools.{◌and◌, ◌or◌}
 use Rattle.order.specs.OrderLaws.{Proper}
 use Rattle.order.specs.Effects.{Effect, of_word}
@@ -24,10 +25,9 @@ use Rattle.names.specs.Ancestors.{names_in, declared_of, ancestors_by, set_ok_by
 use Rattle.names.proofs.Laws.{set_ok_by_lem, rights_ok_by_lem}
 use Rattle.names.proofs.Pass.{ancestors_by_lem}
 use Rattle.entry.specs.Bytes.{field_at, section_byte, misplaced_by, full_by}
-use Rattle.entry.specs.Entries.{named_of, name_entry, value_entry, rights_entry, form_entry, entry_of, in_room, judged_by, entry_in, judged_in, stops_of, sort_of}
+use Rattle.entry.specs.Entries.{Judged, named_of, name_entry, value_entry, rights_entry, form_entry, entry_of, in_room, judged_by, entry_in, judged_in}
 use Rattle.entry.specs.Shapes.{shape_of}
-use Rattle.entry.specs.declared.Entry.{Entry}
-use Rattle.entry.specs.declared.Entry.TheVariants.{Refuse, Named, Rights, Last}
+use Rattle.entry.specs.declared.Entry.TheVariants.{Named, Rights, Last}
 use Rattle.entry.specs.OpBytes.{byte_of}
 use Rattle.entry.proofs.OpBytes.{op_byte, width_narrow, width_is}
 use Rattle.entry.proofs.Ops.{misplaced_is, full_is, fields_from, fields_from_lem}
@@ -38,13 +38,13 @@ use Rattle.entry.proofs.ValueLaws as valued
 
 -- Names
 
-host_tests : (x y z : Bool) (n r : Entry) → cond x r (cond y (cond z n r) r) ≡ cond (not x and y and (not true or z)) n r
+host_tests : (x y z : Bool) (n r : Judged) → cond x r (cond y (cond z n r) r) ≡ cond (not x and y and (not true or z)) n r
 unfolding ◌and◌ ◌or◌
 host_tests true y z n r = refl
 host_tests false true z n r = refl
 host_tests false false z n r = refl
 
-local_tests : (x y z : Bool) (n r : Entry) → cond x r (cond y n r) ≡ cond (not x and y and (not false or z)) n r
+local_tests : (x y z : Bool) (n r : Judged) → cond x r (cond y n r) ≡ cond (not x and y and (not false or z)) n r
 unfolding ◌and◌ ◌or◌
 local_tests true y z n r = refl
 local_tests false true z n r = refl
@@ -68,17 +68,17 @@ module _ (J : Job) (names types depths : List ℕ) (k : Kept J names types depth
   unfolding name_entry byte_of written operands fields_from judged_w ok_w entry_w name_ok declared declared_of name_word
   law_o_host =
       ap (λ (l : List Name). named_of 1 (field_at 1 s 1) (declared_of (length J.names) (field_at 1 s 1)) (host_name l (field_at 1 s 1))) k.back
-      ∙ host_tests (eqb (field_at 1 s 1) 0) (ltb (field_at 1 s 1) (2 + length J.names)) (host_name J.names (field_at 1 s 1)) (Named (field_at 1 s 1 + 256)) (Refuse 6)
+      ∙ host_tests (eqb (field_at 1 s 1) 0) (ltb (field_at 1 s 1) (2 + length J.names)) (host_name J.names (field_at 1 s 1)) (Ok (Named (field_at 1 s 1 + 256))) (Err 6)
 
   law_o_local : name_entry (byte_of o_local) s names (length J.names) ≡ judged_w (written o_local (fields_from (operands o_local) s 1)) J
   unfolding name_entry byte_of written operands fields_from judged_w ok_w entry_w name_ok declared declared_of name_word
   law_o_local =
-      local_tests (eqb (field_at 1 s 1) 0) (ltb (field_at 1 s 1) (2 + length J.names)) (host_name J.names (field_at 1 s 1)) (Named (field_at 1 s 1 + 512)) (Refuse 6)
+      local_tests (eqb (field_at 1 s 1) 0) (ltb (field_at 1 s 1) (2 + length J.names)) (host_name J.names (field_at 1 s 1)) (Ok (Named (field_at 1 s 1 + 512))) (Err 6)
 
   law_o_rights : rights_entry s (ancestors_by J.names) J.names ≡ judged_w (written o_rights (fields_from (operands o_rights) s 1)) J
   unfolding rights_entry written operands fields_from judged_w ok_w entry_w
   law_o_rights =
-      ap (λ (b : Bool). cond b (Rights (field_at 8 s 1)) (Refuse 6)) (rights_ok_by_lem J.names k.proper k.few (ancestors_by_lem J.names k.proper k.few) (field_at 8 s 1))
+      ap (λ (b : Bool). cond b (Ok (Rights (field_at 8 s 1))) (Err 6)) (rights_ok_by_lem J.names k.proper k.few (ancestors_by_lem J.names k.proper k.few) (field_at 8 s 1))
 
   entry_law : (o : Op) → entry_in (byte_of o) s names types depths (shape_of J) ≡ judged_w (written o (fields_from (operands o) s 1)) J
   unfolding entry_of section_byte byte_of shape_of written judged_w ok_w entry_w
@@ -180,39 +180,32 @@ pub data Adds : Written → Type 0 where
   adds_cmd : (c : Cmd ℕ) → length (slots c) ≡ 5 → Adds (w_cmd c)
 
 -- what a command of width w comes to, and the reader's entry for it; n bytes follow the command byte
-pub data Agrees (J : Job) (sec w n : ℕ) : Step → Entry → Type 0 where
-  ag_refuse : (m : ℕ) → Agrees J sec w n (refuse m) (Refuse m)
-  ag_last : Agrees J sec w n (finish J) Last
-  ag_on : (x : Written) → Adds x → sort_of (entry_w x J) ≡ sec → ok_w x J ≡ true → w ≤ n → Agrees J sec w n (proceed (record { section = sec; job = extended x J })) (entry_w x J)
+pub data Agrees (J : Job) (sec w n : ℕ) : Step → Judged → Type 0 where
+  ag_refuse : (m : ℕ) → Agrees J sec w n (refuse m) (Err m)
+  ag_last : Agrees J sec w n (finish J) (Ok Last)
+  ag_on : (x : Written) → Adds x → ok_w x J ≡ true → w ≤ n → Agrees J sec w n (proceed (record { section = sec; job = extended x J })) (Ok (entry_w x J))
 
-agree_on : (J : Job) (sec w n : ℕ) → sec < 5 → (x : Written) → Adds x → sort_of (entry_w x J) ≡ sec → w ≤ n → (b : Bool) → ok_w x J ≡ b → Agrees J sec w n (settle sec (given b (extended x J))) (cond b (entry_w x J) (Refuse 6))
+agree_on : (J : Job) (sec w n : ℕ) → sec < 5 → (x : Written) → Adds x → w ≤ n → (b : Bool) → ok_w x J ≡ b → Agrees J sec w n (settle sec (given b (extended x J))) (cond b (Ok (entry_w x J)) (Err 6))
 unfolding settle given
-agree_on J sec w n h x a q l false e = ag_refuse 6
-agree_on J sec w n h x a q l true e = subst (λ (c : Bool). Agrees J sec w n (cond c (finish (extended x J)) (proceed (record { section = sec; job = extended x J }))) (entry_w x J)) (sym (ne_eqb sec 5 (λ z. omega arith))) (ag_on x a q e l)
+agree_on J sec w n h x a l false e = ag_refuse 6
+agree_on J sec w n h x a l true e = subst (λ (c : Bool). Agrees J sec w n (cond c (finish (extended x J)) (proceed (record { section = sec; job = extended x J }))) (Ok (entry_w x J))) (sym (ne_eqb sec 5 (λ z. omega arith))) (ag_on x a e l)
 
 agree_entered : (J : Job) (sec w n : ℕ) (x : Written) → Wrote sec x → places x ≡ 5 → w ≤ n → Agrees J sec w n (settle sec (given (ok_w x J) (extended x J))) (judged_w x J)
-unfolding judged_w ok_w extended entry_w settle given places sort_of
-agree_entered J sec w n x (wrote_name d) f l = agree_on J 0 w n (omega arith) (w_name d) (adds_name d) refl l (name_ok J.names d) refl
-agree_entered J sec w n x (wrote_type e) f l = agree_on J 1 w n (omega arith) (w_type e) (adds_type e) refl l (type_ok J.names J.types e) refl
-agree_entered J sec w n x (wrote_value h) f l = agree_on J 2 w n (omega arith) (w_value h) (adds_value h) refl l (host_value_ok J.names J.types h) refl
-agree_entered J sec w n x (wrote_rights s) f l = agree_on J 3 w n (omega arith) (w_rights s) (adds_rights s) refl l (rights_ok J.names s) refl
-agree_entered J sec w n x (wrote_cmd k) f l = agree_on J 4 w n (omega arith) (w_cmd k) (adds_cmd k f) refl l (cmd_ok J k) refl
+unfolding judged_w ok_w extended entry_w settle given places
+agree_entered J sec w n x (wrote_name d) f l = agree_on J 0 w n (omega arith) (w_name d) (adds_name d) l (name_ok J.names d) refl
+agree_entered J sec w n x (wrote_type e) f l = agree_on J 1 w n (omega arith) (w_type e) (adds_type e) l (type_ok J.names J.types e) refl
+agree_entered J sec w n x (wrote_value h) f l = agree_on J 2 w n (omega arith) (w_value h) (adds_value h) l (host_value_ok J.names J.types h) refl
+agree_entered J sec w n x (wrote_rights s) f l = agree_on J 3 w n (omega arith) (w_rights s) (adds_rights s) l (rights_ok J.names s) refl
+agree_entered J sec w n x (wrote_cmd k) f l = agree_on J 4 w n (omega arith) (w_cmd k) (adds_cmd k f) l (cmd_ok J k) refl
 agree_entered J sec w n x wrote_end f l = ag_last
 agree_entered J sec w n x (wrote_none m) f l = ag_refuse 6
-
--- where reading goes on, the entry's sort is the section
-pub sort_on : {J : Job} {sec w n : ℕ} {x : Step} {e : Entry} → Agrees J sec w n x e → stops_of e ≡ false → sort_of e ≡ sec
-unfolding stops_of
-sort_on (ag_refuse m) es = absurd (true≢false es)
-sort_on ag_last es = absurd (true≢false es)
-sort_on (ag_on x a q okay l) es = q
 
 -- one command
 pub agrees : (J : Job) (names types depths : List ℕ) → Kept J names types depths → (cur b : ℕ) (o : Op) (s : List ℕ) → op_of b ≡ some o
     → Agrees J (section_of o) (width o) (length s) (command o s (record { section = cur; job = J })) (judged_in b (b ∷ s) cur (shape_of J) names types depths)
 unfolding judged_by shape_of width command
 agrees J names types depths k cur b o s e =
-    subst (λ (x : Entry). Agrees J (section_of o) (width o) (length s) (command o s st) x) (sym reader)
+    subst (λ (x : Judged). Agrees J (section_of o) (width o) (length s) (command o s st) x) (sym reader)
     (at (misplaced st (section_of o)) (ltb (length s) (width o)) refl (full J (section_of o)))
   where
     st : State
@@ -222,22 +215,22 @@ agrees J names types depths k cur b o s e =
     x = written o (fields_from (operands o) (b ∷ s) 1)
 
     reader : judged_in b (b ∷ s) cur (shape_of J) names types depths
-        ≡ cond (misplaced st (section_of o)) (Refuse 3) (in_room (ltb (length s) (width o)) (full J (section_of o)) (judged_w x J))
+        ≡ cond (misplaced st (section_of o)) (Err 3) (in_room (ltb (length s) (width o)) (full J (section_of o)) (judged_w x J))
     reader =
-        ap (λ (w : ℕ). cond (eqb w 255) (Refuse 2)
-        (cond (misplaced_by cur (section_byte b) (length J.cmds)) (Refuse 3)
+        ap (λ (w : ℕ). cond (eqb w 255) (Err 2)
+        (cond (misplaced_by cur (section_byte b) (length J.cmds)) (Err 3)
         (in_room (leb (length (b ∷ s)) w) (full_by (section_byte b) (length J.names) (length J.types) (length J.values) (length J.cmds)) (entry_in b (b ∷ s) names types depths (shape_of J))))) (width_is b o e)
-        ∙ ap (λ (c : Bool). cond c (Refuse 2)
-        (cond (misplaced_by cur (section_byte b) (length J.cmds)) (Refuse 3)
+        ∙ ap (λ (c : Bool). cond c (Err 2)
+        (cond (misplaced_by cur (section_byte b) (length J.cmds)) (Err 3)
         (in_room (ltb (length s) (width o)) (full_by (section_byte b) (length J.names) (length J.types) (length J.values) (length J.cmds)) (entry_in b (b ∷ s) names types depths (shape_of J))))) (ne_eqb (width o) 255 (λ z. omega (arith, width_narrow o)))
-        ∙ ap (λ (c : ℕ). (cond (misplaced_by cur (section_byte c) (length J.cmds)) (Refuse 3)
+        ∙ ap (λ (c : ℕ). (cond (misplaced_by cur (section_byte c) (length J.cmds)) (Err 3)
         (in_room (ltb (length s) (width o)) (full_by (section_byte c) (length J.names) (length J.types) (length J.values) (length J.cmds)) (entry_in c (b ∷ s) names types depths (shape_of J))))) (op_byte b o e)
-        ∙ ap₂ (λ (c d : Bool). cond c (Refuse 3) (in_room (ltb (length s) (width o)) d (entry_in (byte_of o) (b ∷ s) names types depths (shape_of J)))) (sym (misplaced_is st o)) (sym (full_is J o))
-        ∙ ap (λ (y : Entry). cond (misplaced st (section_of o)) (Refuse 3) (in_room (ltb (length s) (width o)) (full J (section_of o)) y)) (entry_law J names types depths k (b ∷ s) o)
+        ∙ ap₂ (λ (c d : Bool). cond c (Err 3) (in_room (ltb (length s) (width o)) d (entry_in (byte_of o) (b ∷ s) names types depths (shape_of J)))) (sym (misplaced_is st o)) (sym (full_is J o))
+        ∙ ap (λ (y : Judged). cond (misplaced st (section_of o)) (Err 3) (in_room (ltb (length s) (width o)) (full J (section_of o)) y)) (entry_law J names types depths k (b ∷ s) o)
 
     at : (p q : Bool) → ltb (length s) (width o) ≡ q → (r : Bool)
         → Agrees J (section_of o) (width o) (length s) (cond p (refuse 3) (cond q (refuse 4) (cond r (refuse 5) (settle (section_of o) (enter (written o (fields (operands o) s)) J)))))
-        (cond p (Refuse 3) (in_room q r (judged_w x J)))
+        (cond p (Err 3) (in_room q r (judged_w x J)))
     at true q z r = ag_refuse 3
     at false true z r = ag_refuse 4
     at false false z true = ag_refuse 5

@@ -4,14 +4,16 @@ use Prim.Native.Nat.{ℕ}
 use mathlib.Core.Bool.{Bool, true, false, cond}
 use mathlib.Core.List.{[], ◌∷◌, ◌++◌}
 use lib.ListN.{length, get_or}
+use Rattle.std.specs.Prelude.{Ok, Err}
 use Rattle.syntax.specs.Types.{TypeEntry, tree, depth}
 use Rattle.syntax.specs.Commands.{Cmd}
 use Rattle.syntax.specs.Job.{Job}
 use Rattle.syntax.specs.Words.{name_word, type_word, set_word, value_word, head_word, slots}
 use Rattle.syntax.specs.Reading.{Written, w_name, w_type, w_value, w_rights, w_cmd, w_end, unwritten, given, enter, name_ok, type_ok, host_value_ok, rights_ok, cmd_ok}
+use Rattle.entry.specs.Entries.{Judged}
 use Rattle.entry.specs.declared.Form.{Form}
 use Rattle.entry.specs.declared.Entry.{Entry}
-use Rattle.entry.specs.declared.Entry.TheVariants.{Refuse, Named, Typed, Valued, Rights, Formed, Last}
+use Rattle.entry.specs.declared.Entry.TheVariants.{Named, Typed, Valued, Rights, Formed, Last}
 
 unfoldable pub ok_w : Written → Job → Bool
 ok_w (w_name d) J = name_ok J.names d
@@ -63,8 +65,8 @@ entry_w (w_value h) J = Valued (value_word h)
 entry_w (w_rights s) J = Rights s.set
 entry_w (w_cmd k) J = Formed (words_of k)
 entry_w w_end J = Last
-entry_w unwritten J = Refuse 6
+entry_w unwritten J = Last
 
 -- what the command comes to where 2 to 5 are not given
-unfoldable pub judged_w : Written → Job → Entry
-judged_w w J = cond (ok_w w J) (entry_w w J) (Refuse 6)
+unfoldable pub judged_w : Written → Job → Judged
+judged_w w J = cond (ok_w w J) (Ok (entry_w w J)) (Err 6)

@@ -1,12 +1,13 @@
 -- Expressions: the words that the reader makes of the operands are those of the expression, and its test is reading's.
 use mathlib.Core.Path.{◌≡◌, refl, sym, ap, ◌∙◌}
-use Prim.Native.Nat.{ℕ, zero, suc, ◌+◌, ◌*◌, ◌≤◌, ◌<◌}
+use Prim.Native.Nat.{ℕ, zero, suc, ◌+◌, ◌*◌}
 use native.Mathlib.Omega.{arith}
 use mathlib.Core.Bool.{Bool, true, false, cond}
 use mathlib.Core.List.{List, [], ◌∷◌}
 use lib.ListN.{length, take, drop}
 use lib.Dec.{eqb, ltb, leb}
 use borrow.Author.Tests.{eqb-true, le-leb, lt-leb}
+use Rattle.std.specs.Prelude.{Ok, Err}
 use Rattle.order.specs.Bools.{◌and◌}
 use Rattle.order.specs.Sets.{all_of}
 use Rattle.syntax.specs.Commands.{Cmd, c_part, c_sum, c_lim}
@@ -19,42 +20,41 @@ use Rattle.syntax.specs.Reading.{Written, w_cmd, unwritten, written, local_name,
 use Rattle.syntax.specs.WrittenLaws.{part_of, sum_of, limit_of}
 use Rattle.syntax.proofs.WrittenLaws.{written_part, written_sum, written_limit}
 use Rattle.entry.specs.Bytes.{field_at, digit_of, offsets_of, kinds_of, slot_in, lead_of, form_of, slot_ok, slots_ok, key_ok, limit_ok}
-use Rattle.entry.specs.Entries.{either_of, binds_ok, new_key_ok, lead_ok, places_ok, form_entry}
-use Rattle.entry.specs.declared.Entry.{Entry}
-use Rattle.entry.specs.declared.Entry.TheVariants.{Refuse, Formed}
+use Rattle.entry.specs.Entries.{Judged, either_of, binds_ok, new_key_ok, lead_ok, places_ok, form_entry}
+use Rattle.entry.specs.declared.Entry.TheVariants.{Formed}
 use Rattle.entry.specs.OpBytes.{byte_of}
 use Rattle.entry.proofs.Ops.{fields_from}
 use Rattle.entry.proofs.Entered.{ok_w, words_of, entry_w, judged_w}
 use Rattle.entry.specs.Shapes.{shape_of}
 
 -- Tests joined, in the order of the reader and in that of reading
-no_operand : (f r : Entry) → cond true (cond true f r) r ≡ cond (((((true and true) and true) and true) and true)) f r
+no_operand : (f r : Judged) → cond true (cond true f r) r ≡ cond (((((true and true) and true) and true) and true)) f r
 unfolding ◌and◌
 no_operand f r = refl
 
-one_variable : (u : Bool) (f r : Entry) → cond true (cond u f r) r ≡ cond (((((true and true) and (cond u true false)) and true) and true)) f r
+one_variable : (u : Bool) (f r : Judged) → cond true (cond u f r) r ≡ cond (((((true and true) and (cond u true false)) and true) and true)) f r
 unfolding ◌and◌
 one_variable false f r = refl
 one_variable true f r = refl
 
-one_child : (k0 : Bool) (f r : Entry) → cond (cond k0 true false) (cond true f r) r ≡ cond ((((((cond k0 true false) and true) and true) and true) and true)) f r
+one_child : (k0 : Bool) (f r : Judged) → cond (cond k0 true false) (cond true f r) r ≡ cond ((((((cond k0 true false) and true) and true) and true) and true)) f r
 unfolding ◌and◌
 one_child false f r = refl
 one_child true f r = refl
 
-two_children : (k0 k1 : Bool) (f r : Entry) → cond (cond k0 (cond k1 true false) false) (cond true f r) r ≡ cond ((((((cond k0 (cond k1 true false) false) and true) and true) and true) and true)) f r
+two_children : (k0 k1 : Bool) (f r : Judged) → cond (cond k0 (cond k1 true false) false) (cond true f r) r ≡ cond ((((((cond k0 (cond k1 true false) false) and true) and true) and true) and true)) f r
 unfolding ◌and◌
 two_children false k1 f r = refl
 two_children true false f r = refl
 two_children true true f r = refl
 
-child_type : (k0 t0 : Bool) (f r : Entry) → cond (cond k0 (cond t0 true false) false) (cond true f r) r ≡ cond ((((((cond k0 true false) and (cond t0 true false)) and true) and true) and true)) f r
+child_type : (k0 t0 : Bool) (f r : Judged) → cond (cond k0 (cond t0 true false) false) (cond true f r) r ≡ cond ((((((cond k0 true false) and (cond t0 true false)) and true) and true) and true)) f r
 unfolding ◌and◌
 child_type false t0 f r = refl
 child_type true false f r = refl
 child_type true true f r = refl
 
-three_type : (k0 k1 k2 t0 : Bool) (f r : Entry) → cond (cond k0 (cond k1 (cond k2 (cond t0 true false) false) false) false) (cond true f r) r ≡ cond ((((((cond k0 (cond k1 (cond k2 true false) false) false) and (cond t0 true false)) and true) and true) and true)) f r
+three_type : (k0 k1 k2 t0 : Bool) (f r : Judged) → cond (cond k0 (cond k1 (cond k2 (cond t0 true false) false) false) false) (cond true f r) r ≡ cond ((((((cond k0 (cond k1 (cond k2 true false) false) false) and (cond t0 true false)) and true) and true) and true)) f r
 unfolding ◌and◌
 three_type false k1 k2 t0 f r = refl
 three_type true false k2 t0 f r = refl
@@ -62,7 +62,7 @@ three_type true true false t0 f r = refl
 three_type true true true false f r = refl
 three_type true true true true f r = refl
 
-binder : (k0 t0 u v : Bool) (f r : Entry) → cond (cond k0 (cond t0 true false) false) (cond (cond u v false) f r) r ≡ cond ((((((cond k0 true false) and (cond t0 true false)) and true) and (cond (u and v) true false)) and true)) f r
+binder : (k0 t0 u v : Bool) (f r : Judged) → cond (cond k0 (cond t0 true false) false) (cond (cond u v false) f r) r ≡ cond ((((((cond k0 true false) and (cond t0 true false)) and true) and (cond (u and v) true false)) and true)) f r
 unfolding ◌and◌
 binder false t0 u v f r = refl
 binder true false u v f r = refl
@@ -70,7 +70,7 @@ binder true true false v f r = refl
 binder true true true false f r = refl
 binder true true true true f r = refl
 
-key_binder : (k0 k1 t0 u v w : Bool) (f r : Entry) → cond (cond k0 (cond k1 (cond t0 true false) false) false) (cond (cond (cond u v false) w false) f r) r ≡ cond ((((((cond k0 (cond k1 true false) false) and (cond t0 true false)) and true) and (cond (u and v) true false)) and (cond w true false))) f r
+key_binder : (k0 k1 t0 u v w : Bool) (f r : Judged) → cond (cond k0 (cond k1 (cond t0 true false) false) false) (cond (cond (cond u v false) w false) f r) r ≡ cond ((((((cond k0 (cond k1 true false) false) and (cond t0 true false)) and true) and (cond (u and v) true false)) and (cond w true false))) f r
 unfolding ◌and◌
 key_binder false k1 t0 u v w f r = refl
 key_binder true false t0 u v w f r = refl
@@ -80,7 +80,7 @@ key_binder true true true true false w f r = refl
 key_binder true true true true true false f r = refl
 key_binder true true true true true true f r = refl
 
-limit_0 : (z0 z1 z2 z3 b : Bool) (f g r : Entry) → (z0 ≡ true → z1 ≡ true → z2 ≡ true → z3 ≡ true → f ≡ g) → cond (cond z0 (cond z1 (cond z2 (cond z3 b false) false) false) false) (cond true f r) r ≡ cond (true and (cond z0 (cond z1 (cond z2 (cond z3 true false) false) false) false)) (cond ((((((cond b true false) and true) and true) and true) and true)) g r) r
+limit_0 : (z0 z1 z2 z3 b : Bool) (f g r : Judged) → (z0 ≡ true → z1 ≡ true → z2 ≡ true → z3 ≡ true → f ≡ g) → cond (cond z0 (cond z1 (cond z2 (cond z3 b false) false) false) false) (cond true f r) r ≡ cond (true and (cond z0 (cond z1 (cond z2 (cond z3 true false) false) false) false)) (cond ((((((cond b true false) and true) and true) and true) and true)) g r) r
 unfolding ◌and◌
 limit_0 false z1 z2 z3 b f g r h = refl
 limit_0 true false z2 z3 b f g r h = refl
@@ -89,7 +89,7 @@ limit_0 true true true false b f g r h = refl
 limit_0 true true true true false f g r h = refl
 limit_0 true true true true true f g r h = h refl refl refl refl
 
-limit_1 : (k0 z1 z2 z3 b : Bool) (f g r : Entry) → (z1 ≡ true → z2 ≡ true → z3 ≡ true → f ≡ g) → cond (cond k0 (cond z1 (cond z2 (cond z3 b false) false) false) false) (cond true f r) r ≡ cond (true and (cond z1 (cond z2 (cond z3 true false) false) false)) (cond ((((((cond k0 (cond b true false) false) and true) and true) and true) and true)) g r) r
+limit_1 : (k0 z1 z2 z3 b : Bool) (f g r : Judged) → (z1 ≡ true → z2 ≡ true → z3 ≡ true → f ≡ g) → cond (cond k0 (cond z1 (cond z2 (cond z3 b false) false) false) false) (cond true f r) r ≡ cond (true and (cond z1 (cond z2 (cond z3 true false) false) false)) (cond ((((((cond k0 (cond b true false) false) and true) and true) and true) and true)) g r) r
 unfolding ◌and◌
 limit_1 false false z2 z3 b f g r h = refl
 limit_1 false true false z3 b f g r h = refl
@@ -101,7 +101,7 @@ limit_1 true true true false b f g r h = refl
 limit_1 true true true true false f g r h = refl
 limit_1 true true true true true f g r h = h refl refl refl
 
-limit_2 : (k0 k1 z2 z3 b : Bool) (f g r : Entry) → (z2 ≡ true → z3 ≡ true → f ≡ g) → cond (cond k0 (cond k1 (cond z2 (cond z3 b false) false) false) false) (cond true f r) r ≡ cond (true and (cond z2 (cond z3 true false) false)) (cond ((((((cond k0 (cond k1 (cond b true false) false) false) and true) and true) and true) and true)) g r) r
+limit_2 : (k0 k1 z2 z3 b : Bool) (f g r : Judged) → (z2 ≡ true → z3 ≡ true → f ≡ g) → cond (cond k0 (cond k1 (cond z2 (cond z3 b false) false) false) false) (cond true f r) r ≡ cond (true and (cond z2 (cond z3 true false) false)) (cond ((((((cond k0 (cond k1 (cond b true false) false) false) and true) and true) and true) and true)) g r) r
 unfolding ◌and◌
 limit_2 false k1 false z3 b f g r h = refl
 limit_2 false k1 true false b f g r h = refl
@@ -114,7 +114,7 @@ limit_2 true true true false b f g r h = refl
 limit_2 true true true true false f g r h = refl
 limit_2 true true true true true f g r h = h refl refl
 
-limit_3 : (k0 k1 k2 z3 b : Bool) (f g r : Entry) → (z3 ≡ true → f ≡ g) → cond (cond k0 (cond k1 (cond k2 (cond z3 b false) false) false) false) (cond true f r) r ≡ cond (true and (cond z3 true false)) (cond ((((((cond k0 (cond k1 (cond k2 (cond b true false) false) false) false) and true) and true) and true) and true)) g r) r
+limit_3 : (k0 k1 k2 z3 b : Bool) (f g r : Judged) → (z3 ≡ true → f ≡ g) → cond (cond k0 (cond k1 (cond k2 (cond z3 b false) false) false) false) (cond true f r) r ≡ cond (true and (cond z3 true false)) (cond ((((((cond k0 (cond k1 (cond k2 (cond b true false) false) false) false) and true) and true) and true) and true)) g r) r
 unfolding ◌and◌
 limit_3 false k1 k2 false b f g r h = refl
 limit_3 false k1 k2 true b f g r h = refl
@@ -126,7 +126,7 @@ limit_3 true true true false b f g r h = refl
 limit_3 true true true true false f g r h = refl
 limit_3 true true true true true f g r h = h refl
 
-limit_4 : (k0 k1 k2 k3 b : Bool) (f g r : Entry) → (f ≡ g) → cond (cond k0 (cond k1 (cond k2 (cond k3 b false) false) false) false) (cond true f r) r ≡ cond (true and true) (cond ((((((cond k0 (cond k1 (cond k2 (cond k3 (cond b true false) false) false) false) false) and true) and true) and true) and true)) g r) r
+limit_4 : (k0 k1 k2 k3 b : Bool) (f g r : Judged) → (f ≡ g) → cond (cond k0 (cond k1 (cond k2 (cond k3 b false) false) false) false) (cond true f r) r ≡ cond (true and true) (cond ((((((cond k0 (cond k1 (cond k2 (cond k3 (cond b true false) false) false) false) false) and true) and true) and true) and true)) g r) r
 unfolding ◌and◌
 limit_4 false k1 k2 k3 b f g r h = refl
 limit_4 true false k2 k3 b f g r h = refl
@@ -136,19 +136,10 @@ limit_4 true true true true false f g r h = refl
 limit_4 true true true true true f g r h = h
 
 -- the condition on what is written, where that goes by a test
-ok_if : (b : Bool) (k : Cmd ℕ) (w : Written) (J : Job) → judged_w (cond b (w_cmd k) w) J ≡ cond b (cond (cmd_ok J k) (Formed (words_of k)) (Refuse 6)) (judged_w w J)
+ok_if : (b : Bool) (k : Cmd ℕ) (w : Written) (J : Job) → judged_w (cond b (w_cmd k) w) J ≡ cond b (cond (cmd_ok J k) (Ok (Formed (words_of k))) (Err 6)) (judged_w w J)
 unfolding judged_w ok_w entry_w
 ok_if true k w J = refl
 ok_if false k w J = refl
-
--- a bound variable is below 64 and none of the v host values
-pub binds_own : (v x : ℕ) → v ≤ x → ltb x 64 ≡ binds_ok v x
-unfolding binds_ok
-binds_own v x h = sym (ap (λ (b : Bool). cond b (ltb x 64) false) (le-leb v x h))
-
-pub binds_host : (v x : ℕ) → x < v → false ≡ binds_ok v x
-unfolding binds_ok
-binds_host v x h = sym (ap (λ (b : Bool). cond b (ltb x 64) false) (lt-leb v x h))
 
 module _ (s : List ℕ) (J : Job) where
   pub law_x_number : form_entry (byte_of x_number) s J.names (shape_of J) ≡ judged_w (written x_number (fields_from (operands x_number) s 1)) J
@@ -215,11 +206,11 @@ module _ (s : List ℕ) (J : Job) where
   unfolding digit_of offsets_of kinds_of form_entry places_ok slots_ok slot_ok form_of slot_in lead_of lead_ok byte_of written operands fields_from judged_w ok_w entry_w cmd_ok children plain inner types_of uses_var binds_var binds_name all_of words_of head_word slots filled shape_of binds_ok new_key_ok
   law_x_newkey = key_binder (ltb (field_at 2 s 3) (length J.cmds)) (ltb (field_at 2 s 5) (length J.cmds)) (ltb (field_at 2 s 7) (length J.types)) (leb (length J.values) (field_at 1 s 1)) (ltb (field_at 1 s 1) 64) (local_name J.names (field_at 1 s 2)) _ _
 
-  none_two : (k : Bool) (r : Entry) → cond (cond k true false) r r ≡ r
+  none_two : (k : Bool) (r : Judged) → cond (cond k true false) r r ≡ r
   none_two true r = refl
   none_two false r = refl
 
-  none_three : (k l : Bool) (r : Entry) → cond (cond k (cond l true false) false) r r ≡ r
+  none_three : (k l : Bool) (r : Judged) → cond (cond k (cond l true false) false) r r ≡ r
   none_three true true r = refl
   none_three true false r = refl
   none_three false l r = refl
@@ -237,14 +228,14 @@ module _ (s : List ℕ) (J : Job) where
       k : Bool
       k = ltb a (length J.cmds)
 
-      with : ℕ → Entry
-      with j = Formed (record { head = 0x34 + 256 * j; a = a; b = 0; c = 0; d = 0; e = 0 })
+      with : ℕ → Judged
+      with j = Ok (Formed (record { head = 0x34 + 256 * j; a = a; b = 0; c = 0; d = 0; e = 0 }))
 
       at : (e : Bool) → eqb i 1 ≡ e → (f : Bool) → eqb i 2 ≡ f
-          → cond (cond k true false) (cond (cond e true f) (with i) (Refuse 6)) (Refuse 6) ≡ judged_w (cond e (w_cmd (c_part a true)) (cond f (w_cmd (c_part a false)) unwritten)) J
-      at true p f q = ap (λ (j : ℕ). cond (cond k true false) (with j) (Refuse 6)) (eqb-true i 1 p) ∙ one_child k (with 1) (Refuse 6)
-      at false p true q = ap (λ (j : ℕ). cond (cond k true false) (with j) (Refuse 6)) (eqb-true i 2 q) ∙ one_child k (with 2) (Refuse 6)
-      at false p false q = none_two k (Refuse 6)
+          → cond (cond k true false) (cond (cond e true f) (with i) (Err 6)) (Err 6) ≡ judged_w (cond e (w_cmd (c_part a true)) (cond f (w_cmd (c_part a false)) unwritten)) J
+      at true p f q = ap (λ (j : ℕ). cond (cond k true false) (with j) (Err 6)) (eqb-true i 1 p) ∙ one_child k (with 1) (Err 6)
+      at false p true q = ap (λ (j : ℕ). cond (cond k true false) (with j) (Err 6)) (eqb-true i 2 q) ∙ one_child k (with 2) (Err 6)
+      at false p false q = none_two k (Err 6)
 
   pub law_x_sum : form_entry (byte_of x_sum) s J.names (shape_of J) ≡ judged_w (written x_sum (fields_from (operands x_sum) s 1)) J
   unfolding digit_of offsets_of kinds_of form_entry places_ok slots_ok slot_ok form_of slot_in lead_of lead_ok byte_of operands fields_from judged_w ok_w entry_w cmd_ok children plain inner types_of uses_var binds_var binds_name all_of words_of head_word slots filled shape_of sum_of either_of
@@ -265,17 +256,17 @@ module _ (s : List ℕ) (J : Job) where
       l : Bool
       l = ltb b (length J.cmds)
 
-      with : ℕ → Entry
-      with j = Formed (record { head = 0x3A + 256 * j; a = a; b = b; c = 0; d = 0; e = 0 })
+      with : ℕ → Judged
+      with j = Ok (Formed (record { head = 0x3A + 256 * j; a = a; b = b; c = 0; d = 0; e = 0 }))
 
       at : (e : Bool) → eqb i 0 ≡ e → (f : Bool) → eqb i 1 ≡ f
-          → cond (cond k (cond l true false) false) (cond (cond e true f) (with i) (Refuse 6)) (Refuse 6) ≡ judged_w (cond e (w_cmd (c_sum true a b)) (cond f (w_cmd (c_sum false a b)) unwritten)) J
-      at true p f q = ap (λ (j : ℕ). cond (cond k (cond l true false) false) (with j) (Refuse 6)) (eqb-true i 0 p) ∙ two_children k l (with 0) (Refuse 6)
-      at false p true q = ap (λ (j : ℕ). cond (cond k (cond l true false) false) (with j) (Refuse 6)) (eqb-true i 1 q) ∙ two_children k l (with 1) (Refuse 6)
-      at false p false q = none_three k l (Refuse 6)
+          → cond (cond k (cond l true false) false) (cond (cond e true f) (with i) (Err 6)) (Err 6) ≡ judged_w (cond e (w_cmd (c_sum true a b)) (cond f (w_cmd (c_sum false a b)) unwritten)) J
+      at true p f q = ap (λ (j : ℕ). cond (cond k (cond l true false) false) (with j) (Err 6)) (eqb-true i 0 p) ∙ two_children k l (with 0) (Err 6)
+      at false p true q = ap (λ (j : ℕ). cond (cond k (cond l true false) false) (with j) (Err 6)) (eqb-true i 1 q) ∙ two_children k l (with 1) (Err 6)
+      at false p false q = none_three k l (Err 6)
 
   form_same : (h e : ℕ) {a b c d : ℕ} {a' b' c' d' : ℕ} → a ≡ a' → b ≡ b' → c ≡ c' → d ≡ d'
-      → Formed (record { head = h; a = a; b = b; c = c; d = d; e = e }) ≡ Formed (record { head = h; a = a'; b = b'; c = c'; d = d'; e = e })
+      → ◌≡◌ {A = Judged} (Ok (Formed (record { head = h; a = a; b = b; c = c; d = d; e = e }))) (Ok (Formed (record { head = h; a = a'; b = b'; c = c'; d = d'; e = e })))
   form_same h e p q r t = rw (p, q, r, t)
 
   pub law_x_limit : form_entry (byte_of x_limit) s J.names (shape_of J) ≡ judged_w (written x_limit (fields_from (operands x_limit) s 1)) J
@@ -291,8 +282,8 @@ module _ (s : List ℕ) (J : Job) where
       z : ℕ → Bool
       z o = eqb (field_at 2 s o) 0xFFFF
 
-      f : ℕ → Entry
-      f c = Formed (record { head = 0x3C + 256 * c; a = k 2; b = k 4; c = k 6; d = k 8; e = k 10 })
+      f : ℕ → Judged
+      f c = Ok (Formed (record { head = 0x3C + 256 * c; a = k 2; b = k 4; c = k 6; d = k 8; e = k 10 }))
 
       keys : List ℕ
       keys = k 2 ∷ k 4 ∷ k 6 ∷ k 8 ∷ []
@@ -303,19 +294,19 @@ module _ (s : List ℕ) (J : Job) where
       body : ℕ → Bool
       body c = cond (key_ok 0 c (k 2) (length J.cmds)) (cond (key_ok 1 c (k 4) (length J.cmds)) (cond (key_ok 2 c (k 6) (length J.cmds)) (cond (key_ok 3 c (k 8) (length J.cmds)) (u 10) false) false) false) false
 
-      g : ℕ → Entry
-      g c = Formed (words_of (c_lim (take c keys) (k 10)))
+      g : ℕ → Judged
+      g c = Ok (Formed (words_of (c_lim (take c keys) (k 10))))
 
-      ok : (c : ℕ) → cond (true and all_of (λ e. eqb e 0xFFFF) (drop c keys)) (cond (cmd_ok J (c_lim (take c keys) (k 10))) (g c) (Refuse 6)) (Refuse 6)
+      ok : (c : ℕ) → cond (true and all_of (λ e. eqb e 0xFFFF) (drop c keys)) (cond (cmd_ok J (c_lim (take c keys) (k 10))) (g c) (Err 6)) (Err 6)
           ≡ judged_w (cond (true and all_of (λ e. eqb e 0xFFFF) (drop c keys)) (w_cmd (c_lim (take c keys) (k 10))) unwritten) J
       ok c = sym (ok_if (true and all_of (λ e. eqb e 0xFFFF) (drop c keys)) (c_lim (take c keys) (k 10)) unwritten J)
 
       at : (c : ℕ) (l : Bool) → leb c 4 ≡ l
-          → cond (cond l (body c) false) (f c) (Refuse 6) ≡ judged_w (cond (l and all_of (λ e. eqb e 0xFFFF) (drop c keys)) (w_cmd (c_lim (take c keys) (k 10))) unwritten) J
+          → cond (cond l (body c) false) (f c) (Err 6) ≡ judged_w (cond (l and all_of (λ e. eqb e 0xFFFF) (drop c keys)) (w_cmd (c_lim (take c keys) (k 10))) unwritten) J
       at c false h = refl
-      at zero true h = limit_0 (z 2) (z 4) (z 6) (z 8) (u 10) (f 0) (g 0) (Refuse 6) (λ p q r t. form_same (0x3C + 256 * 0) (k 10) (y 2 p) (y 4 q) (y 6 r) (y 8 t)) ∙ ok 0
-      at (suc zero) true h = limit_1 (u 2) (z 4) (z 6) (z 8) (u 10) (f 1) (g 1) (Refuse 6) (λ q r t. form_same (0x3C + 256 * 1) (k 10) refl (y 4 q) (y 6 r) (y 8 t)) ∙ ok 1
-      at (suc (suc zero)) true h = limit_2 (u 2) (u 4) (z 6) (z 8) (u 10) (f 2) (g 2) (Refuse 6) (λ r t. form_same (0x3C + 256 * 2) (k 10) refl refl (y 6 r) (y 8 t)) ∙ ok 2
-      at (suc (suc (suc zero))) true h = limit_3 (u 2) (u 4) (u 6) (z 8) (u 10) (f 3) (g 3) (Refuse 6) (λ t. form_same (0x3C + 256 * 3) (k 10) refl refl refl (y 8 t)) ∙ ok 3
-      at (suc (suc (suc (suc zero)))) true h = limit_4 (u 2) (u 4) (u 6) (u 8) (u 10) (f 4) (g 4) (Refuse 6) refl ∙ ok 4
+      at zero true h = limit_0 (z 2) (z 4) (z 6) (z 8) (u 10) (f 0) (g 0) (Err 6) (λ p q r t. form_same (0x3C + 256 * 0) (k 10) (y 2 p) (y 4 q) (y 6 r) (y 8 t)) ∙ ok 0
+      at (suc zero) true h = limit_1 (u 2) (z 4) (z 6) (z 8) (u 10) (f 1) (g 1) (Err 6) (λ q r t. form_same (0x3C + 256 * 1) (k 10) refl (y 4 q) (y 6 r) (y 8 t)) ∙ ok 1
+      at (suc (suc zero)) true h = limit_2 (u 2) (u 4) (z 6) (z 8) (u 10) (f 2) (g 2) (Err 6) (λ r t. form_same (0x3C + 256 * 2) (k 10) refl refl (y 6 r) (y 8 t)) ∙ ok 2
+      at (suc (suc (suc zero))) true h = limit_3 (u 2) (u 4) (u 6) (z 8) (u 10) (f 3) (g 3) (Err 6) (λ t. form_same (0x3C + 256 * 3) (k 10) refl refl refl (y 8 t)) ∙ ok 3
+      at (suc (suc (suc (suc zero)))) true h = limit_4 (u 2) (u 4) (u 6) (u 8) (u 10) (f 4) (g 4) (Err 6) refl ∙ ok 4
       at (suc (suc (suc (suc (suc c))))) true h = absurd (omega (arith, borrow.Author.Tests.leb-true (suc (suc (suc (suc (suc c))))) 4 h))

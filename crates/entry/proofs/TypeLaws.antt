@@ -8,7 +8,8 @@ use mathlib.Core.List.{List}
 use mathlib.Core.Option.{some}
 use lib.ListN.{length, get_or}
 use lib.Dec.{eqb, ltb, leb}
-use borrow.Author.Tests.{lt-ltb, le-ltb, ltb-true, ltb-false}
+use borrow.Author.Tests.{le-ltb, ltb-true}
+use Rattle.std.specs.Prelude.{Ok, Err}
 use Rattle.order.specs.Bools.{◌and◌}
 use Rattle.order.specs.Effects.{of_word}
 use Rattle.syntax.specs.Types.{TypeEntry, e_num, e_pair, e_cell, e_fn, e_lim, e_grant, entry_tree, tree, depth}
@@ -21,81 +22,67 @@ use Rattle.syntax.specs.ReadLaws.{TypesOk}
 use Rattle.syntax.proofs.ReadFormed.{parts_earlier, types_earlier}
 use Rattle.names.specs.Ancestors.{declared_of, set_ok_by}
 use Rattle.entry.specs.Bytes.{field_at}
-use Rattle.entry.specs.Entries.{part_depth, deeper_of, two_depths, typed_of, key_type_of, function_of, type_by, type_entry}
-use Rattle.entry.specs.declared.Entry.{Entry}
-use Rattle.entry.specs.declared.Entry.TheVariants.{Refuse, Typed}
+use Rattle.entry.specs.Entries.{Judged, part_depth, two_depths, typed_of, key_type_of, function_of, type_by, type_entry}
+use Rattle.entry.specs.declared.Entry.TheVariants.{Typed}
 use Rattle.entry.specs.OpBytes.{byte_of}
 use Rattle.entry.proofs.Ops.{fields_from}
 use Rattle.entry.proofs.Entered.{ok_w, new_depth, entry_w, judged_w}
 
 -- Depths
 
-pub typed_is : (w s d : ℕ) → typed_of w s d ≡ cond (leb (suc d) 16) (Typed w s (suc d)) (Refuse 6)
+typed_is : (w s d : ℕ) → typed_of w s d ≡ cond (leb (suc d) 16) (Ok (Typed w s (suc d))) (Err 6)
 unfolding typed_of
-typed_is w s d = ap (λ (k : ℕ). cond (ltb d 16) (Typed w s k) (Refuse 6)) (add-one d)
+typed_is w s d = ap (λ (k : ℕ). cond (ltb d 16) (Ok (Typed w s k)) (Err 6)) (add-one d)
 
-pub typed_low : (w s d : ℕ) → d < 16 → Typed w s (d + 1) ≡ typed_of w s d
+typed_deep : (w s d : ℕ) → 16 ≤ d → typed_of w s d ≡ Err 6
 unfolding typed_of
-typed_low w s d h = sym (ap (λ (b : Bool). cond b (Typed w s (d + 1)) (Refuse 6)) (lt-ltb d 16 h))
-
-pub typed_deep : (w s d : ℕ) → 16 ≤ d → typed_of w s d ≡ Refuse 6
-unfolding typed_of
-typed_deep w s d h = ap (λ (b : Bool). cond b (Typed w s (d + 1)) (Refuse 6)) (le-ltb d 16 h)
-
-deeper_max : (x y : ℕ) → deeper_of x y ≡ max x y
-unfolding deeper_of
-deeper_max x y = at (ltb x y) refl
-  where
-    at : (b : Bool) → ltb x y ≡ b → cond b y x ≡ max x y
-    at true e = omega (arith, ltb-true x y e)
-    at false e = omega (arith, ltb-false x y e)
+typed_deep w s d h = ap (λ (b : Bool). cond b (Ok (Typed w s (d + 1))) (Err 6)) (le-ltb d 16 h)
 
 module _ (J : Job) (ok : TypesOk J.names J.types) (depths : List ℕ) (deep : (i : ℕ) → i < length J.types → get_or depths i 0 ≡ depth (tree J.types i)) where
   -- an entry whose deepest part has depth d
   judged_type : (e : TypeEntry) (p : Bool) → parts_ok J.names (length J.types) e ≡ p → (d : ℕ) → (p ≡ true → depth (entry_tree (some e) (tree J.types)) ≡ suc d)
-      → cond p (typed_of (type_word e) (set_word e) d) (Refuse 6) ≡ judged_w (w_type e) J
+      → cond p (typed_of (type_word e) (set_word e) d) (Err 6) ≡ judged_w (w_type e) J
   unfolding judged_w ok_w entry_w new_depth type_ok ◌and◌
-  judged_type e false h d f = sym (ap (λ (b : Bool). cond (b and leb (new_depth J e) 16) (Typed (type_word e) (set_word e) (new_depth J e)) (Refuse 6)) h)
+  judged_type e false h d f = sym (ap (λ (b : Bool). cond (b and leb (new_depth J e) 16) (Ok (Typed (type_word e) (set_word e) (new_depth J e))) (Err 6)) h)
   judged_type e true h d f =
       let z : new_depth J e ≡ suc d = ap depth (tree_new (types_earlier J.names ok) e (parts_earlier J.names (length J.types) e h)) ∙ f refl in
       typed_is (type_word e) (set_word e) d
-      ∙ sym (ap (λ (b : Bool). cond (b and leb (new_depth J e) 16) (Typed (type_word e) (set_word e) (new_depth J e)) (Refuse 6)) h
-      ∙ ap (λ (k : ℕ). cond (leb k 16) (Typed (type_word e) (set_word e) k) (Refuse 6)) z)
+      ∙ sym (ap (λ (b : Bool). cond (b and leb (new_depth J e) 16) (Ok (Typed (type_word e) (set_word e) (new_depth J e))) (Err 6)) h
+      ∙ ap (λ (k : ℕ). cond (leb k 16) (Ok (Typed (type_word e) (set_word e) k)) (Err 6)) z)
 
   -- one part
-  one_part : (w s a : ℕ) (y : Bool) → ltb a (length J.types) ≡ y → typed_of w s (part_depth depths (length J.types) a) ≡ cond y (typed_of w s (depth (tree J.types a))) (Refuse 6)
+  one_part : (w s a : ℕ) (y : Bool) → ltb a (length J.types) ≡ y → typed_of w s (part_depth depths (length J.types) a) ≡ cond y (typed_of w s (depth (tree J.types a))) (Err 6)
   unfolding part_depth
   one_part w s a true h =
       ap (λ (b : Bool). typed_of w s (cond b (get_or depths a 0) 255)) h ∙ ap (λ (k : ℕ). typed_of w s k) (deep a (ltb-true a (length J.types) h))
   one_part w s a false h = ap (λ (b : Bool). typed_of w s (cond b (get_or depths a 0) 255)) h ∙ typed_deep w s 255 (omega arith)
 
   two_parts : (w s a b : ℕ) (y z : Bool) → ltb a (length J.types) ≡ y → ltb b (length J.types) ≡ z
-      → typed_of w s (two_depths depths (length J.types) a b) ≡ cond y (cond z (typed_of w s (max (depth (tree J.types a)) (depth (tree J.types b)))) (Refuse 6)) (Refuse 6)
+      → typed_of w s (two_depths depths (length J.types) a b) ≡ cond y (cond z (typed_of w s (max (depth (tree J.types a)) (depth (tree J.types b)))) (Err 6)) (Err 6)
   unfolding part_depth two_depths
   two_parts w s a b true true g h =
       ap (λ (k : ℕ). typed_of w s k)
-      (deeper_max (part_depth depths (length J.types) a) (part_depth depths (length J.types) b)
-      ∙ ap₂ max (ap (λ (c : Bool). cond c (get_or depths a 0) 255) g ∙ deep a (ltb-true a (length J.types) g)) (ap (λ (c : Bool). cond c (get_or depths b 0) 255) h ∙ deep b (ltb-true b (length J.types) h)))
+      (ap₂ max (ap (λ (c : Bool). cond c (get_or depths a 0) 255) g ∙ deep a (ltb-true a (length J.types) g)) (ap (λ (c : Bool). cond c (get_or depths b 0) 255) h ∙ deep b (ltb-true b (length J.types) h)))
   two_parts w s a b true false g h =
       let q : part_depth depths (length J.types) b ≡ 255 = ap (λ (c : Bool). cond c (get_or depths b 0) 255) h in
-      typed_deep w s _ (omega (arith, deeper_max (part_depth depths (length J.types) a) (part_depth depths (length J.types) b)))
+      typed_deep w s _ (omega arith)
   two_parts w s a b false z g h =
       let q : part_depth depths (length J.types) a ≡ 255 = ap (λ (c : Bool). cond c (get_or depths a 0) 255) g in
-      typed_deep w s _ (omega (arith, deeper_max (part_depth depths (length J.types) a) (part_depth depths (length J.types) b)))
+      typed_deep w s _ (omega arith)
 
 -- Tests joined
-join_two : (p q : Bool) (x r : Entry) → cond p (cond q x r) r ≡ cond (p and q) x r
+join_two : (p q : Bool) (x r : Judged) → cond p (cond q x r) r ≡ cond (p and q) x r
 unfolding ◌and◌
 join_two true q x r = refl
 join_two false q x r = refl
 
-join_three : (p q t : Bool) (x r : Entry) → cond p (cond q (cond t x r) r) r ≡ cond (p and q and t) x r
+join_three : (p q t : Bool) (x r : Judged) → cond p (cond q (cond t x r) r) r ≡ cond (p and q and t) x r
 unfolding ◌and◌
 join_three true true t x r = refl
 join_three true false t x r = refl
 join_three false q t x r = refl
 
-join_set : (p o q t : Bool) (x r : Entry) → cond p (cond o (cond q (cond t x r) r) r) r ≡ cond (p and q and t and o) x r
+join_set : (p o q t : Bool) (x r : Judged) → cond p (cond o (cond q (cond t x r) r) r) r ≡ cond (p and q and t and o) x r
 unfolding ◌and◌
 join_set false o q t x r = refl
 join_set true true true true x r = refl
@@ -105,7 +92,7 @@ join_set true false true true x r = refl
 join_set true false true false x r = refl
 join_set true false false t x r = refl
 
-join_key : (p z q : Bool) (x r : Entry) → cond p (cond z r (cond q x r)) r ≡ cond (p and q and not z) x r
+join_key : (p z q : Bool) (x r : Judged) → cond p (cond z r (cond q x r)) r ≡ cond (p and q and not z) x r
 unfolding ◌and◌
 join_key false z q x r = refl
 join_key true true true x r = refl
@@ -126,8 +113,8 @@ module _ (s : List ℕ) (J : Job) (ok : TypesOk J.names J.types) (depths : List 
       let a = field_at 2 s 2 in
       let b = field_at 2 s 4 in
       let n = length J.types in
-      ap (λ (x : Entry). cond (declared J.names q) x (Refuse 6)) (two_parts J ok depths deep (type_word (e_pair q a b)) 0 a b (ltb a n) (ltb b n) refl refl)
-      ∙ join_three (declared J.names q) (ltb a n) (ltb b n) _ (Refuse 6)
+      ap (λ (x : Judged). cond (declared J.names q) x (Err 6)) (two_parts J ok depths deep (type_word (e_pair q a b)) 0 a b (ltb a n) (ltb b n) refl refl)
+      ∙ join_three (declared J.names q) (ltb a n) (ltb b n) _ (Err 6)
       ∙ judged_type J ok depths deep (e_pair q a b) (declared J.names q and ltb a n and ltb b n) refl (max (depth (tree J.types a)) (depth (tree J.types b))) (λ h. refl)
 
   pub law_o_cell : type_entry (byte_of o_cell) s anc (length J.names) depths (length J.types) ≡ judged_w (written o_cell (fields_from (operands o_cell) s 1)) J
@@ -136,8 +123,8 @@ module _ (s : List ℕ) (J : Job) (ok : TypesOk J.names J.types) (depths : List 
       let q = field_at 1 s 1 in
       let a = field_at 2 s 2 in
       let n = length J.types in
-      ap (λ (x : Entry). cond (declared J.names q) x (Refuse 6)) (one_part J ok depths deep (type_word (e_cell q a)) 0 a (ltb a n) refl)
-      ∙ join_two (declared J.names q) (ltb a n) _ (Refuse 6)
+      ap (λ (x : Judged). cond (declared J.names q) x (Err 6)) (one_part J ok depths deep (type_word (e_cell q a)) 0 a (ltb a n) refl)
+      ∙ join_two (declared J.names q) (ltb a n) _ (Err 6)
       ∙ judged_type J ok depths deep (e_cell q a) (declared J.names q and ltb a n) refl (depth (tree J.types a)) (λ h. refl)
 
   pub law_o_function : type_entry (byte_of o_function) s anc (length J.names) depths (length J.types) ≡ judged_w (written o_function (fields_from (operands o_function) s 1)) J
@@ -148,9 +135,9 @@ module _ (s : List ℕ) (J : Job) (ok : TypesOk J.names J.types) (depths : List 
       let b = field_at 2 s 4 in
       let x = field_at 8 s 6 in
       let n = length J.types in
-      ap₂ (λ (o : Bool) (y : Entry). cond (declared J.names q) (cond o y (Refuse 6)) (Refuse 6)) (sets x)
+      ap₂ (λ (o : Bool) (y : Judged). cond (declared J.names q) (cond o y (Err 6)) (Err 6)) (sets x)
       (two_parts J ok depths deep (type_word (e_fn q a b (of_word x))) x a b (ltb a n) (ltb b n) refl refl)
-      ∙ join_set (declared J.names q) (set_ok J.names (of_word x)) (ltb a n) (ltb b n) _ (Refuse 6)
+      ∙ join_set (declared J.names q) (set_ok J.names (of_word x)) (ltb a n) (ltb b n) _ (Err 6)
       ∙ judged_type J ok depths deep (e_fn q a b (of_word x)) (declared J.names q and ltb a n and ltb b n and set_ok J.names (of_word x)) refl (max (depth (tree J.types a)) (depth (tree J.types b))) (λ h. refl)
 
   pub law_o_limit : type_entry (byte_of o_limit) s anc (length J.names) depths (length J.types) ≡ judged_w (written o_limit (fields_from (operands o_limit) s 1)) J
@@ -158,7 +145,7 @@ module _ (s : List ℕ) (J : Job) (ok : TypesOk J.names J.types) (depths : List 
   law_o_limit =
       let q = field_at 1 s 1 in
       let r = field_at 1 s 2 in
-      join_key (declared J.names q) (eqb r 0) (declared J.names r) _ (Refuse 6)
+      join_key (declared J.names q) (eqb r 0) (declared J.names r) _ (Err 6)
       ∙ judged_type J ok depths deep (e_lim q r) (declared J.names q and declared J.names r and not (eqb r 0)) refl 0 (λ h. refl)
 
   pub law_o_grant : type_entry (byte_of o_grant) s anc (length J.names) depths (length J.types) ≡ judged_w (written o_grant (fields_from (operands o_grant) s 1)) J
@@ -166,5 +153,5 @@ module _ (s : List ℕ) (J : Job) (ok : TypesOk J.names J.types) (depths : List 
   law_o_grant =
       let q = field_at 1 s 1 in
       let r = field_at 1 s 2 in
-      join_key (declared J.names q) (eqb r 0) (declared J.names r) _ (Refuse 6)
+      join_key (declared J.names q) (eqb r 0) (declared J.names r) _ (Err 6)
       ∙ judged_type J ok depths deep (e_grant q r) (declared J.names q and declared J.names r and not (eqb r 0)) refl 0 (λ h. refl)

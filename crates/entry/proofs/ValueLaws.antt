@@ -8,6 +8,7 @@ use mathlib.Core.Option.{some}
 use lib.ListN.{length, get_or, get_elem?}
 use lib.Dec.{eqb, ltb}
 use borrow.Author.Tests.{eq-eqb, ne_eqb, eqb-true, eqb-false, lt-ltb, le-ltb, ltb-true}
+use Rattle.std.specs.Prelude.{Ok, Err}
 use Rattle.order.specs.Bools.{◌and◌}
 use Rattle.order.proofs.Bools.{and_l, and_r}
 use Rattle.order.proofs.OrderLaws.{get_elem?_some}
@@ -20,7 +21,7 @@ use Rattle.syntax.specs.ReadLaws.{TypesOk}
 use Rattle.syntax.proofs.ReadFormed.{entry_parts, tree_at}
 use Rattle.entry.specs.Bytes.{field_at}
 use Rattle.entry.specs.Entries.{host_word_ok, value_entry}
-use Rattle.entry.specs.declared.Entry.TheVariants.{Refuse, Valued}
+use Rattle.entry.specs.declared.Entry.TheVariants.{Valued}
 use Rattle.entry.proofs.Ops.{fields_from}
 use Rattle.entry.proofs.Entered.{ok_w, entry_w, judged_w}
 
@@ -127,7 +128,7 @@ module _ (J : Job) (ok : TypesOk J.names J.types) (few : length J.names ≤ 62) 
 
   pub law_o_value : (s : List ℕ) → value_entry s J.names types (length J.types) ≡ judged_w (written o_value (fields_from (operands o_value) s 1)) J
   unfolding value_entry written operands fields_from judged_w ok_w entry_w host_value_ok value_word ◌and◌
-  law_o_value s = ap (λ (b : Bool). cond b (Valued (0x20 + 256 * field_at 2 s 1 + 16777216 * field_at 4 s 3)) (Refuse 6)) (at (ltb (field_at 2 s 1) (length J.types)) refl)
+  law_o_value s = ap (λ (b : Bool). cond b (Ok (Valued (0x20 + 256 * field_at 2 s 1 + 16777216 * field_at 4 s 3))) (Err 6)) (at (ltb (field_at 2 s 1) (length J.types)) refl)
     where
       at : (b : Bool) → ltb (field_at 2 s 1) (length J.types) ≡ b
           → cond b (host_word_ok types J.names (get_or types (field_at 2 s 1) 0) (field_at 4 s 3)) false ≡ (b and host_type_ok J.names (tree J.types (field_at 2 s 1)) (field_at 4 s 3))

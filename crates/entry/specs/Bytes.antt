@@ -4,6 +4,8 @@ use Rattle.std.proofs.Math.Option.{Option, none, some}
 use Rattle.syntax.specs.Commands.{Op, op_of, width, little}
 use Rattle.syntax.specs.Reading.{most_names, most_types, most_variables, most_expressions}
 use Rattle.entry.specs.declared.Form.{Form}
+use Rattle.entry.specs.declared.Section.{Section}
+use Rattle.entry.specs.declared.Section.TheVariants.{Names, Types, Values, Rights, Expressions, End}
 
 -- the operand of w bytes at `at`; 0 where the bytes end before it does
 unfoldable pub field_at : ℕ → List ℕ → ℕ → ℕ
@@ -16,6 +18,15 @@ width_on (some o) = width o
 
 unfoldable pub width_byte : ℕ → ℕ
 width_byte b = width_on (op_of b)
+
+-- the number of a section
+abbrev pub section_no : Section → ℕ
+section_no Names = 0
+section_no Types = 1
+section_no Values = 2
+section_no Rights = 3
+section_no Expressions = 4
+section_no End = 5
 
 -- the section of a command byte; commands from 0x30 on are expressions, but for the end
 unfoldable pub section_byte : ℕ → ℕ

@@ -1,95 +1,70 @@
 // The bytes of a job: operands of fixed width, the width and the section of a command, the rest after it.
 
-ghost use Rattle.std.specs.Prelude.{◌≡◌, length, get_or};
-ghost use Rattle.syntax.specs.Commands.{little};
-ghost use Rattle.entry.specs.Bytes.{field_at, width_byte, section_byte, rest_of};
+ghost use Rattle.std.specs.Prelude.{◌≡◌, ◌+◌, ◌<◌, ◌≤◌, MatchOption, length, get_or, take, drop};
+ghost use Rattle.entry.specs.Bytes.{field_at, width_byte, section_no, section_byte, rest_of};
 
-// Operands of one, two, four and eight bytes, the low byte first.
-fn low8(s: &[u8]) -> u8
-    requires { length s.now ≡ 1 }
-    ensures { result ≡ little s.now }
+use super::Section;
+use table::get_or;
+
+// The N bytes of the job from `at` on; none where it ends before them.
+fn operand<const N: usize>(job: &[u8], at: u8) -> Option<&[u8; N]>
+    ensures { MatchOption result (length job.now < at + N) (λ s. (at + N ≤ length job.now) × (s.now ≡ take N (drop at job.now))) }
 {
-    s[0]
+    job.get(at as usize..)?.first_chunk()
 }
 
-fn low16(s: &[u8]) -> u16
-    requires { length s.now ≡ 2 }
-    ensures { result ≡ little s.now }
-{
-    (s[0] as u16) + (s[1] as u16) * 256
-}
-
-fn low32(s: &[u8]) -> u32
-    requires { length s.now ≡ 4 }
-    ensures { result ≡ little s.now }
-{
-    let a = low16(&s[0..2]);
-    let b = low16(&s[2..4]);
-    (a as u32) + (b as u32) * 65536
-}
-
-fn low64(s: &[u8]) -> u64
-    requires { length s.now ≡ 8 }
-    ensures { result ≡ little s.now }
-{
-    let a = low32(&s[0..4]);
-    let b = low32(&s[4..8]);
-    (a as u64) + (b as u64) * 4294967296
-}
-
-// An operand in the middle of the job, from `at` on; 0 where the job ends before it does.
+// An operand in the middle of the job, from `at` on, the low byte first; 0 where the job ends before it does.
+// Stays four functions: std reads each width by a method of its own, and a trait over them would be as long.
+#[tactic(auto, unfolding(crate::specs::Bytes::field_at))]
 pub fn op8(job: &[u8], at: u8) -> u8
     ensures { result ≡ field_at 1 job.now at }
 {
-    let a = at as usize;
-    let end = a + 1;
-    if end <= job.len() {
-        return low8(&job[a..end]);
+    match operand(job, at) {
+        Some(s) => u8::from_le_bytes(*s),
+        None => 0,
     }
-    0
 }
 
+#[tactic(auto, unfolding(crate::specs::Bytes::field_at))]
 pub fn op16(job: &[u8], at: u8) -> u16
     ensures { result ≡ field_at 2 job.now at }
 {
-    let a = at as usize;
-    let end = a + 2;
-    if end <= job.len() {
-        return low16(&job[a..end]);
+    match operand(job, at) {
+        Some(s) => u16::from_le_bytes(*s),
+        None => 0,
     }
-    0
 }
 
+#[tactic(auto, unfolding(crate::specs::Bytes::field_at))]
 pub fn op32(job: &[u8], at: u8) -> u32
     ensures { result ≡ field_at 4 job.now at }
 {
-    let a = at as usize;
-    let end = a + 4;
-    if end <= job.len() {
-        return low32(&job[a..end]);
+    match operand(job, at) {
+        Some(s) => u32::from_le_bytes(*s),
+        None => 0,
     }
-    0
 }
 
+#[tactic(auto, unfolding(crate::specs::Bytes::field_at))]
 pub fn op64(job: &[u8], at: u8) -> u64
     ensures { result ≡ field_at 8 job.now at }
 {
-    let a = at as usize;
-    let end = a + 8;
-    if end <= job.len() {
-        return low64(&job[a..end]);
+    match operand(job, at) {
+        Some(s) => u64::from_le_bytes(*s),
+        None => 0,
     }
-    0
 }
 
 // The first byte; 0 where there is none.
 pub fn first(job: &[u8]) -> u8
     ensures { result ≡ get_or job.now 0 0 }
 {
-    if 0 < job.len() { job[0] } else { 0 }
+    get_or(job, 0, 0)
 }
 
 // How many bytes follow a command byte; 255 for a byte that is no command.
+// Stays a number: `width_byte` of specs/Bytes and `width_table` of syntax/specs/Widths say 255 for such a byte.
+#[tactic(auto, unfolding(crate::specs::Bytes::width_byte, crate::specs::Bytes::width_on, syntax::specs::Commands::op_of, syntax::specs::Commands::find_op, syntax::specs::Commands::commands, syntax::specs::Commands::width, syntax::specs::Commands::operands, syntax::specs::Commands::total))]
 pub fn width(op: u8) -> u8
     ensures { result ≡ width_byte op }
 {
@@ -128,34 +103,28 @@ pub fn width(op: u8) -> u8
     }
 }
 
-// The section of a command byte: names, types, host values, rights, expressions, the end.
-pub fn section(op: u8) -> u8
-    ensures { result ≡ section_byte op }
-{
-    if op < 0x10 {
-        return 0;
+impl Section {
+    // The section of a command byte.
+    #[tactic(auto, unfolding(crate::specs::Bytes::section_byte))]
+    pub fn of(op: u8) -> Section
+        ensures { section_no result ≡ section_byte op }
+    {
+        match op {
+            0x00..=0x0F => Section::Names,
+            0x10..=0x1F => Section::Types,
+            0x20 => Section::Values,
+            0x21 => Section::Rights,
+            0x22..=0xFE => Section::Expressions,
+            0xFF => Section::End,
+        }
     }
-    if op < 0x20 {
-        return 1;
-    }
-    if op == 0x20 {
-        return 2;
-    }
-    if op == 0x21 {
-        return 3;
-    }
-    if op < 0xFF {
-        return 4;
-    }
-    5
 }
 
 // The unread rest of the job, from its next command on. Where operands are missing: nothing.
+#[tactic(auto, unfolding(crate::specs::Bytes::rest_of))]
 pub fn rest(job: &[u8]) -> &[u8]
     ensures { result.now ≡ rest_of job.now }
 {
-    let op = first(job);
-    let w = width(op);
-    let n = w as usize + 1;
-    if n <= job.len() { &job[n..] } else { &job[..0] }
+    let n = width(first(job)) as usize + 1;
+    job.get(n..).unwrap_or(&[])
 }

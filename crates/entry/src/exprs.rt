@@ -12,6 +12,7 @@ use table::{Expr, MOST_VARIABLES};
 const VARIABLES: u8 = MOST_VARIABLES as u8;
 
 // Where the five places of an expression stand: a digit for each, place 0 in the last one; 0 for a place that is not used.
+#[tactic(auto, unfolding(crate::specs::Bytes::offsets_of))]
 fn offsets(op: u8) -> u32
     ensures { result ≡ offsets_of op }
 {
@@ -37,6 +38,8 @@ fn offsets(op: u8) -> u32
 }
 
 // What stands there: 1 an expression, 2 a type, 0 nothing.
+// Stays a word of digits, as `offsets` is: `kinds_of` and `offsets_of` of specs/Bytes give these words, and `slots_ok` reads both digit by digit.
+#[tactic(auto, unfolding(crate::specs::Bytes::kinds_of))]
 fn kinds(op: u8) -> u32
     ensures { result ≡ kinds_of op }
 {
@@ -62,59 +65,52 @@ fn kinds(op: u8) -> u32
 }
 
 // Digit i of a word, from the right.
+#[tactic(auto, unfolding(crate::specs::Bytes::digit_of))]
 fn digit(w: u32, i: u8) -> u8
     requires { i < 5 }
     ensures { result ≡ digit_of w i }
 {
-    let d = (w >> (4 * i)) % 16;
-    d as u8
+    ((w >> (4 * i)) % 16) as u8
 }
 
 // Place i of an expression whose places stand where this word says.
+#[tactic(auto, unfolding(crate::specs::Bytes::slot_in))]
 fn slot(job: &[u8], row: u32, i: u8) -> u16
     requires { i < 5 }
     ensures { result ≡ slot_in job.now row i }
 {
-    let at = digit(row, i);
-    if at == 0 {
-        return 0;
+    match digit(row, i) {
+        0 => 0,
+        at => op16(job, at),
     }
-    op16(job, at)
 }
 
 // The operands of one byte or four, as an expression's head has them.
+#[tactic(auto, unfolding(crate::specs::Bytes::lead_of))]
 fn lead(op: u8, job: &[u8]) -> u32
     ensures { result ≡ lead_of op job.now }
 {
     match op {
         0x30 => op32(job, 1),
-        0x32 => op8(job, 1) as u32,
+        0x32 | 0x35 | 0x3A | 0x3C => op8(job, 1) as u32,
         0x34 => op8(job, 3) as u32,
-        0x35 => op8(job, 1) as u32,
-        0x3A => op8(job, 1) as u32,
-        0x3C => op8(job, 1) as u32,
         0x3E => (op8(job, 1) as u32) + 256 * (op8(job, 2) as u32),
         _ => 0,
     }
 }
 
+#[tactic(auto, unfolding(crate::specs::Bytes::form_of))]
 fn form_at(op: u8, job: &[u8]) -> Form
     ensures { result ≡ form_of op job.now }
 {
-    let head = (op as u64) + 256 * (lead(op, job) as u64);
     let row = offsets(op);
-    let a = slot(job, row, 0);
-    let b = slot(job, row, 1);
-    let c = slot(job, row, 2);
-    let d = slot(job, row, 3);
-    let e = slot(job, row, 4);
     Form {
-        head: head,
-        a: a,
-        b: b,
-        c: c,
-        d: d,
-        e: e,
+        head: (op as u64) + 256 * (lead(op, job) as u64),
+        a: slot(job, row, 0),
+        b: slot(job, row, 1),
+        c: slot(job, row, 2),
+        d: slot(job, row, 3),
+        e: slot(job, row, 4),
     }
 }
 
@@ -122,102 +118,85 @@ fn form_at(op: u8, job: &[u8]) -> Form
 fn earlier(e: Expr, n: usize) -> bool
     ensures { result ≡ ltb e.0 n }
 {
-    let i = e.0 as usize;
-    i < n
+    (e.0 as usize) < n
 }
 
 // Whether a place holds an expression or a type that stands before, of n and of t.
+#[tactic(auto, unfolding(crate::specs::Bytes::slot_ok))]
 fn slot_ok(k: u8, x: u16, n: usize, t: usize) -> bool
     ensures { result ≡ slot_ok k x n t }
 {
-    if k == 1 {
-        return earlier(Expr(x), n);
+    match k {
+        1 => earlier(Expr(x), n),
+        2 => (x as usize) < t,
+        _ => true,
     }
-    if k == 2 {
-        let i = x as usize;
-        return i < t;
-    }
-    true
 }
 
+#[tactic(auto, unfolding(crate::specs::Bytes::slots_ok))]
 fn slots_ok(op: u8, f: Form, n: usize, t: usize) -> bool
     ensures { result ≡ slots_ok op f n t }
 {
     let row = kinds(op);
-    if slot_ok(digit(row, 0), f.a, n, t) {
-        if slot_ok(digit(row, 1), f.b, n, t) {
-            if slot_ok(digit(row, 2), f.c, n, t) {
-                if slot_ok(digit(row, 3), f.d, n, t) {
-                    return slot_ok(digit(row, 4), f.e, n, t);
-                }
-            }
-        }
-    }
-    false
+    slot_ok(digit(row, 0), f.a, n, t)
+        && slot_ok(digit(row, 1), f.b, n, t)
+        && slot_ok(digit(row, 2), f.c, n, t)
+        && slot_ok(digit(row, 3), f.d, n, t)
+        && slot_ok(digit(row, 4), f.e, n, t)
 }
 
 // 0x3C: whether key i of c is an earlier expression, and an unused one 0xFFFF.
+#[tactic(auto, unfolding(crate::specs::Bytes::key_ok))]
 fn key_ok(i: u8, c: u8, x: u16, n: usize) -> bool
     ensures { result ≡ key_ok i c x n }
 {
     if i < c {
-        return earlier(Expr(x), n);
+        earlier(Expr(x), n)
+    } else {
+        x == 0xFFFF
     }
-    x == 0xFFFF
 }
 
+#[tactic(auto, unfolding(crate::specs::Bytes::limit_ok))]
 fn limit_ok(c: u8, f: Form, n: usize) -> bool
     ensures { result ≡ limit_ok c f n }
 {
-    if 4 < c {
-        return false;
-    }
-    if key_ok(0, c, f.a, n) {
-        if key_ok(1, c, f.b, n) {
-            if key_ok(2, c, f.c, n) {
-                if key_ok(3, c, f.d, n) {
-                    return earlier(Expr(f.e), n);
-                }
-            }
-        }
-    }
-    false
+    c <= 4
+        && key_ok(0, c, f.a, n)
+        && key_ok(1, c, f.b, n)
+        && key_ok(2, c, f.c, n)
+        && key_ok(3, c, f.d, n)
+        && earlier(Expr(f.e), n)
 }
 
 // A bound variable is below the limit and none of the v host values.
+#[tactic(auto, unfolding(crate::specs::Entries::binds_ok))]
 fn binds_ok(v: usize, x: u8) -> bool
     ensures { result ≡ binds_ok v x }
 {
-    let i = x as usize;
-    if v <= i {
-        return x < VARIABLES;
-    }
-    false
+    v <= x as usize && x < VARIABLES
 }
 
 // 0x3E: the variable and the local name.
-fn new_key_ok<'a>(job: &'a [u8], names: &'a [u16], n: usize, v: usize) -> bool
+#[tactic(auto, unfolding(crate::specs::Entries::new_key_ok))]
+fn new_key_ok(job: &[u8], names: &[u16], n: usize, v: usize) -> bool
     ensures { result ≡ new_key_ok job.now (names_in names.now n) v }
 {
-    if binds_ok(v, op8(job, 1)) {
-        return names::is_local_name(names, n, op8(job, 2));
-    }
-    false
+    binds_ok(v, op8(job, 1)) && names::is_local_name(names, n, op8(job, 2))
 }
 
 // Whether x is i or one more.
+#[tactic(auto, unfolding(crate::specs::Entries::either_of))]
 fn one_of_two(x: u8, i: u8) -> bool
     requires { i < 2 }
     ensures { result ≡ either_of x i }
 {
-    if x == i {
-        return true;
-    }
-    x == i + 1
+    x == i || x == i + 1
 }
 
 // The operands of one byte: variables, binders, parts, sum or difference.
-fn lead_ok<'a>(op: u8, job: &'a [u8], names: &'a [u16], n: usize, v: usize) -> bool
+#[tactic(auto, unfolding(crate::specs::Entries::lead_ok))]
+fn lead_ok(op: u8, job: &[u8], names: &[u16], n: usize, v: usize) -> bool
     ensures { result ≡ lead_ok op job.now (names_in names.now n) v }
 {
     match op {
@@ -231,24 +210,28 @@ fn lead_ok<'a>(op: u8, job: &'a [u8], names: &'a [u16], n: usize, v: usize) -> b
 }
 
 // The operands of two bytes, among n expressions and t types; c is the count of a limit's keys.
+#[tactic(auto, unfolding(crate::specs::Entries::places_ok))]
 fn places_ok(op: u8, c: u8, f: Form, n: usize, t: usize) -> bool
     ensures { result ≡ places_ok op c f n t }
 {
     if op == 0x3C {
-        return limit_ok(c, f, n);
+        limit_ok(c, f, n)
+    } else {
+        slots_ok(op, f, n, t)
     }
-    slots_ok(op, f, n, t)
 }
 
 // 0x30 to 0x42.
-pub fn form_entry<'a>(op: u8, job: &'a [u8], names: &'a [u16], h: Shape) -> Entry
+#[tactic(auto, unfolding(crate::specs::Entries::form_entry))]
+pub fn form_entry(op: u8, job: &[u8], names: &[u16], h: Shape) -> Result<Entry, u8>
     ensures { result ≡ form_entry op job.now (names_in names.now h.names) h }
 {
     let f = form_at(op, job);
-    if places_ok(op, op8(job, 1), f, h.cmds, h.types) {
-        if lead_ok(op, job, names, h.names, h.values) {
-            return Entry::Formed(f);
-        }
+    if places_ok(op, op8(job, 1), f, h.cmds, h.types)
+        && lead_ok(op, job, names, h.names, h.values)
+    {
+        Ok(Entry::Formed(f))
+    } else {
+        Err(6)
     }
-    Entry::Refuse(6)
 }

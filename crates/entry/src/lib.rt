@@ -6,12 +6,12 @@ mod declared;
 mod exprs;
 
 ghost use Rattle.std.specs.Prelude.{◌≡◌, get_or};
-ghost use Rattle.entry.specs.Bytes.{misplaced_by, full_by};
+ghost use Rattle.entry.specs.Bytes.{section_no, misplaced_by, full_by};
 ghost use Rattle.entry.specs.Shapes.{no_shape};
 ghost use Rattle.entry.specs.Entries.{entry_of, judged_by};
 
 use bytes::first;
-pub use bytes::{rest, section, width};
+pub use bytes::{rest, width};
 use declared::{name_entry, rights_entry, type_entry, value_entry};
 use exprs::form_entry;
 use table::{MOST_DECLARED, MOST_EXPRESSIONS, MOST_NAMES, MOST_TYPES, MOST_VARIABLES};
@@ -50,10 +50,9 @@ pub struct Form {
     pub e: u16,
 }
 
-// What one command comes to: a refusal's number, the words of an entry (of a type its set and its depth too), or the job's end.
+// What one command comes to: the words of an entry (of a type its set and its depth too), or the job's end.
 #[derive(Clone, Copy)]
 pub enum Entry {
-    Refuse(u8),
     Named(u16),
     Typed(u64, u64, u8),
     Valued(u64),
@@ -62,96 +61,95 @@ pub enum Entry {
     Last,
 }
 
+// The sections of a job, in their order.
+#[derive(Clone, Copy, PartialEq, Eq, PartialOrd, Ord)]
+pub enum Section {
+    Names,
+    Types,
+    Values,
+    Rights,
+    Expressions,
+    End,
+}
+
 // Whether a command of section `sec` is out of its place in section `cur`, after n expressions.
-fn misplaced(cur: u8, sec: u8, n: usize) -> bool
-    ensures { result ≡ misplaced_by cur sec n }
+#[tactic(auto, unfolding(crate::specs::Bytes::misplaced_by))]
+fn misplaced(cur: Section, sec: Section, n: usize) -> bool
+    ensures { result ≡ misplaced_by (section_no cur) (section_no sec) n }
 {
-    if sec < cur {
-        return true;
-    }
-    if sec == 3 {
-        return cur == 3;
-    }
-    if sec < 4 {
-        return false;
-    }
-    if cur < 3 {
-        return true;
-    }
-    if sec == 5 {
-        return n == 0;
-    }
-    false
+    sec < cur
+        || match sec {
+            Section::Names | Section::Types | Section::Values => false,
+            Section::Rights => cur == Section::Rights,
+            Section::Expressions => cur < Section::Rights,
+            Section::End => cur < Section::Rights || n == 0,
+        }
 }
 
 // Whether the tables have no room for one entry more of section `sec`.
-fn full(sec: u8, h: Shape) -> bool
-    ensures { result ≡ full_by sec h.names h.types h.values h.cmds }
+#[tactic(auto, unfolding(crate::specs::Bytes::full_by))]
+fn full(sec: Section, h: Shape) -> bool
+    ensures { result ≡ full_by (section_no sec) h.names h.types h.values h.cmds }
 {
-    if sec == 0 {
-        return MOST_DECLARED <= h.names;
+    match sec {
+        Section::Names => MOST_DECLARED <= h.names,
+        Section::Types => MOST_TYPES <= h.types,
+        Section::Values => MOST_VARIABLES <= h.values,
+        Section::Expressions => MOST_EXPRESSIONS <= h.cmds,
+        Section::Rights | Section::End => false,
     }
-    if sec == 1 {
-        return MOST_TYPES <= h.types;
-    }
-    if sec == 2 {
-        return MOST_VARIABLES <= h.values;
-    }
-    if sec == 4 {
-        return MOST_EXPRESSIONS <= h.cmds;
-    }
-    false
 }
 
-fn entry_of<'a>(
+#[tactic(auto, unfolding(crate::specs::Entries::entry_of))]
+fn entry_of(
     op: u8,
-    job: &'a [u8],
-    anc: &'a [u64; MOST_NAMES],
-    names: &'a [u16],
-    types: &'a [u64],
-    depths: &'a [u8],
+    job: &[u8],
+    anc: &[u64; MOST_NAMES],
+    names: &[u16],
+    types: &[u64],
+    depths: &[u8],
     h: Shape,
-) -> Entry
+) -> Result<Entry, u8>
     ensures { result ≡ entry_of op job.now anc.now names.now types.now depths.now h }
 {
-    let sec = section(op);
-    match sec {
-        0 => name_entry(op, job, names, h.names),
-        1 => type_entry(op, job, anc, h.names, depths, h.types),
-        2 => value_entry(job, names, h.names, types, h.types),
-        3 => rights_entry(job, anc, names, h.names),
-        4 => form_entry(op, job, names, h),
-        _ => Entry::Last,
+    match Section::of(op) {
+        Section::Names => name_entry(op, job, names, h.names),
+        Section::Types => type_entry(op, job, anc, h.names, depths, h.types),
+        Section::Values => value_entry(job, names, h.names, types, h.types),
+        Section::Rights => rights_entry(job, anc, names, h.names),
+        Section::Expressions => form_entry(op, job, names, h),
+        Section::End => Ok(Entry::Last),
     }
 }
 
-// What the first command comes to in section `cur`: a refusal 2, 3, 4, 5 or 6, tested in this order, or an entry.
-pub fn judged<'a>(
-    job: &'a [u8],
-    cur: u8,
+// What the first command comes to in section `cur`: an entry, or the number of a refusal, 2, 3, 4, 5 or 6, tested in this order.
+#[tactic(auto, unfolding(crate::specs::Entries::judged_by))]
+pub fn judged(
+    job: &[u8],
+    cur: Section,
     h: Shape,
-    anc: &'a [u64; MOST_NAMES],
-    names: &'a [u16],
-    types: &'a [u64],
-    depths: &'a [u8],
-) -> Entry
-    ensures { result ≡ judged_by (get_or job.now 0 0) job.now cur h anc.now names.now types.now depths.now }
+    anc: &[u64; MOST_NAMES],
+    names: &[u16],
+    types: &[u64],
+    depths: &[u8],
+) -> Result<Entry, u8>
+    ensures { result ≡ judged_by (get_or job.now 0 0) job.now (section_no cur) h anc.now names.now types.now depths.now }
 {
     let op = first(job);
     let w = width(op);
+    // Stays a number: `width_byte` of specs/Bytes and `width_table` of syntax/specs/Widths say 255 for a byte that is no command.
     if w == 255 {
-        return Entry::Refuse(2);
+        return Err(2);
     }
-    let sec = section(op);
+    let sec = Section::of(op);
     if misplaced(cur, sec, h.cmds) {
-        return Entry::Refuse(3);
+        return Err(3);
     }
-    let k = w as usize;
-    if job.len() <= k {
-        return Entry::Refuse(4);
+    if job.len() <= w as usize {
+        return Err(4);
     }
     if full(sec, h) {
-        return Entry::Refuse(5);
+        return Err(5);
     }
     entry_of(op, job, anc, names, types, depths, h)
 }

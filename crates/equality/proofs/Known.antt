@@ -1,4 +1,4 @@
--- A memory of comparisons, and one level of a comparison by number.
+-- A memory of comparisons, and one level of a comparison.
 use mathlib.Core.Path.{◌≡◌, refl, ap, sym, ◌∙◌}
 use Prim.Native.Nat.{ℕ, zero, suc, ◌-◌, ◌%◌, ◌<◌}
 use native.Mathlib.Omega.{arith}
@@ -12,10 +12,25 @@ use borrow.Author.Tests.{eqb-true, ne_eqb}
 use Rattle.order.specs.Effects.{same_effect}
 use Rattle.syntax.specs.Words.{entry_in}
 use Rattle.syntax.proofs.WordLaws.{zeros_at}
-use Rattle.typing.specs.Entries.{same_in, sub_in, super_in}
+use Rattle.typing.specs.Entries.{same_in, sub_in}
 use Rattle.names.specs.Ancestors.{below_by, eff_below_by, effects_by}
-use Rattle.equality.specs.Known.{Known, pick, turned_of, keys_by, heads_by, leaves_of, compared_in, pack_of}
+use Rattle.equality.specs.declared.Relation.{Relation}
+use Rattle.equality.specs.declared.Relation.TheVariants.{Same, Below, Above}
+use Rattle.equality.specs.Known.{Known, number_of, pick, turned_of, keys_by, heads_by, leaves_of, compared_in, pack_of}
 use Rattle.equality.proofs.Words.{by_kind, level_of, first_of, second_of, of_words}
+
+-- no two relations have one number
+number_one : (r s : Relation) → number_of r ≡ number_of s → r ≡ s
+unfolding number_of
+number_one Same Same e = refl
+number_one Same Below e = absurd (omega arith)
+number_one Same Above e = absurd (omega arith)
+number_one Below Same e = absurd (omega arith)
+number_one Below Below e = refl
+number_one Below Above e = absurd (omega arith)
+number_one Above Same e = absurd (omega arith)
+number_one Above Below e = absurd (omega arith)
+number_one Above Above e = refl
 
 -- one place of a table is written, if it is there
 set_at : (t : List ℕ) (i w j : ℕ) → (get_or (set t i w) j 0 ≡ get_or t j 0) ⊎ (get_or (set t i w) j 0 ≡ w)
@@ -30,14 +45,14 @@ module _ (anc types sets : List ℕ) where
   pub known_none : {known : List ℕ} → ((i : ℕ) → get_or known i 0 ≡ 0) → Known anc types sets known
   known_none z = record { holds = λ i rel d a b h hd ha hb e. absurd (h (no rel d a b (sym (z i) ∙ e))) }
     where
-      no : (rel d a b : ℕ) → 0 ≡ pack_of rel d a b → d ≡ 0
+      no : (rel : Relation) (d a b : ℕ) → 0 ≡ pack_of rel d a b → d ≡ 0
       no rel d a b e = omega arith
 
   pub known_cleared : (t : List ℕ) {known : List ℕ} → known ≡ replicate (length t) 0 → Known anc types sets known
   known_cleared t e = known_none (λ i. ap (λ (l : List ℕ). get_or l i 0) e ∙ zeros_at (length t) i)
 
   -- a comparison w that is remembered holds, and one that holds may be remembered
-  module _ {known : List ℕ} (k : Known anc types sets known) (rel d a b : ℕ) (n : d ≢ 0) (hd : d < 256) (ha : a < 65536) (hb : b < 65536) (w i : ℕ) (hw : w ≡ pack_of rel d a b) where
+  module _ {known : List ℕ} (k : Known anc types sets known) (rel : Relation) (d a b : ℕ) (n : d ≢ 0) (hd : d < 256) (ha : a < 65536) (hb : b < 65536) (w i : ℕ) (hw : w ≡ pack_of rel d a b) where
     pub known_found : eqb (get_or known i 0) w ≡ true → compared_in anc types sets rel d a b ≡ true
     known_found e = k.holds i rel d a b n hd ha hb (eqb-true _ _ e ∙ hw)
 
@@ -47,46 +62,32 @@ module _ (anc types sets : List ℕ) where
           ⊎_elim (λ z. k.holds j rel' d' a' b' n' hd' ha' hb' (sym z ∙ e)) (λ z. at rel' d' a' b' hd' ha' hb' (sym hw ∙ sym z ∙ e)) (set_at known i w j);
     }
       where
-        at : (rel' d' a' b' : ℕ) → d' < 256 → a' < 65536 → b' < 65536 → pack_of rel d a b ≡ pack_of rel' d' a' b' → compared_in anc types sets rel' d' a' b' ≡ true
+        at : (rel' : Relation) (d' a' b' : ℕ) → d' < 256 → a' < 65536 → b' < 65536 → pack_of rel d a b ≡ pack_of rel' d' a' b' → compared_in anc types sets rel' d' a' b' ≡ true
         at rel' d' a' b' hd' ha' hb' e =
-            let e3 : rel ≡ rel' = omega arith in let e2 : d ≡ d' = omega arith in let e1 : b ≡ b' = omega arith in let e0 : a ≡ a' = omega arith in
+            let e3 : rel ≡ rel' = number_one rel rel' (omega arith) in let e2 : d ≡ d' = omega arith in let e1 : b ≡ b' = omega arith in let e0 : a ≡ a' = omega arith in
             rw (← e0, ← e1, ← e2, ← e3) h
 
-  -- One level of a comparison by number
+  -- One level of a comparison
 
-  abbrev pub LevelAt : ℕ → ℕ → ℕ → ℕ → Type 0
+  abbrev pub LevelAt : Relation → ℕ → ℕ → ℕ → Type 0
   LevelAt r d a b =
       compared_in anc types sets r (suc d) a b ≡
-      level_of (keys_by (below_by anc) r) (keys_by (eff_below_by anc) r) (compared_in anc types sets r d) (compared_in anc types sets (turned_of r) d) (compared_in anc types sets 0 d)
+      level_of (keys_by (below_by anc) r) (keys_by (eff_below_by anc) r) (compared_in anc types sets r d) (compared_in anc types sets (turned_of r) d) (compared_in anc types sets Same d)
       (get_or types a 0) (get_or types b 0) (get_or sets a 0) (get_or sets b 0)
 
-  level_sub : (d a b : ℕ) → LevelAt 1 d a b
-  unfolding compared_in keys_by turned_of pick sub_in entry_in
-  level_sub d a b = of_words (below_by anc) (effects_by anc) _ _ _ (get_or types a 0) (get_or types b 0) (get_or sets a 0) (get_or sets b 0)
-
-  level_super : (d a b : ℕ) → LevelAt 2 d a b
-  unfolding compared_in keys_by turned_of pick sub_in entry_in
-  level_super d a b = of_words (λ p q. below_by anc q p) (λ s t. effects_by anc t s) _ _ _ (get_or types a 0) (get_or types b 0) (get_or sets a 0) (get_or sets b 0)
-
-  level_same : (r d a b : ℕ) → eqb r 1 ≡ false → eqb r 2 ≡ false → LevelAt r d a b
-  unfolding compared_in keys_by turned_of pick same_in entry_in
-  level_same r d a b p q = simp (p, q) (of_words (λ p q. eqb p q) (λ s t. same_effect s t) _ _ _ (get_or types a 0) (get_or types b 0) (get_or sets a 0) (get_or sets b 0))
-
-  pub level_at : (r d a b : ℕ) → LevelAt r d a b
-  level_at r d a b = at (eqb r 1) refl (eqb r 2) refl
-    where
-      at : (p : Bool) → eqb r 1 ≡ p → (q : Bool) → eqb r 2 ≡ q → LevelAt r d a b
-      at true p z q = rw (eqb-true r 1 p) (level_sub d a b)
-      at false p true q = rw (eqb-true r 2 q) (level_super d a b)
-      at false p false q = level_same r d a b p q
+  pub level_at : (r : Relation) (d a b : ℕ) → LevelAt r d a b
+  unfolding compared_in keys_by turned_of pick same_in sub_in entry_in
+  level_at Same d a b = of_words (λ p q. eqb p q) (λ s t. same_effect s t) _ _ _ (get_or types a 0) (get_or types b 0) (get_or sets a 0) (get_or sets b 0)
+  level_at Below d a b = of_words (below_by anc) (effects_by anc) _ _ _ (get_or types a 0) (get_or types b 0) (get_or sets a 0) (get_or sets b 0)
+  level_at Above d a b = of_words (λ p q. below_by anc q p) (λ s t. effects_by anc t s) _ _ _ (get_or types a 0) (get_or types b 0) (get_or sets a 0) (get_or sets b 0)
 
   -- A level of d, by the words x and y of its entries
 
-  module _ (r d a b : ℕ) (n : d ≢ 0) {x : ℕ} (hx : x ≡ get_or types a 0) {y : ℕ} (hy : y ≡ get_or types b 0) {h : Bool} (hh : h ≡ heads_by (below_by anc) r x y) where
+  module _ (r : Relation) (d a b : ℕ) (n : d ≢ 0) {x : ℕ} (hx : x ≡ get_or types a 0) {y : ℕ} (hy : y ≡ get_or types b 0) {h : Bool} (hh : h ≡ heads_by (below_by anc) r x y) where
     by_words :
         compared_in anc types sets r d a b ≡
         by_kind h (x % 256) (cond (compared_in anc types sets r (d - 1) (first_of x) (first_of y)) (compared_in anc types sets r (d - 1) (second_of x) (second_of y)) false)
-        (compared_in anc types sets 0 (d - 1) (first_of x) (first_of y))
+        (compared_in anc types sets Same (d - 1) (first_of x) (first_of y))
         (cond (keys_by (eff_below_by anc) r (get_or sets a 0) (get_or sets b 0)) (cond (compared_in anc types sets (turned_of r) (d - 1) (first_of x) (first_of y)) (compared_in anc types sets r (d - 1) (second_of x) (second_of y)) false) false)
         (leaves_of x y)
     unfolding heads_by
@@ -95,7 +96,7 @@ module _ (anc types sets : List ℕ) where
         at : (d : ℕ) → d ≢ 0 →
             compared_in anc types sets r d a b ≡
             by_kind h (x % 256) (cond (compared_in anc types sets r (d - 1) (first_of x) (first_of y)) (compared_in anc types sets r (d - 1) (second_of x) (second_of y)) false)
-            (compared_in anc types sets 0 (d - 1) (first_of x) (first_of y))
+            (compared_in anc types sets Same (d - 1) (first_of x) (first_of y))
             (cond (keys_by (eff_below_by anc) r (get_or sets a 0) (get_or sets b 0)) (cond (compared_in anc types sets (turned_of r) (d - 1) (first_of x) (first_of y)) (compared_in anc types sets r (d - 1) (second_of x) (second_of y)) false) false)
             (leaves_of x y)
         at zero z = absurd (z refl)
@@ -115,7 +116,7 @@ module _ (anc types sets : List ℕ) where
       other_effects m hi hj hw f = simp (by_words, g, ← hk, m, ← hi, ← hj, ← hw, f)
 
       module _ {p q : ℕ} (hp : p ≡ first_of x) (hq : q ≡ first_of y) where
-        pub cells : k ≡ 0x12 → {v : Bool} → v ≡ compared_in anc types sets 0 (d - 1) p q → v ≡ compared_in anc types sets r d a b
+        pub cells : k ≡ 0x12 → {v : Bool} → v ≡ compared_in anc types sets Same (d - 1) p q → v ≡ compared_in anc types sets r d a b
         unfolding by_kind
         cells m hv = simp (by_words, g, ← hk, m, ← hp, ← hq) hv
 
@@ -142,14 +143,8 @@ module _ (anc types sets : List ℕ) where
 
 -- no levels
 module _ (anc types sets : List ℕ) (a b d : ℕ) (e : d ≡ 0) where
-  pub same_none : false ≡ same_in d (entry_in types sets) a b
-  unfolding same_in
-  same_none = rw e
-
-  pub below_none : false ≡ sub_in (below_by anc) (effects_by anc) d (entry_in types sets) a b
-  unfolding sub_in
-  below_none = rw e
-
-  pub above_none : false ≡ super_in (below_by anc) (effects_by anc) d (entry_in types sets) a b
-  unfolding sub_in
-  above_none = rw e
+  pub no_levels : (r : Relation) → false ≡ compared_in anc types sets r d a b
+  unfolding compared_in pick same_in sub_in
+  no_levels Same = rw e
+  no_levels Below = rw e
+  no_levels Above = rw e

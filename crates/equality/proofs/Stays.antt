@@ -8,11 +8,12 @@ use lib.ListN.{get_or, set}
 use lib.Seq.{get_or-set_other}
 use lib.Dec.{eqb}
 use borrow.Author.Tests.{eqb-true}
-use Rattle.typing.specs.Entries.{same_in, sub_in}
 use Rattle.names.specs.Ancestors.{below_by, eff_below_by}
-use Rattle.equality.specs.Known.{Known, pick, keys_by, leaf_by, leaves_of, turned_of, compared_in}
+use Rattle.equality.specs.Known.{Known, keys_by, leaf_by, leaves_of, turned_of, compared_in}
 use Rattle.equality.proofs.Words.{by_kind, level_of, first_of, second_of, never}
-use Rattle.equality.proofs.Known.{level_at}
+use Rattle.equality.specs.declared.Relation.{Relation}
+use Rattle.equality.specs.declared.Relation.TheVariants.{Same}
+use Rattle.equality.proofs.Known.{level_at, no_levels}
 
 and_true : (p q : Bool) → cond p q false ≡ true → (p ≡ true) × (q ≡ true)
 and_true true q h = (refl, h)
@@ -56,21 +57,12 @@ level_more ky ef f g h x y s t =
     (and_more (λ (e : ef s t ≡ true). e) (and_more (g (first_of x) (first_of y)) (f (second_of x) (second_of y))))
 
 module _ (anc types sets : List ℕ) (n w s : ℕ) (free : get_or types n 0 ≡ 0) where
-  none_yet : (r a b : ℕ) → compared_in anc types sets r 0 a b ≡ false
-  unfolding compared_in pick same_in sub_in
-  none_yet r a b = at (eqb r 1) (eqb r 2)
-    where
-      at : (p q : Bool) → cond p false (cond q false false) ≡ false
-      at true q = refl
-      at false true = refl
-      at false false = refl
-
   -- a word of a kind is none of the place that is written
   other : (a : ℕ) → get_or types a 0 % 256 ≢ 0 → a ≢ n
   other a h e = h (rw (e, free))
 
-  stays : (d r a b : ℕ) → compared_in anc types sets r d a b ≡ true → compared_in anc (set types n w) (set sets n s) r d a b ≡ true
-  stays zero r a b h = absurd (false≢true (sym (none_yet r a b) ∙ h))
+  stays : (d : ℕ) (r : Relation) (a b : ℕ) → compared_in anc types sets r d a b ≡ true → compared_in anc (set types n w) (set sets n s) r d a b ≡ true
+  stays zero r a b h = absurd (false≢true (no_levels anc types sets a b zero refl r ∙ h))
   stays (suc d) r a b h =
       let g = sym (level_at anc types sets r d a b) ∙ h in
       let k = kind_there _ _ _ _ _ _ g in
@@ -79,7 +71,7 @@ module _ (anc types sets : List ℕ) (n w s : ℕ) (free : get_or types n 0 ≡ 
       let ob = other b (λ e. k (l ∙ e)) in
       level_at anc (set types n w) (set sets n s) r d a b
       ∙ rw (get_or-set_other types n a w 0 oa, get_or-set_other types n b w 0 ob, get_or-set_other sets n a s 0 oa, get_or-set_other sets n b s 0 ob)
-      (level_more (keys_by (below_by anc) r) (keys_by (eff_below_by anc) r) (λ x y. stays d r x y) (λ x y. stays d (turned_of r) x y) (λ x y. stays d 0 x y) (get_or types a 0) (get_or types b 0) (get_or sets a 0) (get_or sets b 0) g)
+      (level_more (keys_by (below_by anc) r) (keys_by (eff_below_by anc) r) (λ x y. stays d r x y) (λ x y. stays d (turned_of r) x y) (λ x y. stays d Same x y) (get_or types a 0) (get_or types b 0) (get_or sets a 0) (get_or sets b 0) g)
 
   pub known_stays : {known : List ℕ} → Known anc types sets known → Known anc (set types n w) (set sets n s) known
   known_stays k = record { holds = λ i r d a b h hd ha hb e. stays d r a b (k.holds i r d a b h hd ha hb e) }

@@ -15,23 +15,21 @@ use Rattle.table.specs.declared.Refusal.{Refusal}
 use Rattle.entry.specs.Shapes.{shape_of, counts_of}
 use Rattle.entry.specs.declared.Shape.{Shape}
 use Rattle.job.specs.Answer as jobs
-use Rattle.job.specs.declared.Answer.{Answer}
-use Rattle.job.specs.declared.Answer.TheVariants as told
+use Rattle.job.specs.Answer.{Answer}
+use Rattle.std.specs.Prelude.{Ok, Err}
 use Rattle.writer.specs.Sends as sends
-use Rattle.writer.specs.Sends.{WriteTo}
-use Rattle.writer.specs.declared.Sent.{Sent as Answered}
-use Rattle.writer.specs.declared.Sent.TheVariants as answered
+use Rattle.writer.specs.Sends.{Sent as Answered, WriteTo}
 use Rattle.exchange.specs.Exchanges.{laid_counts, shape_in, read_by, tables_read_by, read_number, counts_after, Reads, written_by, sent_number, sent_word, Writes}
 
 -- Reading
 
 -- what is told of a job that is read, and of a refusal
-job_told : {r : ℕ} (k : List ℕ) {k' : List ℕ} (Q : Read) {g : Shape} → jobs.answer_of Q ≡ told.Job g → r ≡ 0 → k' ≡ laid_counts k g → (r ≡ read_number Q) × (k' ≡ counts_after Q k)
+job_told : {r : ℕ} (k : List ℕ) {k' : List ℕ} (Q : Read) {g : Shape} → jobs.answer_of Q ≡ Ok g → r ≡ 0 → k' ≡ laid_counts k g → (r ≡ read_number Q) × (k' ≡ counts_after Q k)
 unfolding jobs.answer_of read_number counts_after
 job_told k (read J) {g} e n c = let z : g ≡ shape_of J = cc in (n, c ∙ ap (laid_counts k) z)
 job_told k (refused q) e n c = absurd (let z : ◌≡◌ {A = ℕ} 0 1 = cc in omega arith)
 
-refusal_told : {r : ℕ} (k : List ℕ) {k' : List ℕ} (Q : Read) {u : Refusal} → jobs.answer_of Q ≡ told.Refused u → Tells u.number u.place r k k' → (r ≡ read_number Q) × (k' ≡ counts_after Q k)
+refusal_told : {r : ℕ} (k : List ℕ) {k' : List ℕ} (Q : Read) {u : Refusal} → jobs.answer_of Q ≡ Err u → Tells u.number u.place r k k' → (r ≡ read_number Q) × (k' ≡ counts_after Q k)
 unfolding jobs.answer_of read_number counts_after
 refusal_told k (read J) e t = absurd (let z : ◌≡◌ {A = ℕ} 0 1 = cc in omega arith)
 refusal_told k (refused q) {u} e t =
@@ -50,20 +48,20 @@ module _ {bytes : List ℕ} (k : List ℕ) {k' : List ℕ} {w x : JobTables} {r 
     unfolding read_by tables_read_by
     reads_long z = let b : ltb (length k) 5 ≡ false = le-ltb (length k) 5 h in record { number = rw b z.0; tables = rw b y; counts = rw b z.1 }
 
-    pub reads_job : {g : Shape} → a ≡ told.Job g → r ≡ 0 → k' ≡ laid_counts k g → Reads bytes r w x k k'
+    pub reads_job : {g : Shape} → a ≡ Ok g → r ≡ 0 → k' ≡ laid_counts k g → Reads bytes r w x k k'
     reads_job z n c = reads_long (job_told k (read_with w bytes) (sym e ∙ z) n c)
 
-    pub reads_refused : {u : Refusal} → a ≡ told.Refused u → Tells u.number u.place r k k' → Reads bytes r w x k k'
+    pub reads_refused : {u : Refusal} → a ≡ Err u → Tells u.number u.place r k k' → Reads bytes r w x k k'
     reads_refused z t = reads_long (refusal_told k (read_with w bytes) (sym e ∙ z) t)
 
 -- Writing
 
-bytes_told : {r n : ℕ} {o o' : List ℕ} (S : Sent) → sends.answer_of S ≡ answered.Bytes n → Tells 0 n r o o' → (r ≡ sent_number S) × (o' ≡ set o 0 (sent_word S))
+bytes_told : {r n : ℕ} {o o' : List ℕ} (S : Sent) → sends.answer_of S ≡ Ok n → Tells 0 n r o o' → (r ≡ sent_number S) × (o' ≡ set o 0 (sent_word S))
 unfolding sends.answer_of sent_number sent_word
 bytes_told {n = n} {o} (sent s) e t = let z : n ≡ length s = cc in (t.number, t.told ∙ ap (set o 0) z)
 bytes_told (unsent q) e t = absurd (let z : ◌≡◌ {A = ℕ} 0 1 = cc in omega arith)
 
-unsent_told : {r : ℕ} {o o' : List ℕ} (S : Sent) {u : Refusal} → sends.answer_of S ≡ answered.Refused u → Tells u.number u.place r o o' → (r ≡ sent_number S) × (o' ≡ set o 0 (sent_word S))
+unsent_told : {r : ℕ} {o o' : List ℕ} (S : Sent) {u : Refusal} → sends.answer_of S ≡ Err u → Tells u.number u.place r o o' → (r ≡ sent_number S) × (o' ≡ set o 0 (sent_word S))
 unfolding sends.answer_of sent_number sent_word
 unsent_told (sent s) e t = absurd (let z : ◌≡◌ {A = ℕ} 0 1 = cc in omega arith)
 unsent_told {o = o} (unsent q) {u} e t =
@@ -91,8 +89,8 @@ module _ {w x : JobTables} (k : List ℕ) {b b' : List ℕ} where
           tables = e.tables;
         }
 
-    pub writes_sent : {o o' : List ℕ} {r n : ℕ} → a ≡ answered.Bytes n → Tells 0 n r o o' → Writes w x k r b b' o o'
+    pub writes_sent : {o o' : List ℕ} {r n : ℕ} → a ≡ Ok n → Tells 0 n r o o' → Writes w x k r b b' o o'
     writes_sent y t = writes_long (bytes_told (write_with w (counts_of g) (length b)) (sym e.answer ∙ y) t)
 
-    pub writes_refused : {o o' : List ℕ} {r : ℕ} {u : Refusal} → a ≡ answered.Refused u → Tells u.number u.place r o o' → Writes w x k r b b' o o'
+    pub writes_refused : {o o' : List ℕ} {r : ℕ} {u : Refusal} → a ≡ Err u → Tells u.number u.place r o o' → Writes w x k r b b' o o'
     writes_refused y t = writes_long (unsent_told (write_with w (counts_of g) (length b)) (sym e.answer ∙ y) t)

@@ -6,9 +6,8 @@ ghost use Rattle.table.specs.Lent.{job_before, job_after, job_shown};
 ghost use Rattle.writer.specs.Lent.{job_left};
 ghost use Rattle.exchange.specs.Exchanges.{shape_in, laid_counts, Reads, Writes};
 
-use job::Answer;
-use table::{at64, put64, tell, wide};
-use writer::{Sent, Shape};
+use table::{get_or, set_at, tell};
+use writer::Shape;
 
 // The words of counts: names, types, host values, expressions, and the rights.
 pub const COUNTS: usize = 5;
@@ -16,22 +15,22 @@ pub const COUNTS: usize = 5;
 fn put_counts(g: Shape, counts: &mut [u64])
     ensures { counts.new ≡ laid_counts counts.old g }
 {
-    put64(counts, 0, wide(g.names));
-    put64(counts, 1, wide(g.types));
-    put64(counts, 2, wide(g.values));
-    put64(counts, 3, wide(g.cmds));
-    put64(counts, 4, g.rights);
+    set_at(counts, 0, g.names as u64);
+    set_at(counts, 1, g.types as u64);
+    set_at(counts, 2, g.values as u64);
+    set_at(counts, 3, g.cmds as u64);
+    set_at(counts, 4, g.rights);
 }
 
 fn counts_in(counts: &[u64]) -> Shape
     ensures { result ≡ shape_in counts.now }
 {
     Shape {
-        names: at64(counts, 0) as usize,
-        types: at64(counts, 1) as usize,
-        values: at64(counts, 2) as usize,
-        cmds: at64(counts, 3) as usize,
-        rights: at64(counts, 4),
+        names: get_or(counts, 0, 0) as usize,
+        types: get_or(counts, 1, 0) as usize,
+        values: get_or(counts, 2, 0) as usize,
+        cmds: get_or(counts, 3, 0) as usize,
+        rights: get_or(counts, 4, 0),
     }
 }
 
@@ -54,11 +53,11 @@ pub fn read(
         return tell(1, 0, counts);
     }
     match job::read(job, names, types, sets, values, heads, slots) {
-        Answer::Job(g) => {
+        Ok(g) => {
             put_counts(g, counts);
             0
         }
-        Answer::Refused(q) => tell(q.number, q.place, counts),
+        Err(q) => tell(q.number, q.place, counts),
     }
 }
 
@@ -83,7 +82,7 @@ pub fn write(
     }
     let g = counts_in(counts);
     match writer::write(names, types, sets, values, heads, slots, g, buffer) {
-        Sent::Bytes(n) => tell(0, n, out),
-        Sent::Refused(q) => tell(q.number, q.place, out),
+        Ok(n) => tell(0, n, out),
+        Err(q) => tell(q.number, q.place, out),
     }
 }

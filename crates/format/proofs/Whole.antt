@@ -4,8 +4,8 @@ use mathlib.Core.Path.{◌≡◌, ap, ◌∙◌}
 use mathlib.Core.List.{List, [], ◌∷◌, ◌++◌}
 use native.Mathlib.Omega.{arith}
 use lib.ListN.{length}
-use Rattle.format.specs.declared.Sort.{Sort}
-use Rattle.format.specs.declared.Sort.TheVariants.{Number}
+use Rattle.store.specs.declared.Kind.{Kind}
+use Rattle.store.specs.declared.Kind.TheVariants.{Number}
 use Rattle.output.specs.Lines.{decimal_in, decimal, space, w_number}
 use Rattle.format.specs.Text.{joined, sort_word, sort_words}
 use Rattle.format.proofs.Fit.{joined_joined, joined_all}
@@ -24,7 +24,7 @@ whole t a b et e h = et ∙ ap (joined []) e ∙ joined_all [] b (omega arith)
 
 -- the word of a number, a space, and its digits
 pub number_joined :
-    (r t u a : List ℕ) (k : Sort) (n : ℕ) → k ≡ Number →
+    (r t u a : List ℕ) (k : Kind) (n : ℕ) → k ≡ Number →
     t ≡ joined a (sort_word k) → u ≡ joined t (32 ∷ []) → r ≡ joined u (decimal_in 20 n) → r ≡ joined a (sort_words k n)
 unfolding sort_word sort_words space decimal
 number_joined r t u a k n ek et eu er =

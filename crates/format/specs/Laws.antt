@@ -4,11 +4,11 @@ use Rattle.std.proofs.Common.{◌∙◌, arith, length-append, take_all}
 use Rattle.std.proofs.Math.Option.{some}
 use Rattle.order.specs.Effects.{Effect}
 use Rattle.syntax.specs.Types.{Ty, num, pair, cell, fn, lim, grant}
-use Rattle.semantics.specs.Machine.{Kind, k_num, k_pair, k_fn, k_cell, k_lim, k_grant, Value, System}
+use Rattle.semantics.specs.Machine.{Kind as SKind, k_num, k_pair, k_fn, k_cell, k_lim, k_grant, Value, System}
 use Rattle.semantics.specs.Threads.{value_of}
 use Rattle.semantics.specs.Calls.{finished, spent, noroom}
-use Rattle.format.specs.declared.Sort.{Sort}
-use Rattle.format.specs.declared.Sort.TheVariants.{Number, Pair, Cell, Function, Limit, Grant}
+use Rattle.store.specs.declared.Kind.{Kind}
+use Rattle.store.specs.declared.Kind.TheVariants.{Number, Pair, Cell, Function, Limit, Grant}
 use Rattle.output.specs.Lines.{decimal, space, line, w_accepted, w_done, w_spent, w_no_room, w_number, w_pair, w_cell, w_function, w_limit, w_grant, type_kind, value_kind, handed, accepted_line, ran_line}
 use Rattle.output.proofs.LineLaws.{decimal_length, hex_length}
 use Rattle.format.specs.Text.{text_bytes, joined, sort_word, sort_words, type_sort, kind_sort, kind_number, accepted_as, done_as, spent_as, no_room_as}
@@ -24,7 +24,7 @@ type_word_lem (lim q r) = refl
 type_word_lem (grant q r) = refl
 
 -- the words of a value's kind
-pub value_words_lem : (k : Kind) → sort_words (kind_sort k) (kind_number k) ≡ value_kind k
+pub value_words_lem : (k : SKind) → sort_words (kind_sort k) (kind_number k) ≡ value_kind k
 unfolding sort_words kind_sort kind_number value_kind
 value_words_lem (k_num n) = refl
 value_words_lem (k_pair n) = refl
@@ -32,6 +32,16 @@ value_words_lem (k_fn n) = refl
 value_words_lem (k_cell n) = refl
 value_words_lem (k_lim n) = refl
 value_words_lem (k_grant n) = refl
+
+-- of no other kind the number is written
+pub no_number : (k : Kind) (n : ℕ) → (k ≡ Number → ⊥) → sort_words k n ≡ sort_word k
+unfolding sort_words sort_word
+no_number Number n h = absurd (h refl)
+no_number Pair n h = refl
+no_number Cell n h = refl
+no_number Function n h = refl
+no_number Limit n h = refl
+no_number Grant n h = refl
 
 -- an accepted job's first line
 pub accepted_line_lem : (T : Ty) (s : Effect) → accepted_as s (type_sort T) ≡ accepted_line T s
@@ -52,7 +62,7 @@ unfolding no_room_as ran_line
 no_room_line c i m = refl
 
 -- lengths
-pub sort_length : (k : Sort) → length (sort_word k) ≤ 8
+pub sort_length : (k : Kind) → length (sort_word k) ≤ 8
 unfolding sort_word w_number w_pair w_cell w_function w_limit w_grant
 sort_length Number = omega arith
 sort_length Pair = omega arith
@@ -61,7 +71,7 @@ sort_length Function = omega arith
 sort_length Limit = omega arith
 sort_length Grant = omega arith
 
-pub sort_words_length : (k : Sort) (n : ℕ) → length (sort_words k n) ≤ 27
+pub sort_words_length : (k : Kind) (n : ℕ) → length (sort_words k n) ≤ 27
 unfolding sort_words w_number w_pair w_cell w_function w_limit w_grant space decimal
 sort_words_length Number n = simp length-append (omega (arith, decimal_length 20 n))
 sort_words_length Pair n = omega arith
@@ -70,11 +80,11 @@ sort_words_length Function n = omega arith
 sort_words_length Limit n = omega arith
 sort_words_length Grant n = omega arith
 
-pub accepted_length : (s : Effect) (k : Sort) → length (accepted_as s k) < 64
+pub accepted_length : (s : Effect) (k : Kind) → length (accepted_as s k) < 64
 unfolding accepted_as line space w_accepted
 accepted_length s k = simp (length-append, hex_length) (omega (arith, sort_length k))
 
-pub done_length : (n : ℕ) (k : Sort) (v : ℕ) → length (done_as n k v) < 64
+pub done_length : (n : ℕ) (k : Kind) (v : ℕ) → length (done_as n k v) < 64
 unfolding done_as line space w_done decimal
 done_length n k v = simp length-append (omega (arith, decimal_length 20 n, sort_words_length k v))
 

@@ -2,10 +2,10 @@
 use Rattle.std.specs.Prelude.{ℕ, List, ◌++◌, take}
 use Rattle.order.specs.Effects.{Effect}
 use Rattle.syntax.specs.Types.{Ty, num, pair, cell, fn, lim, grant}
-use Rattle.semantics.specs.Machine.{Kind, k_num, k_pair, k_fn, k_cell, k_lim, k_grant}
+use Rattle.semantics.specs.Machine.{Kind as SKind, k_num, k_pair, k_fn, k_cell, k_lim, k_grant}
 use Rattle.format.specs.declared.Text.{Text}
-use Rattle.format.specs.declared.Sort.{Sort}
-use Rattle.format.specs.declared.Sort.TheVariants.{Number, Pair, Cell, Function, Limit, Grant}
+use Rattle.store.specs.declared.Kind.{Kind}
+use Rattle.store.specs.declared.Kind.TheVariants.{Number, Pair, Cell, Function, Limit, Grant}
 use Rattle.output.specs.Lines.{decimal, hex, space, line, w_accepted, w_done, w_spent, w_no_room, w_number, w_pair, w_cell, w_function, w_limit, w_grant}
 
 -- the bytes written so far
@@ -21,7 +21,7 @@ unfoldable pub joined : List ℕ → List ℕ → List ℕ
 joined a x = take text_bytes (a ++ x)
 
 -- the word of a kind
-unfoldable pub sort_word : Sort → List ℕ
+unfoldable pub sort_word : Kind → List ℕ
 sort_word Number = w_number
 sort_word Pair = w_pair
 sort_word Cell = w_cell
@@ -30,7 +30,7 @@ sort_word Limit = w_limit
 sort_word Grant = w_grant
 
 -- the word of a kind and, for a number, its value
-unfoldable pub sort_words : Sort → ℕ → List ℕ
+unfoldable pub sort_words : Kind → ℕ → List ℕ
 sort_words Number n = space w_number (decimal n)
 sort_words Pair n = w_pair
 sort_words Cell n = w_cell
@@ -39,7 +39,7 @@ sort_words Limit n = w_limit
 sort_words Grant n = w_grant
 
 -- the kind of a type
-unfoldable pub type_sort : Ty → Sort
+unfoldable pub type_sort : Ty → Kind
 type_sort (num q) = Number
 type_sort (pair q A B) = Pair
 type_sort (cell q A) = Cell
@@ -48,7 +48,7 @@ type_sort (lim q r) = Limit
 type_sort (grant q r) = Grant
 
 -- the kind of a value, and the number in it
-unfoldable pub kind_sort : Kind → Sort
+unfoldable pub kind_sort : SKind → Kind
 kind_sort (k_num n) = Number
 kind_sort (k_pair n) = Pair
 kind_sort (k_fn n) = Function
@@ -56,7 +56,7 @@ kind_sort (k_cell n) = Cell
 kind_sort (k_lim n) = Limit
 kind_sort (k_grant n) = Grant
 
-unfoldable pub kind_number : Kind → ℕ
+unfoldable pub kind_number : SKind → ℕ
 kind_number (k_num n) = n
 kind_number (k_pair n) = n
 kind_number (k_fn n) = n
@@ -65,10 +65,10 @@ kind_number (k_lim n) = n
 kind_number (k_grant n) = n
 
 -- the lines, by kind
-unfoldable pub accepted_as : Effect → Sort → List ℕ
+unfoldable pub accepted_as : Effect → Kind → List ℕ
 accepted_as s k = line (space w_accepted (space (hex 16 s.set) (sort_word k)))
 
-unfoldable pub done_as : ℕ → Sort → ℕ → List ℕ
+unfoldable pub done_as : ℕ → Kind → ℕ → List ℕ
 done_as n k v = line (space w_done (space (decimal n) (sort_words k v)))
 
 unfoldable pub spent_as : ℕ → List ℕ

@@ -6,16 +6,7 @@ ghost use Rattle.order.specs.Effects.{of_word};
 ghost use Rattle.output.specs.Lines.{decimal_in, hex_digit, hex, refused_line};
 ghost use Rattle.format.specs.Text.{text_of, joined, sort_word, sort_words, accepted_as, done_as, spent_as, no_room_as};
 
-// The kind of a type or of a value.
-#[derive(Clone, Copy)]
-pub enum Sort {
-    Number,
-    Pair,
-    Cell,
-    Function,
-    Limit,
-    Grant,
-}
+use store::Kind;
 
 // The room of a text: two lines.
 pub const TEXT_BYTES: usize = 128;
@@ -42,30 +33,24 @@ impl Text {
     fn push(mut self, b: u8) -> Text
         ensures { text_of result ≡ joined (text_of self) (b ∷ []) }
     {
-        let at = self.len;
-        if at < TEXT_BYTES {
-            self.bytes[at] = b;
-            self.len = at + 1;
-            return self;
+        if self.len < TEXT_BYTES {
+            self.bytes[self.len] = b;
+            self.len += 1;
         }
         self
     }
 
     // The bytes of s, as far as there is room for them.
-    fn put(self, s: &[u8]) -> Text
+    fn put(mut self, s: &[u8]) -> Text
         ensures { text_of result ≡ joined (text_of self) s.now }
     {
-        let mut t = self;
-        let mut i = 0;
-        while i < s.len() {
-            let next = t.push(s[i]);
-            t = next;
-            i += 1;
+        for &b in s {
+            self = self.push(b);
         }
-        t
+        self
     }
 
-    // A number in decimal, of at most so many digits.
+    // A number in decimal, of at most so many digits. The digits are written here: `write!` gives a result that nobody reads, and a text is cut off at its room.
     fn decimal(self, most: u8, n: u64) -> Text
         ensures { text_of result ≡ joined (text_of self) (decimal_in most n) }
     {
@@ -73,10 +58,10 @@ impl Text {
             return self;
         }
         if n < 10 {
-            return self.push(48 + n as u8);
+            return self.push(b'0' + n as u8);
         }
         let upper = self.decimal(most - 1, n / 10);
-        upper.push(48 + (n % 10) as u8)
+        upper.push(b'0' + (n % 10) as u8)
     }
 
     // So many hexadecimal digits, the last ones of a number.
@@ -91,31 +76,27 @@ impl Text {
     }
 
     // The word of a kind.
-    fn word(self, sort: Sort) -> Text
-        ensures { text_of result ≡ joined (text_of self) (sort_word sort) }
+    fn word(self, kind: Kind) -> Text
+        ensures { text_of result ≡ joined (text_of self) (sort_word kind) }
     {
-        match sort {
-            Sort::Number => self.put(b"number"),
-            Sort::Pair => self.put(b"pair"),
-            Sort::Cell => self.put(b"cell"),
-            Sort::Function => self.put(b"function"),
-            Sort::Limit => self.put(b"limit"),
-            Sort::Grant => self.put(b"grant"),
+        match kind {
+            Kind::Number => self.put(b"number"),
+            Kind::Pair => self.put(b"pair"),
+            Kind::Cell => self.put(b"cell"),
+            Kind::Function => self.put(b"function"),
+            Kind::Limit => self.put(b"limit"),
+            Kind::Grant => self.put(b"grant"),
         }
     }
 
     // The word of a kind and, for a number, its value.
-    fn value(self, sort: Sort, n: u32) -> Text
-        ensures { text_of result ≡ joined (text_of self) (sort_words sort n) }
+    fn value(self, kind: Kind, n: u32) -> Text
+        ensures { text_of result ≡ joined (text_of self) (sort_words kind n) }
     {
-        let t = self.word(sort);
-        match sort {
-            Sort::Number => t.push(b' ').decimal(20, n as u64),
-            Sort::Pair => t,
-            Sort::Cell => t,
-            Sort::Function => t,
-            Sort::Limit => t,
-            Sort::Grant => t,
+        let t = self.word(kind);
+        match kind {
+            Kind::Number => t.push(b' ').decimal(20, u64::from(n)),
+            _ => t,
         }
     }
 }
@@ -125,32 +106,32 @@ fn hex_digit(d: u8) -> u8
     requires { d < 16 }
     ensures { result ≡ hex_digit d }
 {
-    if d < 10 { 48 + d } else { 87 + d }
+    if d < 10 { b'0' + d } else { b'a' - 10 + d }
 }
 
 // The line of a refused job.
 pub fn refused(number: u8, place: u64) -> Text
     ensures { text_of result ≡ refused_line (record { number = number; place = place }) }
 {
-    let a = empty().put(b"refused ").decimal(20, number as u64);
+    let a = empty().put(b"refused ").decimal(20, u64::from(number));
     let b = a.put(b" at ").decimal(20, place);
     b.push(b'\n')
 }
 
 // The first line of an accepted job: its effect, and the kind of its type.
-pub fn accepted(effect: u64, sort: Sort) -> Text
-    ensures { text_of result ≡ accepted_as (of_word effect) sort }
+pub fn accepted(effect: u64, kind: Kind) -> Text
+    ensures { text_of result ≡ accepted_as (of_word effect) kind }
 {
     let a = empty().put(b"accepted ").hex(16, effect);
-    a.push(b' ').word(sort).push(b'\n')
+    a.push(b' ').word(kind).push(b'\n')
 }
 
 // The second line of a job that came to an end with a value.
-pub fn done(steps: u64, sort: Sort, value: u32) -> Text
-    ensures { text_of result ≡ done_as steps sort value }
+pub fn done(steps: u64, kind: Kind, value: u32) -> Text
+    ensures { text_of result ≡ done_as steps kind value }
 {
     let a = empty().put(b"done ").decimal(20, steps);
-    a.push(b' ').value(sort, value).push(b'\n')
+    a.push(b' ').value(kind, value).push(b'\n')
 }
 
 // The second line of a job that took all the steps it was given.
@@ -171,10 +152,5 @@ pub fn no_room(steps: u64) -> Text
 pub fn both(a: Text, b: Text) -> Text
     ensures { text_of result ≡ joined (text_of a) (text_of b) }
 {
-    let bytes = b.bytes;
-    let n = b.len;
-    if n < TEXT_BYTES {
-        return a.put(&bytes[..n]);
-    }
-    a.put(&bytes)
+    a.put(&b.bytes[..b.len.min(TEXT_BYTES)])
 }

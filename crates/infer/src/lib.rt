@@ -1,5 +1,5 @@
 // The type and effect of one expression: its command and operands are read from the tables, and the rule of the command is applied.
-#![tactic(auto)]
+#![tactic(auto, using(crate::proofs::Fields::lead_low, crate::proofs::Fields::lead_local), unfolding(typing::specs::Numbered::result_at, typing::specs::Numbered::fits, syntax::specs::Words::code_in, syntax::specs::Words::decode))]
 
 ghost use Rattle.std.specs.Prelude.{◌≡◌, ℕ, ◌≤◌, ◌/◌, ◌%◌, get_or};
 ghost use Rattle.order.specs.Effects.{of_word};
@@ -15,7 +15,7 @@ use rules::{
     Operand, access, apply, assign, associate, cell, divide, function, grant, limit, new_key,
     number, operand_at, pair, part, read, spawn, sum, test, top, variable,
 };
-use table::{Expr, MOST_NAMES, MOST_VARIABLES, Name, at16, at64, key_of, name_of};
+use table::{Expr, MOST_NAMES, MOST_VARIABLES, Name, get_or, key_of, name_of};
 
 // The operand of one byte or four in a head.
 fn lead(w: u64) -> u32
@@ -38,7 +38,7 @@ fn two<'a>(
     anc: &'a [u64; MOST_NAMES],
     next: u16,
     known: &mut [u64],
-) -> Typing
+) -> Result<Typing, u8>
     requires { (at ≤ 327675) × (x ≡ by.operand_at slots.now entries.now effects.now at) × Known anc.now types.now sets.now known.old }
     ensures { ((var : ℕ → ℕ) → result_in result
         ≡ result_at (ops_by anc.now names.now) var (entry_in types.now sets.now)
@@ -47,26 +47,26 @@ fn two<'a>(
 {
     let y = operand_at(slots, entries, effects, at + 1);
     match w % 256 {
-        0x33 => return pair(anc, x, y),
-        0x36 => return apply(anc, types, sets, x, y, known),
-        0x38 => return assign(anc, types, sets, x, y, known),
-        0x3A => return sum(anc, types, sets, x, y),
+        0x33 => pair(anc, x, y),
+        0x36 => apply(anc, types, sets, x, y, known),
+        0x38 => assign(anc, types, sets, x, y, known),
+        0x3A => sum(anc, types, sets, x, y),
         0x3B => {
             let z = operand_at(slots, entries, effects, at + 2);
-            return test(anc, types, sets, x, y, z, at16(slots, at + 3), known);
+            test(anc, types, sets, x, y, z, get_or(slots, at + 3, 0), known)
         }
-        0x3D => return grant(anc, types, sets, x, y),
+        0x3D => grant(anc, types, sets, x, y),
         0x3E => {
-            let t = at16(slots, at + 2);
-            return new_key(anc, types, sets, names, Name(name_of(w)), x, y, t, known);
+            let t = get_or(slots, at + 2, 0);
+            new_key(anc, types, sets, names, Name(name_of(w)), x, y, t, known)
         }
-        0x3F => return associate(anc, types, sets, x, y),
+        0x3F => associate(anc, types, sets, x, y),
         0x40 => {
             let z = operand_at(slots, entries, effects, at + 2);
-            return access(anc, types, sets, x, y, z, at16(slots, at + 3), known);
+            access(anc, types, sets, x, y, z, get_or(slots, at + 3, 0), known)
         }
-        0x41 => return divide(anc, types, sets, x, y, next),
-        _ => return number(),
+        0x41 => divide(anc, types, sets, x, y, next),
+        _ => number(),
     }
 }
 
@@ -85,7 +85,7 @@ pub fn result<'a>(
     anc: &'a [u64; MOST_NAMES],
     next: u16,
     known: &mut [u64],
-) -> Typing
+) -> Result<Typing, u8>
     requires { Known anc.now types.now sets.now known.old }
     ensures { (result_in result
         ≡ result_at (ops_by anc.now names.now) (λ v. get_or vars.now v 0)
@@ -94,34 +94,34 @@ pub fn result<'a>(
         × Known anc.now types.now sets.now known.new }
 {
     let i = e.0 as usize;
-    let w = at64(heads, i);
+    let w = get_or(heads, i, 0);
     let at = i * 5;
     match w % 256 {
-        0x30 => return number(),
-        0x31 => return top(),
-        0x32 => return variable(vars, key_of(w)),
+        0x30 => number(),
+        0x31 => top(),
+        0x32 => variable(vars, key_of(w)),
         0x34 => {
             let x = operand_at(slots, entries, effects, at);
-            return part(anc, types, sets, x, lead(w));
+            part(anc, types, sets, x, lead(w))
         }
         0x35 => {
             let x = operand_at(slots, entries, effects, at);
-            return function(at16(slots, at + 1), x);
+            function(get_or(slots, at + 1, 0), x)
         }
         0x37 => {
             let x = operand_at(slots, entries, effects, at);
-            return cell(anc, types, sets, at16(slots, at + 1), x, known);
+            cell(anc, types, sets, get_or(slots, at + 1, 0), x, known)
         }
         0x39 => {
             let x = operand_at(slots, entries, effects, at);
-            return read(anc, types, sets, x);
+            read(anc, types, sets, x)
         }
-        0x3C => return limit(anc, types, sets, slots, entries, effects, at, lead(w)),
+        0x3C => limit(anc, types, sets, slots, entries, effects, at, lead(w)),
         0x42 => {
             let x = operand_at(slots, entries, effects, at);
-            return spawn(anc, x);
+            spawn(anc, x)
         }
-        _ => return two(
+        _ => two(
             w,
             at,
             operand_at(slots, entries, effects, at),

@@ -1,13 +1,12 @@
 -- The passes over names, host values and rights give the start of what the words hold.
 use Prim.Native.Nat.{ℕ, ◌+◌, ◌-◌, ◌<◌, ◌≤◌}
-use mathlib.Core.Path.{◌≡◌, refl, ap, sym, ◌∙◌, subst}
+use mathlib.Core.Path.{◌≡◌, refl, ap, sym, ◌∙◌}
 use mathlib.Core.Bool.{Bool, true, false, cond}
 use mathlib.Core.List.{List, [], map}
 use native.Mathlib.Omega.{arith}
-use borrow.Author.Tests.{ltb-false, lt-leb, le-leb, lt-ltb, le-ltb, leb-true}
-use lib.Dec.{ltb, leb}
+use borrow.Author.Tests.{ltb-false, leb-true}
+use lib.Dec.{ltb}
 use lib.ListN.{get_or, length-replicate}
-use Rattle.order.specs.Bools.{◌and◌}
 use Rattle.order.proofs.Bools.{and_l, and_r}
 use Rattle.order.specs.Sets.{set_of}
 use Rattle.order.specs.Effects as effects
@@ -21,8 +20,7 @@ use Rattle.store.specs.Meaning.{keys_in}
 use Rattle.store.specs.Words.{link_in}
 use Rattle.store.specs.Tables.{list_of, capped}
 use Rattle.initial.specs.Entries.{key_in, named_in, NamesEntered, values_from, valued_in, ValuesEntered}
-use Rattle.initial.specs.Empty.{no_job}
-use Rattle.initial.specs.Begun.{word_source, is_job, source_in, Begun}
+use Rattle.initial.specs.Begun.{word_source, is_job, Begun}
 use Rattle.initial.specs.declared.Initial.{Initial}
 
 -- a count that is within its places
@@ -33,30 +31,13 @@ capped_le n most h = at (ltb n most) refl
     at true e = refl
     at false e = omega (arith, ltb-false n most e)
 
--- counts that are a job's, or not
-module _ (n m k : ℕ) where
-  pub job_names : 62 < n → false ≡ is_job n m k
-  unfolding is_job ◌and◌
-  job_names h = simp (lt-leb _ _ h)
-
-  pub job_values : n ≤ 62 → 64 < m → false ≡ is_job n m k
-  unfolding is_job ◌and◌
-  job_values g h = simp (le-leb _ _ g, lt-leb _ _ h)
-
-  pub job_none : n ≤ 62 → m ≤ 64 → k ≡ 0 → false ≡ is_job n m k
-  unfolding is_job ◌and◌
-  job_none g h e = let z : k ≤ 0 = omega arith in simp (le-leb _ _ g, le-leb _ _ h, le-ltb 0 k z)
-
-  pub job_cmds : n ≤ 62 → m ≤ 64 → (k ≡ 0 → ⊥) → leb k 512 ≡ is_job n m k
-  unfolding is_job ◌and◌
-  job_cmds g h e = let z : 0 < k = omega (arith, e) in simp (le-leb _ _ g, le-leb _ _ h, lt-ltb 0 k z)
-
-  pub job_few : is_job n m k ≡ true → (n ≤ 62) × (m ≤ 64) × (k ≤ 512)
-  unfolding is_job
-  job_few e =
-      let a = and_l _ _ e in
-      let b = and_l _ _ a in
-      (leb-true n 62 (and_l _ _ b), leb-true m 64 (and_r _ _ b), leb-true k 512 (and_r _ _ e))
+-- counts that are a job's
+pub job_few : (n m k : ℕ) → is_job n m k ≡ true → (n ≤ 62) × (m ≤ 64) × (k ≤ 512)
+unfolding is_job
+job_few n m k e =
+    let a = and_l _ _ e in
+    let b = and_l _ _ a in
+    (leb-true n 62 (and_l _ _ b), leb-true m 64 (and_r _ _ b), leb-true k 512 (and_r _ _ e))
 
 pub root_small : (n : ℕ) {r : ℕ} → r ≡ predecessor n → n ≤ most_expressions → r < 65536
 root_small n e h = omega (arith, e, predecessor_minus n)
@@ -94,27 +75,3 @@ begun names n types values m rights cmds of bound r hn hm eb er sn sv so =
         sv.same
         ∙ ap (λ (f : ℕ → ℕ). add_values f 0 (values_from types values 0 m) (record { cells = []; bindings = list_of link_in bound (r.nkeys - 2) })) key
         ∙ ap (λ (s : Named). add_values (key_named S) 0 (values_from types values 0 m) (record { cells = []; bindings = s.bindings })) all
-
--- the counts as they are where they can be a job's, else those of no job
-pub as_counted : (j : Bool) (x : ℕ) → j ≡ true → x ≡ cond j x 0
-as_counted j x e = rw e refl
-
-pub not_counted : (j : Bool) (x : ℕ) → j ≡ false → 0 ≡ cond j x 0
-not_counted j x e = rw e refl
-
-pub counted_few : (n m k : ℕ) {a b c : ℕ} → a ≡ cond (is_job n m k) n 0 → b ≡ cond (is_job n m k) m 0 → c ≡ cond (is_job n m k) k 0 → (a ≤ 62) × (b ≤ 64) × (c ≤ 512)
-counted_few n m k {a} {b} {c} ea eb ec = at (is_job n m k) refl ea eb ec
-  where
-    at : (j : Bool) → is_job n m k ≡ j → a ≡ cond j n 0 → b ≡ cond j m 0 → c ≡ cond j k 0 → (a ≤ 62) × (b ≤ 64) × (c ≤ 512)
-    at true h x y z = let f = job_few n m k h in (omega (arith, f.0), omega (arith, f.1), omega (arith, f.2))
-    at false h x y z = (omega arith, omega arith, omega arith)
-
-pub counted_start : (names : List ℕ) (n : ℕ) (types values : List ℕ) (m rights k : ℕ) {r : Initial} {a b s c : ℕ}
-    → a ≡ cond (is_job n m k) n 0 → b ≡ cond (is_job n m k) m 0 → s ≡ cond (is_job n m k) rights 0 → c ≡ cond (is_job n m k) k 0
-    → Begun (word_source names a types values b s c) r → Begun (source_in names n types values m rights k) r
-unfolding source_in word_source no_job names_in values_from
-counted_start names n types values m rights k {r} {a} {b} {s} {c} ea eb es ec g = at (is_job n m k) ea eb es ec
-  where
-    at : (j : Bool) → a ≡ cond j n 0 → b ≡ cond j m 0 → s ≡ cond j rights 0 → c ≡ cond j k 0 → Begun (cond j (word_source names n types values m rights k) no_job) r
-    at true x y z w = subst (λ (q : ℕ × ℕ × ℕ × ℕ). Begun (word_source names q.0 types values q.1 q.2 q.3) r) (λ i. (x i, y i, z i, w i)) g
-    at false x y z w = subst (λ (q : ℕ × ℕ × ℕ × ℕ). Begun (word_source names q.0 types values q.1 q.2 q.3) r) (λ i. (x i, y i, z i, w i)) g

@@ -15,9 +15,7 @@ ghost use Rattle.initial.specs.Entries.{key_in, head_of, NameEntered, NamesEnter
 ghost use Rattle.initial.specs.Begun.{word_source, is_job, source_in, Begun};
 
 use store::{BINDING_WORDS, CELL_WORDS, KEY_BYTES, Keys, Kind, Value};
-use table::{
-    Key, MOST_DECLARED, MOST_EXPRESSIONS, MOST_NAMES, MOST_VARIABLES, Name, at8, at16, at64, last,
-};
+use table::{Key, MOST_DECLARED, MOST_EXPRESSIONS, MOST_NAMES, MOST_VARIABLES, Name, get_or, last};
 
 // The tables, how many entries each has, the enabled keys, and the expression to enter.
 #[derive(Drop)]
@@ -37,10 +35,7 @@ fn key_of(of: &[u8; MOST_NAMES], n: usize, q: Name) -> Key
     ensures { result.0 ≡ key_in of.now n q.0 }
 {
     let i = q.0 as usize;
-    if i < n {
-        return Key(at8(of, i));
-    }
-    Key(0)
+    if i < n { Key(get_or(of, i, 0)) } else { Key(0) }
 }
 
 // The key of name q is k.
@@ -48,9 +43,7 @@ fn put_key(of: &mut [u8; MOST_NAMES], q: Name, k: Key)
     requires { q.0 < most_names }
     ensures { Wrote up_in of.old of.new q.0 k.0 }
 {
-    let i = q.0 as usize;
-    let s = &mut of[..];
-    s[i] = k.0;
+    of[q.0 as usize] = k.0;
 }
 
 // Name q, after those before it: a host name has the next key, below its upper name's, and is bound to it. Returns the number of keys.
@@ -67,12 +60,10 @@ fn enter_name(
         keys.new of.new bindings.new result }
 {
     let n = q.0 as usize;
-    let w = at16(names, n);
+    let w = get_or(names, n, 0);
     if w / 256 == 1 {
-        let i = nkeys as u8;
-        let k = Key(i);
-        let a = (w % 256) as u8;
-        let upper = key_of(of, n, Name(a));
+        let k = Key(nkeys as u8);
+        let upper = key_of(of, n, Name((w % 256) as u8));
         store::put_up(keys, nkeys, upper);
         put_key(of, q, k);
         store::put_name(bindings, nkeys - 2, q.0, k, nkeys - 2);
@@ -98,11 +89,8 @@ fn enter_names(
     put_key(of, Name(0), Key(0));
     put_key(of, Name(1), Key(1));
     let mut nkeys: u16 = 2;
-    let mut k: usize = 0;
-    while k < n {
-        let i = (k + 2) as u8;
-        nkeys = enter_name(names, Name(i), nkeys, keys, of, bindings);
-        k = k + 1;
+    for k in 0..n {
+        nkeys = enter_name(names, Name((k + 2) as u8), nkeys, keys, of, bindings);
     }
     nkeys
 }
@@ -111,24 +99,22 @@ fn enter_names(
 fn host_value(of: &[u8; MOST_NAMES], n: usize, w: u64, c: u16) -> Value
     ensures { value_in result ≡ host_value (key_in of.now n) (head_of w) c }
 {
-    let a = (w / 256 % 256) as u8;
-    let q = key_of(of, n, Name(a));
-    let b = (w / 65536 % 256) as u8;
-    let r = key_of(of, n, Name(b));
-    let number = r.0 as u32;
+    let key = key_of(of, n, Name((w / 256 % 256) as u8));
+    let other = key_of(of, n, Name((w / 65536 % 256) as u8));
+    let number = other.0 as u32;
     match w % 256 {
         0x12 => Value {
-            key: q,
+            key,
             kind: Kind::Cell,
             payload: c as u32,
         },
         0x14 => Value {
-            key: q,
+            key,
             kind: Kind::Limit,
             payload: number,
         },
         0x15 => Value {
-            key: q,
+            key,
             kind: Kind::Grant,
             payload: number,
         },
@@ -172,8 +158,8 @@ fn enter_value(
     ensures { ValueEntered (key_in of.now n) types.now values.now v ncells nbindings
         cells.old bindings.old cells.new bindings.new result }
 {
-    let w = at64(values, v);
-    let t = at64(types, (w / 256 % 65536) as usize);
+    let w = get_or(values, v, 0);
+    let t = get_or(types, (w / 256 % 65536) as usize, 0);
     let x = host_value(of, n, t, ncells);
     store::put_variable(bindings, nbindings, v as u8, x, nbindings);
     if t % 256 == 0x12 {
@@ -199,11 +185,9 @@ fn enter_values(
         bindings.old cells.new bindings.new result }
 {
     let mut ncells: u16 = 0;
-    let mut v: usize = 0;
-    while v < m {
+    for v in 0..m {
         let at = nbindings + (v as u16);
         ncells = enter_value(types, values, of, n, v, ncells, at, cells, bindings);
-        v = v + 1;
     }
     ncells
 }
@@ -215,11 +199,11 @@ fn enabled_keys(of: &[u8; MOST_NAMES], n: usize, nkeys: u16, rights: u64) -> Key
 {
     let mut on = Keys(0, 0);
     let mut rest = rights - rights % 2;
+    // Stays a while: no iterator of std goes over the bits of a word.
     while 0 < rest {
-        let i = u64::trailing_zeros(rest) as u8;
-        let k = key_of(of, n, Name(i));
+        let k = key_of(of, n, Name(rest.trailing_zeros() as u8));
         on = store::add(nkeys as u64, on, k);
-        rest = rest & (rest - 1);
+        rest &= rest - 1;
     }
     on
 }
@@ -255,13 +239,13 @@ fn entered(
     );
     let on = enabled_keys(&of, nnames + 2, nkeys, rights);
     Initial {
-        keys: keys,
-        cells: cells,
-        bindings: bindings,
-        nkeys: nkeys,
-        ncells: ncells,
+        keys,
+        cells,
+        bindings,
+        nkeys,
+        ncells,
         nbindings: first + (nvalues as u16),
-        on: on,
+        on,
         root: last(cmds) as u16,
     }
 }
@@ -270,48 +254,7 @@ fn entered(
 fn is_job(nnames: usize, nvalues: usize, cmds: usize) -> bool
     ensures { result ≡ is_job nnames nvalues cmds }
 {
-    if MOST_DECLARED < nnames {
-        return false;
-    }
-    if MOST_VARIABLES < nvalues {
-        return false;
-    }
-    if cmds == 0 {
-        return false;
-    }
-    cmds <= MOST_EXPRESSIONS
-}
-
-// How many names, host values and expressions a start has, and its rights.
-#[derive(Clone, Copy)]
-struct Counts {
-    names: usize,
-    values: usize,
-    rights: u64,
-    cmds: usize,
-}
-
-// The counts as they are where they can be a job's, else those of no job.
-fn counted(nnames: usize, nvalues: usize, rights: u64, cmds: usize) -> Counts
-    ensures names { result.names ≡ cond (is_job nnames nvalues cmds) nnames 0 }
-    ensures values { result.values ≡ cond (is_job nnames nvalues cmds) nvalues 0 }
-    ensures rights { result.rights ≡ cond (is_job nnames nvalues cmds) rights 0 }
-    ensures cmds { result.cmds ≡ cond (is_job nnames nvalues cmds) cmds 0 }
-{
-    if is_job(nnames, nvalues, cmds) {
-        return Counts {
-            names: nnames,
-            values: nvalues,
-            rights: rights,
-            cmds: cmds,
-        };
-    }
-    Counts {
-        names: 0,
-        values: 0,
-        rights: 0,
-        cmds: 0,
-    }
+    nnames <= MOST_DECLARED && nvalues <= MOST_VARIABLES && 0 < cmds && cmds <= MOST_EXPRESSIONS
 }
 
 // The tables at the start of the job that the words hold. Where the counts are no job's, nothing is entered and nothing is enabled.
@@ -326,6 +269,9 @@ pub fn tables(
 ) -> Initial
     ensures { Begun (source_in names.now nnames types.now values.now nvalues rights cmds) result }
 {
-    let c = counted(nnames, nvalues, rights, cmds);
-    entered(names, c.names, types, values, c.values, c.rights, c.cmds)
+    if is_job(nnames, nvalues, cmds) {
+        entered(names, nnames, types, values, nvalues, rights, cmds)
+    } else {
+        entered(names, 0, types, values, 0, 0, 0)
+    }
 }

@@ -10,11 +10,11 @@ use borrow.Author.Tests.{lt-ltb}
 use Rattle.syntax.specs.Job.{Name}
 use Rattle.names.specs.Ancestors.{name_of, names_in, entered, ancestors_by}
 use Rattle.names.proofs.Pass.{pass_next}
-use Rattle.entry.specs.Entries.{judged_by, judged_in}
+use Rattle.entry.specs.Entries.{Judged, judged_by, judged_in}
 use Rattle.entry.specs.Shapes.{shape_of}
 use Rattle.entry.specs.declared.Shape.{Shape}
 use Rattle.entry.specs.declared.Entry.{Entry}
-use Rattle.entry.specs.declared.Entry.TheVariants.{Refuse, Named, Typed, Valued, Rights, Formed, Last}
+use Rattle.entry.specs.declared.Entry.TheVariants.{Named, Typed, Valued, Rights, Formed, Last}
 use Rattle.job.specs.After.{names_after, shape_after, ancestors_after}
 use Rattle.job.proofs.Going.{Loop}
 
@@ -38,7 +38,6 @@ named n anc k w h e =
 entry_turn : (e : Entry) (g : Shape) (n anc : List ℕ) → (shape_after e g).names ≤ 62 → 64 ≤ length n → anc ≡ ancestors_by (names_in n g.names)
     → ancestors_after e g.names anc ≡ ancestors_by (names_in (names_after e g n) (shape_after e g).names)
 unfolding shape_after names_after ancestors_after
-entry_turn (Refuse k) g n anc h m e = e
 entry_turn (Named w) g n anc h k e =
     ap (λ (b : Bool). cond b (entered anc (g.names + 2) (name_of w)) anc) (lt-ltb (g.names + 2) 64 (omega arith)) ∙ named n anc g.names w (omega arith) e
 entry_turn (Typed w s d) g n anc h k e = e
@@ -62,5 +61,5 @@ module _ {bytes left : List ℕ} {cur : ℕ} {g : Shape} {d n t u v h p n₀ t�
       ea ∙ entry_turn e g₁ n₁ anc (omega (arith, few)) (omega (arith, k.long.names)) i ∙ ap₂ (λ (l : List ℕ) (y : Shape). ancestors_by (names_in l y.names)) (sym en) (sym eg)
 
 -- what a command comes to, by the table of ancestors that the loop keeps
-pub judged_kept : (b : ℕ) (s : List ℕ) (cur : ℕ) (g : Shape) (anc n t d : List ℕ) (e : Entry) → e ≡ judged_by b s cur g anc n t d → anc ≡ ancestors_by (names_in n g.names) → e ≡ judged_in b s cur g n t d
-judged_kept b s cur g anc n t d e ee ea = ee ∙ ap (λ (l : List ℕ). judged_by b s cur g l n t d) ea
+pub judged_kept : (b : ℕ) (s : List ℕ) (cur : ℕ) (g : Shape) (anc n t d : List ℕ) (r : Judged) → r ≡ judged_by b s cur g anc n t d → anc ≡ ancestors_by (names_in n g.names) → r ≡ judged_in b s cur g n t d
+judged_kept b s cur g anc n t d r er ea = er ∙ ap (λ (l : List ℕ). judged_by b s cur g l n t d) ea

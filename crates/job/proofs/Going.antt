@@ -1,15 +1,16 @@
 -- Reading command by command: the tables hold the job read so far, and what is left decides the answer.
 use mathlib.Core.Path.{◌≡◌, refl, sym, ap, ◌∙◌, subst}
+use Rattle.std.specs.Prelude.{Ok, Err}
 use Prim.Native.Nat.{ℕ, zero, suc, ◌+◌, ◌-◌, ◌*◌, ◌≤◌, ◌<◌}
 use native.Mathlib.Omega.{arith}
 use native.Mathlib.Numerals.{add-one}
 use mathlib.Core.Bool.{Bool, true, false, cond, true≢false, false≢true}
 use mathlib.Core.List.{List, [], ◌∷◌, ◌++◌, map, flat_map}
 use mathlib.Core.Option.{Option, none, some}
-use lib.ListN.{length, get_or, set, drop, replicate, length-drop, length-map, length-append, length-replicate, length-set}
+use lib.ListN.{length, get_or, set, drop, replicate, length-drop, length-map, length-append, drop_of_length-le, length-replicate, length-set}
 use lib.Seq.{get_or-set_same, get_or-set_other}
 use lib.Dec.{ltb, leb}
-use borrow.Author.Tests.{leb-true, ltb-true, ltb-false, eq-eqb, ne_eqb}
+use borrow.Author.Tests.{leb-true, ltb-true, ltb-false}
 use Rattle.order.proofs.OrderLaws.{length_snoc}
 use Rattle.order.specs.Effects.{of_word}
 use Rattle.syntax.specs.Types.{TypeEntry, tree, depth}
@@ -24,19 +25,17 @@ use Rattle.syntax.proofs.ReadFormed.{map_snoc, names_proper, types_earlier}
 use Rattle.syntax.proofs.WordLaws.{filled_none, filled_length, word_at}
 use Rattle.names.specs.Ancestors.{names_in}
 use Rattle.names.proofs.Tables as tables
-use Rattle.entry.specs.Bytes.{width_byte, rest_of}
-use Rattle.entry.specs.Entries.{judged_by, judged_in, stops_of, sort_of}
+use Rattle.entry.specs.Bytes.{width_byte, section_byte, rest_of}
+use Rattle.entry.specs.Entries.{Judged, judged_by, judged_in, stops_of}
 use Rattle.entry.specs.Shapes.{shape_of, no_shape}
 use Rattle.entry.specs.declared.Shape.{Shape}
 use Rattle.entry.specs.declared.Entry.{Entry}
-use Rattle.entry.specs.declared.Entry.TheVariants.{Refuse, Named, Typed, Valued, Rights, Formed}
-use Rattle.entry.proofs.OpBytes.{width_is, width_none}
+use Rattle.entry.specs.declared.Entry.TheVariants.{Named, Typed, Valued, Rights, Formed, Last}
+use Rattle.entry.proofs.OpBytes.{op_byte, section_is, width_is, width_none}
 use Rattle.entry.proofs.Entered.{extended, words_of, new_depth, entry_w}
-use Rattle.entry.proofs.Agree.{Kept, Adds, adds_name, adds_type, adds_value, adds_rights, adds_cmd, Agrees, ag_refuse, ag_last, ag_on, agrees, sort_on}
+use Rattle.entry.proofs.Agree.{Kept, Adds, adds_name, adds_type, adds_value, adds_rights, adds_cmd, Agrees, ag_refuse, ag_last, ag_on, agrees}
 use Rattle.job.specs.After.{names_after, types_after, sets_after, depths_after, values_after, heads_after, slots_after, shape_after}
-use Rattle.job.specs.Answer.{refused_by, answer_of, long_enough, long_tables, Cleared, Holds, Filled, Put, Small, stopped_of}
-use Rattle.job.specs.declared.Answer.{Answer}
-use Rattle.job.specs.declared.Answer.TheVariants as answers
+use Rattle.job.specs.Answer.{Answer, refused_by, answer_of, long_enough, long_tables, Cleared, Holds, Filled, Put, Small}
 use Rattle.job.proofs.Filling.{stored, filled_two, filled_five, flat_snoc, five_entries}
 
 -- every table is as long as its limit
@@ -300,6 +299,21 @@ rest_is : (b : ℕ) (s : List ℕ) (o : Op) → op_of b ≡ some o → rest_of (
 unfolding rest_of
 rest_is b s o e = ap (λ (k : ℕ). drop (k + 1) (b ∷ s)) (width_is b o e) ∙ ap (λ (k : ℕ). drop k (b ∷ s)) (add-one (width o))
 
+-- a byte that is no command
+judged_none : (b : ℕ) (s : List ℕ) (cur : ℕ) (g : Shape) (n t d : List ℕ) → op_of b ≡ none → judged_in b s cur g n t d ≡ Err 2
+unfolding judged_by
+judged_none b s cur g n t d e = simp (width_none b e)
+
+read_none : (f pos : ℕ) (st : State) (b : ℕ) (s : List ℕ) → op_of b ≡ none → read_from (suc f) pos st (b ∷ s) ≡ refused_at 2 pos
+unfolding read_from on_op
+read_none f pos st b s e = ap (λ (y : Option Op). on_op y pos (λ op. onward (command op s st) pos s (λ next. read_from f (pos + 1 + width op) next (drop (width op) s)))) e
+
+not_ok : (m : ℕ) (e : Entry) → ◌≡◌ {A = Judged} (Err m) (Ok e) → ⊥
+not_ok m e h = cc
+
+same_number : (m k : ℕ) → ◌≡◌ {A = Judged} (Err m) (Err k) → m ≡ k
+same_number m k h = cc
+
 stops_entry : (x : Written) (J : Job) → Adds x → stops_of (entry_w x J) ≡ false
 unfolding stops_of entry_w
 stops_entry x J (adds_name y) = refl
@@ -308,38 +322,27 @@ stops_entry x J (adds_value y) = refl
 stops_entry x J (adds_rights y) = refl
 stops_entry x J (adds_cmd y l) = refl
 
-stops_refuse : (n : ℕ) → stops_of (Refuse n) ≡ true
-unfolding stops_of
-stops_refuse n = refl
-
-stopped_refuse : (n : ℕ) (g : Shape) (place left : ℕ) → stopped_of (Refuse n) g place left ≡ refused_by n place
-unfolding stopped_of
-stopped_refuse n g place left = refl
-
--- a byte that is no command
-judged_none : (b : ℕ) (s : List ℕ) (cur : ℕ) (g : Shape) (n t d : List ℕ) → op_of b ≡ none → judged_in b s cur g n t d ≡ Refuse 2
-unfolding judged_by
-judged_none b s cur g n t d e = simp (width_none b e)
-
-read_none : (f pos : ℕ) (st : State) (b : ℕ) (s : List ℕ) → op_of b ≡ none → read_from (suc f) pos st (b ∷ s) ≡ refused_at 2 pos
-unfolding read_from on_op
-read_none f pos st b s e = ap (λ (y : Option Op). on_op y pos (λ op. onward (command op s st) pos s (λ next. read_from f (pos + 1 + width op) next (drop (width op) s)))) e
+same_entry : (x e : Entry) → ◌≡◌ {A = Judged} (Ok x) (Ok e) → x ≡ e
+same_entry x e h = cc
 
 -- reading goes on after a command that adds to the job
 step_on : (bytes : List ℕ) (b : ℕ) (s : List ℕ) (cur : ℕ) (g g' : Shape) (d n t u v h p d' n' t' u' v' h' p' : List ℕ) (kn kt ks kv kh kp : ℕ) → Long kn kt ks kv kh kp
     → (k : Going bytes (b ∷ s) cur g d n t u v h p kn kt ks kv kh kp) (o : Op) → op_of b ≡ some o
-    → {x : Step} {e : Entry} → Agrees k.J (section_of o) (width o) (length s) x e → command o s (record { section = cur; job = k.J }) ≡ x → StepOk x → stops_of e ≡ false
+    → {x : Step} {r : Judged} → Agrees k.J (section_of o) (width o) (length s) x r → command o s (record { section = cur; job = k.J }) ≡ x → StepOk x → (e : Entry) → r ≡ Ok e → stops_of e ≡ false
     → g' ≡ shape_after e g → Put e g d n t u v h p d' n' t' u' v' h' p' → Going bytes (drop (width o) s) (section_of o) g' d' n' t' u' v' h' p' kn kt ks kv kh kp
 unfolding stops_of onward
-step_on bytes b s cur g g' d n t u v h p d' n' t' u' v' h' p' kn kt ks kv kh kp long k o eo (ag_refuse m) ex ok es w' q = absurd (true≢false es)
-step_on bytes b s cur g g' d n t u v h p d' n' t' u' v' h' p' kn kt ks kv kh kp long k o eo ag_last ex ok es w' q = absurd (true≢false es)
-step_on bytes b s cur g g' d n t u v h p d' n' t' u' v' h' p' kn kt ks kv kh kp long k o eo (ag_on x a q₀ okay l) ex ok es w' q = at k.fuel k.enough k.same
+step_on bytes b s cur g g' d n t u v h p d' n' t' u' v' h' p' kn kt ks kv kh kp long k o eo (ag_refuse m) ex ok e er es w' q = absurd (not_ok m e er)
+step_on bytes b s cur g g' d n t u v h p d' n' t' u' v' h' p' kn kt ks kv kh kp long k o eo ag_last ex ok e er es w' q = absurd (true≢false (ap stops_of (same_entry Last e er) ∙ es))
+step_on bytes b s cur g g' d n t u v h p d' n' t' u' v' h' p' kn kt ks kv kh kp long k o eo (ag_on x a okay l) ex ok e er es w' q = at k.fuel k.enough k.same
   where
     st : State
     st = record { section = cur; job = k.J }
 
     next : State
     next = record { section = section_of o; job = extended x k.J }
+
+    its : e ≡ entry_w x k.J
+    its = sym (same_entry (entry_w x k.J) e er)
 
     more : Sofar (section_of o) (extended x k.J)
     more = sofar_of ok next refl
@@ -353,7 +356,7 @@ step_on bytes b s cur g g' d n t u v h p d' n' t' u' v' h' p' kn kt ks kv kh kp 
         record {
           J = extended x k.J;
           sofar = more;
-          tables = extend_tables k.J g g' d n t u v h p d' n' t' u' v' h' p' kn kt ks kv kh kp long k.tables x a k.sofar.types (section_of o) more w' q;
+          tables = extend_tables k.J g g' d n t u v h p d' n' t' u' v' h' p' kn kt ks kv kh kp long k.tables x a k.sofar.types (section_of o) more (w' ∙ ap (λ (y : Entry). shape_after y g) its) (subst (λ (y : Entry). Put y g d n t u v h p d' n' t' u' v' h' p') its q);
           fuel = f;
           enough = omega arith;
           within = omega arith;
@@ -365,26 +368,25 @@ step_on bytes b s cur g g' d n t u v h p d' n' t' u' v' h' p' kn kt ks kv kh kp 
 -- a turn of the loop
 pub turn : (bytes left : List ℕ) (cur : ℕ) (g g' : Shape) (d n t u v h p d' n' t' u' v' h' p' : List ℕ) (kn kt ks kv kh kp : ℕ) → Long kn kt ks kv kh kp
     → Going bytes left cur g d n t u v h p kn kt ks kv kh kp → 0 < length left
-    → (e : Entry) → e ≡ judged_in (get_or left 0 0) left cur g n t d → stops_of e ≡ false → g' ≡ shape_after e g → Put e g d n t u v h p d' n' t' u' v' h' p'
-    → (cur' : ℕ) → cur' ≡ sort_of e → (left' : List ℕ) → left' ≡ rest_of left → Going bytes left' cur' g' d' n' t' u' v' h' p' kn kt ks kv kh kp
-turn bytes [] cur g g' d n t u v h p d' n' t' u' v' h' p' kn kt ks kv kh kp long k z e ee es w' q cur' ec left' el = absurd (omega arith)
-turn bytes (a ∷ s) cur g g' d n t u v h p d' n' t' u' v' h' p' kn kt ks kv kh kp long k z e ee es w' q cur' ec left' el = at (op_of a) refl
+    → (e : Entry) → Ok e ≡ judged_in (get_or left 0 0) left cur g n t d → stops_of e ≡ false → g' ≡ shape_after e g → Put e g d n t u v h p d' n' t' u' v' h' p'
+    → Going bytes (rest_of left) (section_byte (get_or left 0 0)) g' d' n' t' u' v' h' p' kn kt ks kv kh kp
+turn bytes [] cur g g' d n t u v h p d' n' t' u' v' h' p' kn kt ks kv kh kp long k z e ee es w' q = absurd (omega arith)
+turn bytes (a ∷ s) cur g g' d n t u v h p d' n' t' u' v' h' p' kn kt ks kv kh kp long k z e ee es w' q = at (op_of a) refl
   where
     st : State
     st = record { section = cur; job = k.J }
 
-    ej : e ≡ judged_in a (a ∷ s) cur (shape_of k.J) n t d
+    ej : Ok e ≡ judged_in a (a ∷ s) cur (shape_of k.J) n t d
     ej = ee ∙ ap (λ (y : Shape). judged_in a (a ∷ s) cur y n t d) k.tables.shape
 
-    at : (o : Option Op) → op_of a ≡ o → Going bytes left' cur' g' d' n' t' u' v' h' p' kn kt ks kv kh kp
-    at none eo = absurd (true≢false (sym (ap stops_of (ej ∙ judged_none a (a ∷ s) cur (shape_of k.J) n t d eo) ∙ stops_refuse 2) ∙ es))
+    at : (o : Option Op) → op_of a ≡ o → Going bytes (rest_of (a ∷ s)) (section_byte a) g' d' n' t' u' v' h' p' kn kt ks kv kh kp
+    at none eo = absurd (not_ok 2 e (sym (ej ∙ judged_none a (a ∷ s) cur (shape_of k.J) n t d eo)))
     at (some o) eo =
         let x = agrees k.J n t d (kept k.sofar k.tables) cur a o s eo in
-        let y = step_on bytes a s cur g g' d n t u v h p d' n' t' u' v' h' p' kn kt ks kv kh kp long k o eo x refl (step_ok o s st k.sofar) (ap stops_of (sym ej) ∙ es)
-        (w' ∙ ap (λ (w : Entry). shape_after w g) ej) (subst (λ (w : Entry). Put w g d n t u v h p d' n' t' u' v' h' p') ej q) in
-        let l : drop (width o) s ≡ left' = sym (el ∙ rest_is a s o eo) in
-        let c : section_of o ≡ cur' = sym (ec ∙ ap sort_of ej ∙ sort_on x (ap stops_of (sym ej) ∙ es)) in
-        subst (λ (i : ℕ). Going bytes left' i g' d' n' t' u' v' h' p' kn kt ks kv kh kp) c
+        let y = step_on bytes a s cur g g' d n t u v h p d' n' t' u' v' h' p' kn kt ks kv kh kp long k o eo x refl (step_ok o s st k.sofar) e (sym ej) es w' q in
+        let l : drop (width o) s ≡ rest_of (a ∷ s) = sym (rest_is a s o eo) in
+        let c : section_of o ≡ section_byte a = sym (ap section_byte (op_byte a o eo) ∙ section_is o) in
+        subst (λ (i : ℕ). Going bytes (rest_of (a ∷ s)) i g' d' n' t' u' v' h' p' kn kt ks kv kh kp) c
         (subst (λ (m : List ℕ). Going bytes m (section_of o) g' d' n' t' u' v' h' p' kn kt ks kv kh kp) l y)
 
 -- Where reading stops
@@ -398,64 +400,95 @@ unfolding answer_of
 filled_refused bytes r m pos n t u v h p kn kt ks kv kh kp e f =
     record { answer = f ∙ sym (ap answer_of e); tables = λ J z. absurd (refused_not m pos J (sym e ∙ z)) }
 
-stop_at : (bytes : List ℕ) (b : ℕ) (s : List ℕ) (cur : ℕ) (g : Shape) (d n t u v h p : List ℕ) (kn kt ks kv kh kp : ℕ)
+-- where the command is refused, so is the job
+refused_at_cmd : (bytes : List ℕ) (b : ℕ) (s : List ℕ) (cur : ℕ) (g : Shape) (d n t u v h p : List ℕ) (kn kt ks kv kh kp : ℕ)
     → (k : Going bytes (b ∷ s) cur g d n t u v h p kn kt ks kv kh kp) (o : Op) → op_of b ≡ some o
-    → {x : Step} {e : Entry} → Agrees k.J (section_of o) (width o) (length s) x e → command o s (record { section = cur; job = k.J }) ≡ x → stops_of e ≡ true
-    → (r : Answer) → r ≡ stopped_of e g (length bytes - suc (length s)) (suc (length s)) → Filled bytes r n t u v h p kn kt ks kv kh kp
-unfolding stops_of stopped_of onward ended answer_of
-stop_at bytes b s cur g d n t u v h p kn kt ks kv kh kp k o eo (ag_refuse m) ex es r er = at k.fuel k.enough k.same
+    → {x : Step} {r : Judged} → Agrees k.J (section_of o) (width o) (length s) x r → command o s (record { section = cur; job = k.J }) ≡ x → (m : ℕ) → r ≡ Err m
+    → reading bytes ≡ refused_at m (length bytes - suc (length s))
+unfolding onward
+refused_at_cmd bytes b s cur g d n t u v h p kn kt ks kv kh kp k o eo (ag_refuse i) ex m er = at k.fuel k.enough k.same
   where
-    at : (f : ℕ) → suc (length s) < f → reading bytes ≡ read_from f (length bytes - suc (length s)) (record { section = cur; job = k.J }) (b ∷ s) → Filled bytes r n t u v h p kn kt ks kv kh kp
+    at : (f : ℕ) → suc (length s) < f → reading bytes ≡ read_from f (length bytes - suc (length s)) (record { section = cur; job = k.J }) (b ∷ s) → reading bytes ≡ refused_at m (length bytes - suc (length s))
     at zero z y = absurd (omega arith)
-    at (suc f) z y = filled_refused bytes r m (length bytes - suc (length s)) n t u v h p kn kt ks kv kh kp (y ∙ read_op f (length bytes - suc (length s)) (record { section = cur; job = k.J }) b s o (refuse m) eo ex) er
-stop_at bytes b s cur g d n t u v h p kn kt ks kv kh kp k o eo ag_last ex es r er = at k.fuel k.enough k.same s refl
+    at (suc f) z y =
+        let same : i ≡ m = same_number i m er in
+        y ∙ read_op f (length bytes - suc (length s)) (record { section = cur; job = k.J }) b s o (refuse i) eo ex ∙ ap (λ (j : ℕ). refused_at j (length bytes - suc (length s))) same
+refused_at_cmd bytes b s cur g d n t u v h p kn kt ks kv kh kp k o eo ag_last ex m er = absurd (not_ok m Last (sym er))
+refused_at_cmd bytes b s cur g d n t u v h p kn kt ks kv kh kp k o eo (ag_on x a okay l) ex m er = absurd (not_ok m (entry_w x k.J) (sym er))
+
+-- at the end, the job is read where no byte follows
+ended_at : (bytes : List ℕ) (b : ℕ) (s : List ℕ) (cur : ℕ) (g : Shape) (d n t u v h p : List ℕ) (kn kt ks kv kh kp : ℕ)
+    → (k : Going bytes (b ∷ s) cur g d n t u v h p kn kt ks kv kh kp) (o : Op) → op_of b ≡ some o
+    → {x : Step} {r : Judged} → Agrees k.J (section_of o) (width o) (length s) x r → command o s (record { section = cur; job = k.J }) ≡ x → r ≡ Ok Last
+    → reading bytes ≡ ended (suc (length bytes - suc (length s))) s k.J
+unfolding onward stops_of
+ended_at bytes b s cur g d n t u v h p kn kt ks kv kh kp k o eo (ag_refuse i) ex er = absurd (not_ok i Last er)
+ended_at bytes b s cur g d n t u v h p kn kt ks kv kh kp k o eo ag_last ex er = at k.fuel k.enough k.same
   where
-    pos : ℕ
-    pos = length bytes - suc (length s)
+    at : (f : ℕ) → suc (length s) < f → reading bytes ≡ read_from f (length bytes - suc (length s)) (record { section = cur; job = k.J }) (b ∷ s)
+        → reading bytes ≡ ended (suc (length bytes - suc (length s))) s k.J
+    at zero z y = absurd (omega arith)
+    at (suc f) z y = y ∙ read_op f (length bytes - suc (length s)) (record { section = cur; job = k.J }) b s o (finish k.J) eo ex
+ended_at bytes b s cur g d n t u v h p kn kt ks kv kh kp k o eo (ag_on x a okay l) ex er = absurd (true≢false (ap stops_of (sym (same_entry (entry_w x k.J) Last er)) ∙ stops_entry x k.J a))
 
-    same_job : (J : Job) → read k.J ≡ read J → k.J ≡ J
-    same_job J e = cc
-
-    at : (f : ℕ) → suc (length s) < f → reading bytes ≡ read_from f pos (record { section = cur; job = k.J }) (b ∷ s) → (l : List ℕ) → s ≡ l → Filled bytes r n t u v h p kn kt ks kv kh kp
-    at zero z y l el = absurd (omega arith)
-    at (suc f) z y [] el =
-        let w : reading bytes ≡ read k.J = y ∙ read_op f pos (record { section = cur; job = k.J }) b s o (finish k.J) eo ex ∙ ap (λ (m : List ℕ). ended (suc pos) m k.J) el in
-        let i : length s ≡ 0 = ap length el in
-        let j : suc (length s) ≡ 1 = omega arith in
-        record {
-          answer = er ∙ ap (λ (c : Bool). cond c (answers.Job g) (refused_by 7 (pos + 1))) (eq-eqb (suc (length s)) 1 j) ∙ ap answers.Job k.tables.shape ∙ sym (ap answer_of w);
-          tables = λ J e. subst (λ (I : Job). Holds I n t u v h p kn kt ks kv kh kp) (same_job J (sym w ∙ e)) k.tables.holds;
-        }
-    at (suc f) z y (c ∷ l) el =
-        let w : reading bytes ≡ refused_at 7 (suc pos) = y ∙ read_op f pos (record { section = cur; job = k.J }) b s o (finish k.J) eo ex ∙ ap (λ (m : List ℕ). ended (suc pos) m k.J) el in
-        let i : length s ≡ suc (length l) = ap length el in
-        filled_refused bytes r 7 (suc pos) n t u v h p kn kt ks kv kh kp w
-        (er ∙ ap (λ (c : Bool). cond c (answers.Job g) (refused_by 7 (pos + 1))) (ne_eqb (suc (length s)) 1 (λ j. omega arith)) ∙ ap (λ (m : ℕ). refused_by 7 m) (add-one pos))
-stop_at bytes b s cur g d n t u v h p kn kt ks kv kh kp k o eo (ag_on x a q₀ okay l) ex es r er = absurd (true≢false (sym es ∙ stops_entry x k.J a))
-
-pub stop : (bytes left : List ℕ) (cur : ℕ) (g : Shape) (d n t u v h p : List ℕ) (kn kt ks kv kh kp : ℕ) → Going bytes left cur g d n t u v h p kn kt ks kv kh kp → 0 < length left
-    → (e : Entry) → e ≡ judged_in (get_or left 0 0) left cur g n t d → stops_of e ≡ true → (r : Answer) → r ≡ stopped_of e g (length bytes - length left) (length left)
-    → Filled bytes r n t u v h p kn kt ks kv kh kp
-stop bytes [] cur g d n t u v h p kn kt ks kv kh kp k z e ee es r er = absurd (omega arith)
-stop bytes (a ∷ s) cur g d n t u v h p kn kt ks kv kh kp k z e ee es r er = at (op_of a) refl
+pub stop_refused : (bytes left : List ℕ) (cur : ℕ) (g : Shape) (d n t u v h p : List ℕ) (kn kt ks kv kh kp : ℕ) → Going bytes left cur g d n t u v h p kn kt ks kv kh kp → 0 < length left
+    → (m : ℕ) → Err m ≡ judged_in (get_or left 0 0) left cur g n t d → Filled bytes (refused_by m (length bytes - length left)) n t u v h p kn kt ks kv kh kp
+stop_refused bytes [] cur g d n t u v h p kn kt ks kv kh kp k z m em = absurd (omega arith)
+stop_refused bytes (a ∷ s) cur g d n t u v h p kn kt ks kv kh kp k z m em =
+    filled_refused bytes (refused_by m (length bytes - suc (length s))) m (length bytes - suc (length s)) n t u v h p kn kt ks kv kh kp (at (op_of a) refl) refl
   where
     st : State
     st = record { section = cur; job = k.J }
 
-    ej : e ≡ judged_in a (a ∷ s) cur (shape_of k.J) n t d
-    ej = ee ∙ ap (λ (y : Shape). judged_in a (a ∷ s) cur y n t d) k.tables.shape
+    ej : Err m ≡ judged_in a (a ∷ s) cur (shape_of k.J) n t d
+    ej = em ∙ ap (λ (y : Shape). judged_in a (a ∷ s) cur y n t d) k.tables.shape
 
     none_read : (f : ℕ) → suc (length s) < f → op_of a ≡ none → read_from f (length bytes - suc (length s)) st (a ∷ s) ≡ refused_at 2 (length bytes - suc (length s))
     none_read zero y eo = absurd (omega arith)
     none_read (suc f) y eo = read_none f (length bytes - suc (length s)) st a s eo
 
-    at : (o : Option Op) → op_of a ≡ o → Filled bytes r n t u v h p kn kt ks kv kh kp
+    at : (o : Option Op) → op_of a ≡ o → reading bytes ≡ refused_at m (length bytes - suc (length s))
     at none eo =
-        filled_refused bytes r 2 (length bytes - suc (length s)) n t u v h p kn kt ks kv kh kp (k.same ∙ none_read k.fuel k.enough eo)
-        (er ∙ ap (λ (y : Entry). stopped_of y g (length bytes - suc (length s)) (suc (length s))) (ej ∙ judged_none a (a ∷ s) cur (shape_of k.J) n t d eo) ∙ stopped_refuse 2 g (length bytes - suc (length s)) (suc (length s)))
-    at (some o) eo =
-        stop_at bytes a s cur g d n t u v h p kn kt ks kv kh kp k o eo (agrees k.J n t d (kept k.sofar k.tables) cur a o s eo) refl (ap stops_of (sym ej) ∙ es)
-        r (er ∙ ap (λ (y : Entry). stopped_of y g (length bytes - suc (length s)) (suc (length s))) ej)
+        let same : 2 ≡ m = same_number 2 m (sym (ej ∙ judged_none a (a ∷ s) cur (shape_of k.J) n t d eo)) in
+        k.same ∙ none_read k.fuel k.enough eo ∙ ap (λ (j : ℕ). refused_at j (length bytes - suc (length s))) same
+    at (some o) eo = refused_at_cmd bytes a s cur g d n t u v h p kn kt ks kv kh kp k o eo (agrees k.J n t d (kept k.sofar k.tables) cur a o s eo) refl m (sym ej)
+
+-- the end of the job, whose command is the last byte or is not
+ended_job : (bytes left : List ℕ) (cur : ℕ) (g : Shape) (d n t u v h p : List ℕ) (kn kt ks kv kh kp : ℕ) → (k : Going bytes left cur g d n t u v h p kn kt ks kv kh kp) → 0 < length left
+    → Ok Last ≡ judged_in (get_or left 0 0) left cur g n t d → reading bytes ≡ ended (suc (length bytes - length left)) (drop 1 left) k.J
+ended_job bytes [] cur g d n t u v h p kn kt ks kv kh kp k z em = absurd (omega arith)
+ended_job bytes (a ∷ s) cur g d n t u v h p kn kt ks kv kh kp k z em = at (op_of a) refl
+  where
+    ej : Ok Last ≡ judged_in a (a ∷ s) cur (shape_of k.J) n t d
+    ej = em ∙ ap (λ (y : Shape). judged_in a (a ∷ s) cur y n t d) k.tables.shape
+
+    at : (o : Option Op) → op_of a ≡ o → reading bytes ≡ ended (suc (length bytes - suc (length s))) s k.J
+    at none eo = absurd (not_ok 2 Last (sym (ej ∙ judged_none a (a ∷ s) cur (shape_of k.J) n t d eo)))
+    at (some o) eo = ended_at bytes a s cur g d n t u v h p kn kt ks kv kh kp k o eo (agrees k.J n t d (kept k.sofar k.tables) cur a o s eo) refl (sym ej)
+
+same_job : (I J : Job) → read I ≡ read J → I ≡ J
+same_job I J e = cc
+
+pub stop_ended : (bytes left : List ℕ) (cur : ℕ) (g : Shape) (d n t u v h p : List ℕ) (kn kt ks kv kh kp : ℕ) → Going bytes left cur g d n t u v h p kn kt ks kv kh kp
+    → Ok Last ≡ judged_in (get_or left 0 0) left cur g n t d → length left ≡ 1 → Filled bytes (Ok g) n t u v h p kn kt ks kv kh kp
+unfolding ended answer_of
+stop_ended bytes left cur g d n t u v h p kn kt ks kv kh kp k em one =
+    let e : reading bytes ≡ read k.J = ended_job bytes left cur g d n t u v h p kn kt ks kv kh kp k (omega arith) em ∙ ap (λ (l : List ℕ). ended (suc (length bytes - length left)) l k.J) (drop_of_length-le left {i = 1} (omega arith)) in
+    record {
+      answer = ap Ok k.tables.shape ∙ sym (ap answer_of e);
+      tables = λ J f. subst (λ (I : Job). Holds I n t u v h p kn kt ks kv kh kp) (same_job k.J J (sym e ∙ f)) k.tables.holds;
+    }
+
+pub stop_followed : (bytes left : List ℕ) (cur : ℕ) (g : Shape) (d n t u v h p : List ℕ) (kn kt ks kv kh kp : ℕ) → Going bytes left cur g d n t u v h p kn kt ks kv kh kp → 0 < length left
+    → Ok Last ≡ judged_in (get_or left 0 0) left cur g n t d → (length left ≡ 1 → ⊥) → Filled bytes (refused_by 7 (length bytes - length left + 1)) n t u v h p kn kt ks kv kh kp
+unfolding ended
+stop_followed bytes left cur g d n t u v h p kn kt ks kv kh kp k z em more =
+    filled_refused bytes (refused_by 7 (length bytes - length left + 1)) 7 (suc (length bytes - length left)) n t u v h p kn kt ks kv kh kp
+    (ended_job bytes left cur g d n t u v h p kn kt ks kv kh kp k z em ∙ at (drop 1 left) refl) (ap (λ (m : ℕ). refused_by 7 m) (add-one (length bytes - length left)))
+  where
+    at : (l : List ℕ) → drop 1 left ≡ l → ended (suc (length bytes - length left)) l k.J ≡ refused_at 7 (suc (length bytes - length left))
+    at [] e = absurd (more (let none : length (drop 1 left) ≡ 0 = ap length e in omega (arith, length-drop 1 left)))
+    at (c ∷ l) e = refl
 
 -- no byte where a command is due
 pub short : (bytes left : List ℕ) (cur : ℕ) (g : Shape) (d n t u v h p : List ℕ) (kn kt ks kv kh kp : ℕ) → Going bytes left cur g d n t u v h p kn kt ks kv kh kp → length left ≤ 0
@@ -528,20 +561,15 @@ loop_first bytes n t u v h p g eg e z =
     (going_first bytes n t u v h p (length n) (length t) (length u) (length v) (length h) (length p) l z.names z.types z.sets z.values z.heads z.slots))
 
 module _ (bytes left : List ℕ) (cur : ℕ) (g : Shape) (d n t u v h p n₀ t₀ u₀ v₀ h₀ p₀ : List ℕ) (k : Loop bytes left cur g d n t u v h p n₀ t₀ u₀ v₀ h₀ p₀) where
-  pub loop_turn : 0 < length left → (e : Entry) → e ≡ judged_in (get_or left 0 0) left cur g n t d → (o : Bool) → o ≡ stops_of e → o ≡ false
+  pub loop_turn : 0 < length left → (e : Entry) → Ok e ≡ judged_in (get_or left 0 0) left cur g n t d → stops_of e ≡ false
       → (g' : Shape) (d' n' t' u' v' h' p' : List ℕ) → g' ≡ shape_after e g → Put e g d n t u v h p d' n' t' u' v' h' p'
-      → (cur' : ℕ) → cur' ≡ sort_of e → (left' : List ℕ) → left' ≡ rest_of left → Loop bytes left' cur' g' d' n' t' u' v' h' p' n₀ t₀ u₀ v₀ h₀ p₀
-  loop_turn z e ee o eo fo g' d' n' t' u' v' h' p' w' q cur' ec left' el =
-      loop_of bytes left' cur' g' d' n' t' u' v' h' p' n₀ t₀ u₀ v₀ h₀ p₀ k.long
-      (turn bytes left cur g g' d n t u v h p d' n' t' u' v' h' p' (length n₀) (length t₀) (length u₀) (length v₀) (length h₀) (length p₀) k.long k.going z e ee (sym eo ∙ fo) w' q cur' ec left' el)
+      → Loop bytes (rest_of left) (section_byte (get_or left 0 0)) g' d' n' t' u' v' h' p' n₀ t₀ u₀ v₀ h₀ p₀
+  loop_turn z e ee es g' d' n' t' u' v' h' p' w' q =
+      loop_of bytes (rest_of left) (section_byte (get_or left 0 0)) g' d' n' t' u' v' h' p' n₀ t₀ u₀ v₀ h₀ p₀ k.long
+      (turn bytes left cur g g' d n t u v h p d' n' t' u' v' h' p' (length n₀) (length t₀) (length u₀) (length v₀) (length h₀) (length p₀) k.long k.going z e ee es w' q)
 
-  pub loop_stop : 0 < length left → (e : Entry) → e ≡ judged_in (get_or left 0 0) left cur g n t d → (o : Bool) → o ≡ stops_of e → o ≡ true
-      → (r : Answer) → r ≡ stopped_of e g (length bytes - length left) (length left) → Filled bytes r n t u v h p (length n₀) (length t₀) (length u₀) (length v₀) (length h₀) (length p₀)
-  loop_stop z e ee o eo to r er =
-      stop bytes left cur g d n t u v h p (length n₀) (length t₀) (length u₀) (length v₀) (length h₀) (length p₀) k.going z e ee (sym eo ∙ to) r er
-
-  pub loop_short : length left ≤ 0 → (r : Answer) → r ≡ refused_by 4 (length bytes) → Filled bytes r n t u v h p (length n₀) (length t₀) (length u₀) (length v₀) (length h₀) (length p₀)
-  loop_short z r er = short bytes left cur g d n t u v h p (length n₀) (length t₀) (length u₀) (length v₀) (length h₀) (length p₀) k.going z r er
+  pub loop_short : length left ≤ 0 → Filled bytes (refused_by 4 (length bytes)) n t u v h p (length n₀) (length t₀) (length u₀) (length v₀) (length h₀) (length p₀)
+  loop_short z = short bytes left cur g d n t u v h p (length n₀) (length t₀) (length u₀) (length v₀) (length h₀) (length p₀) k.going z (refused_by 4 (length bytes)) refl
 
 pub rest_less : (left left' : List ℕ) → left' ≡ rest_of left → 0 < length left → length left' < length left
 rest_less left left' e h = omega (arith, ap length e, rest_shorter left h)

@@ -1,9 +1,7 @@
 pub mod Filling
 pub mod Going
 pub mod Whole
-pub mod Arms
 pub mod Ancestors
 pub mod Turn
 pub mod Zeros
 pub mod ReadTables
-pub mod Told

@@ -5,11 +5,10 @@ use Rattle.std.proofs.Common.{sym, ◌∙◌, lt-ltb, le-ltb, leb-true, leb-fals
 use Rattle.std.proofs.Math.Bool.{true, false, cond}
 use Rattle.order.specs.Bools.{◌or◌}
 use Rattle.syntax.specs.Words.{name_words, type_words, set_words, value_words, head_words, slot_words}
-use Rattle.syntax.specs.Loading.{JobTables, short, zeros, cleared, filled_with, read_with, holding, tables_after_read, most_entries, most_slots}
+use Rattle.syntax.specs.Loading.{short, zeros, cleared, filled_with, read_with, holding, tables_after_read, most_entries, most_slots}
 use Rattle.syntax.specs.Reading.{Read, refused, read, refused_at, reading, most_names, most_variables, most_expressions}
 use Rattle.table.specs.Lent.{job_tables}
-use Rattle.job.specs.declared.Answer.{Answer}
-use Rattle.job.specs.Answer.{long_enough, long_tables, answer_of, refused_by, table_of, after_of, ReadTo}
+use Rattle.job.specs.Answer.{Answer, long_enough, long_tables, answer_of, refused_by, table_of, after_of, ReadTo}
 use Rattle.job.specs.ReadTables.{left}
 
 -- 1: some table is short where not all are long enough

@@ -7,48 +7,27 @@ use lib.ListN.{length, replicate, length-replicate}
 use Rattle.syntax.specs.Job.{Job}
 use Rattle.syntax.specs.Words.{filled, name_words, type_words, set_words, value_words, head_words, slot_words}
 use Rattle.syntax.specs.Reading.{Refusal, Read, refused, read, reading}
-use Rattle.job.specs.Answer.{refused_by, answer_of, table_of, long_tables, after_of, ReadTo, Filled, Cleared, Zeroed, is_job}
-use Rattle.job.specs.declared.Answer.{Answer}
+use Rattle.std.specs.Result.{is_err}
+use Rattle.job.specs.Answer.{Answer, refused_by, answer_of, table_of, long_tables, after_of, ReadTo, Filled, Zeroed}
 
 -- a table whose length is kept
-cleared_list : (n n1 : List ℕ) → n1 ≡ replicate (length n) 0 → n1 ≡ replicate (length n1) 0
-cleared_list n n1 e = e ∙ ap (λ (k : ℕ). replicate k 0) (sym (ap length e ∙ length-replicate (length n) 0))
-
 cleared_length : (n n1 : List ℕ) → n1 ≡ replicate (length n) 0 → length n1 ≡ length n
 cleared_length n n1 e = ap length e ∙ length-replicate (length n) 0
 
-module _ (n t s v h p n1 t1 s1 v1 h1 p1 : List ℕ) (z : Zeroed n t s v h p n1 t1 s1 v1 h1 p1) where
-  pub cleared : Cleared n1 t1 s1 v1 h1 p1
-  cleared =
-      record {
-        names = cleared_list n n1 z.names;
-        types = cleared_list t t1 z.types;
-        sets = cleared_list s s1 z.sets;
-        values = cleared_list v v1 z.values;
-        heads = cleared_list h h1 z.heads;
-        slots = cleared_list p p1 z.slots;
-      }
-
-  pub long_cleared : (b : Bool) → b ≡ long_tables n t s v h p → b ≡ true → long_tables n1 t1 s1 v1 h1 p1 ≡ true
-  long_cleared b e f =
-      simp (cleared_length n n1 z.names, cleared_length t t1 z.types, cleared_length s s1 z.sets, cleared_length v v1 z.values, cleared_length h h1 z.heads, cleared_length p p1 z.slots) (sym e ∙ f)
-
+module _ {n t s v h p n1 t1 s1 v1 h1 p1 : List ℕ} (z : Zeroed n t s v h p n1 t1 s1 v1 h1 p1) {bytes : List ℕ} {a : Answer} {n2 t2 s2 v2 h2 p2 : List ℕ}
+    (f : Filled bytes a n2 t2 s2 v2 h2 p2 (length n1) (length t1) (length s1) (length v1) (length h1) (length p1)) (l : long_tables n t s v h p ≡ true) where
   -- a job is read
-  pub read_job : (bytes : List ℕ) (a : Answer) (n2 t2 s2 v2 h2 p2 : List ℕ) → Filled bytes a n2 t2 s2 v2 h2 p2 (length n1) (length t1) (length s1) (length v1) (length h1) (length p1)
-      → (b : Bool) → b ≡ long_tables n t s v h p → b ≡ true → (c : Bool) → c ≡ is_job a → c ≡ true → ReadTo bytes a n t s v h p n2 t2 s2 v2 h2 p2
-  unfolding after_of table_of answer_of is_job
-  read_job bytes a n2 t2 s2 v2 h2 p2 f b eb tb c ec tc = at (reading bytes) refl
+  pub read_job : is_err a ≡ false → ReadTo bytes a n t s v h p n2 t2 s2 v2 h2 p2
+  unfolding after_of table_of answer_of
+  read_job good = at (reading bytes) refl
     where
-      l : long_tables n t s v h p ≡ true
-      l = sym eb ∙ tb
-
       after : (words : Job → List ℕ) (J : Job) → reading bytes ≡ read J → (m m1 m2 : List ℕ) → m1 ≡ replicate (length m) 0 → m2 ≡ filled (length m1) 0 (words J) → m2 ≡ cond (long_tables n t s v h p) (table_of words (reading bytes) (length m)) m
       after words J e m m1 m2 q y =
           y ∙ ap (λ (k : ℕ). filled k 0 (words J)) (cleared_length m m1 q) ∙ sym (ap (λ (r : Read). table_of words r (length m)) e)
           ∙ sym (ap (λ (o : Bool). cond o (table_of words (reading bytes) (length m)) m) l)
 
       at : (r : Read) → reading bytes ≡ r → ReadTo bytes a n t s v h p n2 t2 s2 v2 h2 p2
-      at (refused r) e = absurd (true≢false (sym tc ∙ ec ∙ ap is_job f.answer ∙ ap (λ (x : Read). is_job (answer_of x)) e))
+      at (refused r) e = absurd (false≢true (sym good ∙ ap is_err f.answer ∙ ap (λ (x : Read). is_err (answer_of x)) e))
       at (read J) e =
           let y = f.tables J e in
           record {
@@ -62,16 +41,11 @@ module _ (n t s v h p n1 t1 s1 v1 h1 p1 : List ℕ) (z : Zeroed n t s v h p n1 t
           }
 
   -- a refusal
-  pub read_refused : (bytes : List ℕ) (a : Answer) (n2 t2 s2 v2 h2 p2 n3 t3 s3 v3 h3 p3 : List ℕ) → Filled bytes a n2 t2 s2 v2 h2 p2 (length n1) (length t1) (length s1) (length v1) (length h1) (length p1)
-      → length n2 ≡ length n1 → length t2 ≡ length t1 → length s2 ≡ length s1 → length v2 ≡ length v1 → length h2 ≡ length h1 → length p2 ≡ length p1
-      → Zeroed n2 t2 s2 v2 h2 p2 n3 t3 s3 v3 h3 p3
-      → (b : Bool) → b ≡ long_tables n t s v h p → b ≡ true → (c : Bool) → c ≡ is_job a → c ≡ false → ReadTo bytes a n t s v h p n3 t3 s3 v3 h3 p3
-  unfolding after_of table_of answer_of is_job
-  read_refused bytes a n2 t2 s2 v2 h2 p2 n3 t3 s3 v3 h3 p3 f ln lt ls lv lh lp w b eb tb c ec tc = at (reading bytes) refl
+  pub read_refused : {n3 t3 s3 v3 h3 p3 : List ℕ} → length n2 ≡ length n1 → length t2 ≡ length t1 → length s2 ≡ length s1 → length v2 ≡ length v1 → length h2 ≡ length h1 → length p2 ≡ length p1
+      → Zeroed n2 t2 s2 v2 h2 p2 n3 t3 s3 v3 h3 p3 → is_err a ≡ true → ReadTo bytes a n t s v h p n3 t3 s3 v3 h3 p3
+  unfolding after_of table_of answer_of
+  read_refused {n3} {t3} {s3} {v3} {h3} {p3} ln lt ls lv lh lp w bad = at (reading bytes) refl
     where
-      l : long_tables n t s v h p ≡ true
-      l = sym eb ∙ tb
-
       after : (words : Job → List ℕ) (r : Refusal) → reading bytes ≡ refused r → (m m1 m2 m3 : List ℕ) → m1 ≡ replicate (length m) 0 → length m2 ≡ length m1 → m3 ≡ replicate (length m2) 0
           → m3 ≡ cond (long_tables n t s v h p) (table_of words (reading bytes) (length m)) m
       after words r e m m1 m2 m3 q k y =
@@ -79,7 +53,7 @@ module _ (n t s v h p n1 t1 s1 v1 h1 p1 : List ℕ) (z : Zeroed n t s v h p n1 t
           ∙ sym (ap (λ (o : Bool). cond o (table_of words (reading bytes) (length m)) m) l)
 
       at : (r : Read) → reading bytes ≡ r → ReadTo bytes a n t s v h p n3 t3 s3 v3 h3 p3
-      at (read J) e = absurd (false≢true (sym tc ∙ ec ∙ ap is_job f.answer ∙ ap (λ (x : Read). is_job (answer_of x)) e))
+      at (read J) e = absurd (true≢false (sym bad ∙ ap is_err f.answer ∙ ap (λ (x : Read). is_err (answer_of x)) e))
       at (refused r) e =
           record {
             answer = f.answer ∙ sym (ap (λ (o : Bool). cond o (answer_of (reading bytes)) (refused_by 1 0)) l);
@@ -92,12 +66,11 @@ module _ (n t s v h p n1 t1 s1 v1 h1 p1 : List ℕ) (z : Zeroed n t s v h p n1 t
           }
 
 -- a table is too short: nothing is written
-pub read_none : (bytes : List ℕ) (a : Answer) (n t s v h p : List ℕ) → a ≡ refused_by 1 0 → (b : Bool) → b ≡ long_tables n t s v h p → b ≡ false → ReadTo bytes a n t s v h p n t s v h p
+pub read_none : {bytes n t s v h p : List ℕ} → long_tables n t s v h p ≡ false → ReadTo bytes (refused_by 1 0) n t s v h p n t s v h p
 unfolding after_of
-read_none bytes a n t s v h p e b eb fb =
-    let l : long_tables n t s v h p ≡ false = sym eb ∙ fb in
+read_none {bytes} {n} {t} {s} {v} {h} {p} l =
     record {
-      answer = e ∙ sym (ap (λ (o : Bool). cond o (answer_of (reading bytes)) (refused_by 1 0)) l);
+      answer = sym (ap (λ (o : Bool). cond o (answer_of (reading bytes)) (refused_by 1 0)) l);
       names = sym (ap (λ (o : Bool). cond o (table_of name_words (reading bytes) (length n)) n) l);
       types = sym (ap (λ (o : Bool). cond o (table_of (λ K. type_words K.types) (reading bytes) (length t)) t) l);
       sets = sym (ap (λ (o : Bool). cond o (table_of (λ K. set_words K.types) (reading bytes) (length s)) s) l);

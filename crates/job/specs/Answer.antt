@@ -1,24 +1,26 @@
 -- What `read` answers, and the lent tables afterwards.
-use Rattle.std.specs.Prelude.{◌≡◌, ℕ, ◌+◌, ◌≤◌, Bool, true, false, cond, List, length, replicate, eqb, leb}
+use Rattle.std.specs.Prelude.{◌≡◌, ℕ, ◌≤◌, Bool, false, cond, List, length, replicate, leb, Result, Ok, Err}
 use Rattle.syntax.specs.Job.{Job}
 use Rattle.syntax.specs.Words.{filled, name_words, type_words, set_words, value_words, head_words, slot_words}
 use Rattle.syntax.specs.Loading.{most_entries, most_slots}
 use Rattle.syntax.specs.Reading.{Read, refused, read, reading, most_names, most_variables, most_expressions}
+use Rattle.table.specs.declared.Refusal.{Refusal}
 use Rattle.entry.specs.Shapes.{shape_of}
 use Rattle.entry.specs.declared.Shape.{Shape}
 use Rattle.entry.specs.declared.Entry.{Entry}
-use Rattle.entry.specs.declared.Entry.TheVariants.{Refuse, Named, Typed, Valued, Rights, Formed, Last}
 use Rattle.job.specs.After.{names_after, types_after, sets_after, depths_after, values_after, heads_after, slots_after}
-use Rattle.job.specs.declared.Answer.{Answer}
-use Rattle.job.specs.declared.Answer.TheVariants as answers
+
+-- what reading answers: the counts of a job, or a refusal
+abbrev pub Answer : Type 0
+Answer = Result Shape Refusal
 
 abbrev pub refused_by : ℕ → ℕ → Answer
-refused_by n p = answers.Refused (record { number = n; place = p })
+refused_by n p = Err (record { number = n; place = p })
 
 -- the answer for a job read, or for a refusal by its number and place
 unfoldable pub answer_of : Read → Answer
 answer_of (refused r) = refused_by r.number r.place
-answer_of (read J) = answers.Job (shape_of J)
+answer_of (read J) = Ok (shape_of J)
 
 -- a table of n entries afterwards: of a job the words that `words` gives, then zeros; of a refusal zeros to the end
 unfoldable pub table_of : (Job → List ℕ) → Read → ℕ → List ℕ
@@ -89,26 +91,9 @@ pub record Put (e : Entry) (g : Shape) (d n t s v h p d' n' t' s' v' h' p' : Lis
   pub heads : h' ≡ heads_after e g h
   pub slots : p' ≡ slots_after e g p
 
-abbrev pub shape_over : ℕ → ℕ → ℕ → ℕ → ℕ → Shape
-shape_over n t v e s = record { names = n; types = t; values = v; cmds = e; rights = s }
-
 -- counts that an entry more does not wrap
 pub record Small (h : Shape) : Type 0 where
   pub names : h.names ≤ 65536
   pub types : h.types ≤ 65536
   pub values : h.values ≤ 65536
   pub cmds : h.cmds ≤ 4096
-
--- the answer there: the command stands at `place`, and `left` bytes are left with it
-unfoldable pub stopped_of : Entry → Shape → ℕ → ℕ → Answer
-stopped_of (Refuse n) h place left = refused_by n place
-stopped_of (Named w) h place left = refused_by 6 place
-stopped_of (Typed w s d) h place left = refused_by 6 place
-stopped_of (Valued w) h place left = refused_by 6 place
-stopped_of (Rights s) h place left = refused_by 6 place
-stopped_of (Formed f) h place left = refused_by 6 place
-stopped_of Last h place left = cond (eqb left 1) (answers.Job h) (refused_by 7 (place + 1))
-
-unfoldable pub is_job : Answer → Bool
-is_job (answers.Job h) = true
-is_job (answers.Refused r) = false

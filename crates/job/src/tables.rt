@@ -1,22 +1,19 @@
 // The lent tables and the counts, before and after an entry.
-ghost use Rattle.std.specs.Prelude.{◌≡◌, ◌+◌, ◌<◌, ◌≤◌};
-ghost use Rattle.entry.specs.Entries.{sort_of};
-ghost use Rattle.job.specs.After.{five_at, ancestors_after};
-ghost use Rattle.job.specs.Answer.{long_enough, Small, shape_over};
-ghost use Rattle.job.specs.Told.{number_of, lent_of, counted_by};
+ghost use Rattle.std.specs.Prelude.{◌≡◌, ◌<◌};
+ghost use Rattle.job.specs.After.{five_at, ancestors_after, shape_after};
+ghost use Rattle.job.specs.Answer.{long_enough, Small};
 ghost use Rattle.job.specs.Lent.{PutLent, ZeroedLent};
 
 use entry::{Entry, Form, Shape};
-use table::{
-    MOST_EXPRESSIONS, MOST_NAMES, MOST_VARIABLES, PLACES, TYPE_ENTRIES, clear16, clear64, put8,
-    put16, put64,
-};
+use table::{MOST_EXPRESSIONS, MOST_NAMES, MOST_VARIABLES, PLACES, TYPE_ENTRIES, set_at};
 
 // The five places of an expression, from i on.
+#[tactic(auto, unfolding(crate::specs::After::five_at))]
 fn put_five(s: &mut [u16], i: usize, f: Form)
     requires { i < 65536 }
     ensures { s.new ≡ five_at s.old i f }
 {
+    // Both ways stay: with one test for all five, which holds of every table that `read` fills, reading takes fewer instructions.
     if i + 4 < s.len() {
         s[i] = f.a;
         s[i + 1] = f.b;
@@ -25,142 +22,19 @@ fn put_five(s: &mut [u16], i: usize, f: Form)
         s[i + 4] = f.e;
         return;
     }
-    put16(s, i, f.a);
-    put16(s, i + 1, f.b);
-    put16(s, i + 2, f.c);
-    put16(s, i + 3, f.d);
-    put16(s, i + 4, f.e);
+    set_at(s, i, f.a);
+    set_at(s, i + 1, f.b);
+    set_at(s, i + 2, f.c);
+    set_at(s, i + 3, f.d);
+    set_at(s, i + 4, f.e);
 }
 
-// What came of a command: its section, and where reading stops 5 at the end of the job, 6 at a refusal.
-pub fn sort(e: Entry) -> u8
-    ensures { result ≡ sort_of e }
-{
-    match e {
-        Entry::Refuse(_) => 6,
-        Entry::Named(_) => 0,
-        Entry::Typed(_, _, _) => 1,
-        Entry::Valued(_) => 2,
-        Entry::Rights(_) => 3,
-        Entry::Formed(_) => 4,
-        Entry::Last => 5,
-    }
-}
-
-// The number of a refusal; 0 for none.
-pub fn number(e: Entry) -> u8
-    ensures { result ≡ number_of e }
-{
-    match e {
-        Entry::Refuse(n) => n,
-        Entry::Named(_) => 0,
-        Entry::Typed(_, _, _) => 0,
-        Entry::Valued(_) => 0,
-        Entry::Rights(_) => 0,
-        Entry::Formed(_) => 0,
-        Entry::Last => 0,
-    }
-}
-
-// The rights that a command lends; 0 for none.
-pub fn lent(e: Entry) -> u64
-    ensures { result ≡ lent_of e }
-{
-    match e {
-        Entry::Refuse(_) => 0,
-        Entry::Named(_) => 0,
-        Entry::Typed(_, _, _) => 0,
-        Entry::Valued(_) => 0,
-        Entry::Rights(s) => s,
-        Entry::Formed(_) => 0,
-        Entry::Last => 0,
-    }
-}
-
-// One name, type, host value or expression more.
-fn more_names(g: Shape) -> Shape
-    requires { Small g }
-    ensures { result ≡ shape_over (g.names + 1) g.types g.values g.cmds g.rights }
-{
-    Shape {
-        names: g.names + 1,
-        types: g.types,
-        values: g.values,
-        cmds: g.cmds,
-        rights: g.rights,
-    }
-}
-
-fn more_types(g: Shape) -> Shape
-    requires { Small g }
-    ensures { result ≡ shape_over g.names (g.types + 1) g.values g.cmds g.rights }
-{
-    Shape {
-        names: g.names,
-        types: g.types + 1,
-        values: g.values,
-        cmds: g.cmds,
-        rights: g.rights,
-    }
-}
-
-fn more_values(g: Shape) -> Shape
-    requires { Small g }
-    ensures { result ≡ shape_over g.names g.types (g.values + 1) g.cmds g.rights }
-{
-    Shape {
-        names: g.names,
-        types: g.types,
-        values: g.values + 1,
-        cmds: g.cmds,
-        rights: g.rights,
-    }
-}
-
-fn more_cmds(g: Shape) -> Shape
-    requires { Small g }
-    ensures { result ≡ shape_over g.names g.types g.values (g.cmds + 1) g.rights }
-{
-    Shape {
-        names: g.names,
-        types: g.types,
-        values: g.values,
-        cmds: g.cmds + 1,
-        rights: g.rights,
-    }
-}
-
-fn with_rights(g: Shape, s: u64) -> Shape
-    ensures { result ≡ shape_over g.names g.types g.values g.cmds s }
-{
-    Shape {
-        names: g.names,
-        types: g.types,
-        values: g.values,
-        cmds: g.cmds,
-        rights: s,
-    }
-}
-
-// The counts with an entry more, of section `kind`, or with the rights s.
-pub fn counted(kind: u8, s: u64, g: Shape) -> Shape
-    requires { Small g }
-    ensures { result ≡ counted_by kind s g }
-{
-    match kind {
-        0 => more_names(g),
-        1 => more_types(g),
-        2 => more_values(g),
-        3 => with_rights(g, s),
-        4 => more_cmds(g),
-        _ => g,
-    }
-}
-
-// The tables with an entry more.
-pub fn put(
+// One entry more: its words go into the tables, of a name its ancestors too, and the counts with it are handed back.
+#[tactic(auto, unfolding(crate::specs::After::names_after, crate::specs::After::types_after, crate::specs::After::sets_after, crate::specs::After::depths_after, crate::specs::After::values_after, crate::specs::After::heads_after, crate::specs::After::slots_after, crate::specs::After::ancestors_after, crate::specs::After::shape_after))]
+pub fn add(
     e: Entry,
     g: Shape,
+    anc: &mut [u64; MOST_NAMES],
     depths: &mut [u8],
     names: &mut [u16],
     types: &mut [u64],
@@ -168,41 +42,47 @@ pub fn put(
     values: &mut [u64],
     heads: &mut [u64],
     slots: &mut [u16],
-)
+) -> Shape
     requires { Small g }
-    ensures { PutLent e g depths names types sets values heads slots }
+    ensures tables { PutLent e g depths names types sets values heads slots }
+    ensures ancestors { anc.new ≡ ancestors_after e g.names anc.old }
+    ensures counts { result ≡ shape_after e g }
 {
     match e {
-        Entry::Refuse(_) => {}
-        Entry::Named(w) => put16(names, g.names + 2, w),
+        Entry::Named(w) => {
+            set_at(names, g.names + 2, w);
+            names::enter(anc, g.names + 2, w);
+            Shape {
+                names: g.names + 1,
+                ..g
+            }
+        }
         Entry::Typed(w, s, d) => {
-            put64(types, g.types, w);
-            put64(sets, g.types, s);
-            put8(depths, g.types, d)
+            set_at(types, g.types, w);
+            set_at(sets, g.types, s);
+            set_at(depths, g.types, d);
+            Shape {
+                types: g.types + 1,
+                ..g
+            }
         }
-        Entry::Valued(w) => put64(values, g.values, w),
-        Entry::Rights(_) => {}
+        Entry::Valued(w) => {
+            set_at(values, g.values, w);
+            Shape {
+                values: g.values + 1,
+                ..g
+            }
+        }
+        Entry::Rights(rights) => Shape { rights, ..g },
         Entry::Formed(f) => {
-            put64(heads, g.cmds, f.head);
-            put_five(slots, g.cmds * 5, f)
+            set_at(heads, g.cmds, f.head);
+            put_five(slots, g.cmds * 5, f);
+            Shape {
+                cmds: g.cmds + 1,
+                ..g
+            }
         }
-        Entry::Last => {}
-    }
-}
-
-// The ancestors of one name more, where the entry is a name; n names stand before it.
-pub fn enter(e: Entry, n: usize, anc: &mut [u64; MOST_NAMES])
-    requires { n ≤ 65536 }
-    ensures { anc.new ≡ ancestors_after e n anc.old }
-{
-    match e {
-        Entry::Refuse(_) => {}
-        Entry::Named(w) => names::enter(anc, n + 2, w),
-        Entry::Typed(_, _, _) => {}
-        Entry::Valued(_) => {}
-        Entry::Rights(_) => {}
-        Entry::Formed(_) => {}
-        Entry::Last => {}
+        Entry::Last => g,
     }
 }
 
@@ -217,28 +97,23 @@ pub fn clear_all(
 )
     ensures { ZeroedLent names types sets values heads slots }
 {
-    clear16(names);
-    clear64(types);
-    clear64(sets);
-    clear64(values);
-    clear64(heads);
-    clear16(slots);
+    names.fill(0);
+    types.fill(0);
+    sets.fill(0);
+    values.fill(0);
+    heads.fill(0);
+    slots.fill(0);
 }
 
 // Whether every lent table is as long as its limit.
+#[tactic(auto, unfolding(crate::specs::Answer::long_enough))]
 pub fn long_enough(n: usize, t: usize, s: usize, v: usize, h: usize, p: usize) -> bool
     ensures { result ≡ long_enough n t s v h p }
 {
-    if MOST_NAMES <= n {
-        if TYPE_ENTRIES <= t {
-            if TYPE_ENTRIES <= s {
-                if MOST_VARIABLES <= v {
-                    if MOST_EXPRESSIONS <= h {
-                        return PLACES <= p;
-                    }
-                }
-            }
-        }
-    }
-    false
+    MOST_NAMES <= n
+        && TYPE_ENTRIES <= t
+        && TYPE_ENTRIES <= s
+        && MOST_VARIABLES <= v
+        && MOST_EXPRESSIONS <= h
+        && PLACES <= p
 }

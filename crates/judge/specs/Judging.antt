@@ -1,7 +1,7 @@
 -- From the pass over all expressions, and the test of the rights, to the verdict of the rules.
 use Rattle.std.specs.Prelude.{◌≡◌, refl, ℕ, ◌%◌, ◌≤◌, Bool, true, false}
 use Rattle.std.proofs.Math.Path.{sym, ap, subst}
-use Rattle.std.proofs.Common.{◌∙◌, arith, ltb-false}
+use Rattle.std.proofs.Common.{◌∙◌, arith, ltb-false, Ok, Err}
 use mathlib.Core.List.{List, []}
 use Rattle.std.proofs.Math.Option.{none}
 use Rattle.std.proofs.Math.ListN.{length, get_or, length-map}
@@ -27,16 +27,14 @@ use Rattle.typing.proofs.NumberedLaws.{Inv, inv_fits}
 use Rattle.typing.specs.NumberedVerdict.{last_of, last_entry, last_effect, filled_from}
 use Rattle.typing.proofs.NumberedVerdict.{verdict_halted, verdict_beyond, verdict_within}
 use Rattle.names.specs.Ancestors.{names_in, ancestors_by, eff_below_by, effects_by}
-use Rattle.elaborate.specs.declared.Passed.{Passed}
-use Rattle.elaborate.specs.declared.Passed.TheVariants as passed
-use Rattle.elaborate.specs.Pass.{Out, Ended, numbered_by}
+use Rattle.table.specs.declared.Refusal.{Refusal}
+use Rattle.elaborate.specs.Pass.{Answer, refusal, Out, Ended, numbered_by}
 use Rattle.elaborate.specs.OpsLaws.{job_ops, agree, names_held}
 use Rattle.elaborate.specs.Right.{Reached, r_whole, r_halted, numbered_right}
 use Rattle.entry.specs.declared.Shape.{Shape}
 use Rattle.entry.specs.Shapes.{shape_of}
-use Rattle.judge.specs.declared.Verdict.TheVariants.{Accepted, Refused}
 use Rattle.judge.specs.Answer as judged
-use Rattle.judge.specs.Answer.{tables, Given, Untyped, Judged, accepted}
+use Rattle.judge.specs.Answer.{tables, Given, Untyped, Judged, accepted, accepted_by, refused_by}
 
 -- Lengths
 
@@ -127,29 +125,22 @@ module _ {bytes : List ℕ} {J : Job} {g : Shape} {w : Tables} (given : Given by
         (numbered_right job_ok fits scoped (length w.job.names) (length w.job.types) (length w.job.sets) (length w.entries) (length w.effects) (length w.job.values) (length w.job.heads) (length w.job.slots)
         long.job.types long.job.sets long.entries long.effects)
 
-    module _ {a : Passed} {ts ss os es : List ℕ} (after : Ended (numbered_by anc w.job.names w.job.values w.job.heads w.job.slots nt nv nc w.job.types w.job.sets w.entries w.effects) a ts ss os es) where
+    module _ {a : Answer} {ts ss os es : List ℕ} (after : Ended (numbered_by anc w.job.names w.job.values w.job.heads w.job.slots nt nv nc w.job.types w.job.sets w.entries w.effects) a ts ss os es) where
       abbrev left : Tables
       left = tables w.job.names ts ss w.job.values w.job.heads w.job.slots os es
 
-      halted_is : {o : Out} {x : Whole} {n e : ℕ} → Reached J (length w.job.types) (length w.job.sets) (length w.entries) (length w.effects) o x → Ended o a ts ss os es → a ≡ passed.Halted n e
-          → x ≡ halted (record { number = n; place = e })
+      halted_is : {o : Out} {x : Whole} {r : Refusal} → Reached J (length w.job.types) (length w.job.sets) (length w.entries) (length w.effects) o x → Ended o a ts ss os es → a ≡ Err r
+          → x ≡ halted (record { number = r.number; place = r.place })
       halted_is (r_whole σ v) z q = absurd (let y : ◌≡◌ {A = ℕ} 0 1 = cc z.answer in omega arith)
-      halted_is (r_halted m f u) z q =
-          let y : passed.Halted m f ≡ passed.Halted _ _ = sym z.answer ∙ q in
-          λ i. halted (record { number = number (y i); place = place (y i) })
-        where
-          number : Passed → ℕ
-          number passed.Whole = 0
-          number (passed.Halted k l) = k
-
-          place : Passed → ℕ
-          place passed.Whole = 0
-          place (passed.Halted k l) = l
+      halted_is {r = r} (r_halted m f u) z q =
+          let e : ◌≡◌ {A = Answer} (Err (refusal m f)) (Err r) = sym z.answer ∙ q in
+          let y : refusal m f ≡ r = cc in
+          λ i. halted (record { number = (y i).number; place = (y i).place })
 
       -- 11 to 13, 16
-      pub typed_halted : {n e : ℕ} → a ≡ passed.Halted n e → Judged bytes J (Refused n e) left
-      typed_halted {n} {e} q =
-          judged.refused_by_lem n e left (verdict_halted (job_ops (length w.job.names)) (λ K k. agree (length w.job.names) k) bytes J (is_read) _ scoped (halted_is reached after q))
+      pub typed_halted : {r : Refusal} → a ≡ Err r → Judged bytes J (Err r) left
+      typed_halted {r} q =
+          judged.refused_by_lem r.number r.place left (verdict_halted (job_ops (length w.job.names)) (λ K k. agree (length w.job.names) k) bytes J (is_read) _ scoped (halted_is reached after q))
 
       -- the state that the typing came to
       record Came (σ : Sofar) (x : Whole) : Type 0 where
@@ -160,11 +151,11 @@ module _ {bytes : List ℕ} {J : Job} {g : Shape} {w : Tables} (given : Given by
         pub entries : os ≡ filled (length w.entries) 0 σ.of
         pub effects : es ≡ filled (length w.effects) 0 (effect_words σ.effects)
 
-      whole_is : {o : Out} {x : Whole} → Reached J (length w.job.types) (length w.job.sets) (length w.entries) (length w.effects) o x → Ended o a ts ss os es → a ≡ passed.Whole → (σ : Sofar) × Came σ x
+      whole_is : {o : Out} {x : Whole} → Reached J (length w.job.types) (length w.job.sets) (length w.entries) (length w.effects) o x → Ended o a ts ss os es → a ≡ Ok tt → (σ : Sofar) × Came σ x
       whole_is (r_whole σ v) z q = (σ, record { is_whole = refl; state = v; types = z.types; sets = z.sets; entries = z.entries; effects = z.effects })
       whole_is (r_halted m f u) z q = absurd (let y : ◌≡◌ {A = ℕ} 0 1 = cc z.answer in omega arith)
 
-      module _ (q : a ≡ passed.Whole) {e s : ℕ} (e_is : e ≡ predecessor g.cmds) (s_is : s ≡ get_or es e 0) {b : Bool} (b_is : b ≡ eff_below_by anc s g.rights) where
+      module _ (q : a ≡ Ok tt) {e s : ℕ} (e_is : e ≡ predecessor g.cmds) (s_is : s ≡ get_or es e 0) {b : Bool} (b_is : b ≡ eff_below_by anc s g.rights) where
         abbrev σ : Sofar
         σ = (whole_is reached after q).0
 
@@ -183,13 +174,13 @@ module _ {bytes : List ℕ} {J : Job} {g : Shape} {w : Tables} (given : Given by
         below_is = sym (b_is ∙ (λ i. effects_by (sym anc_by i) (effect_is i) (of_word (given.shape i).rights)))
 
         -- 14
-        pub typed_beyond : b ≡ false → Judged bytes J (Refused 14 e) left
+        pub typed_beyond : b ≡ false → Judged bytes J (refused_by 14 e) left
         typed_beyond f =
             judged.refused_by_lem 14 e left
             (verdict_beyond (job_ops (length w.job.names)) (λ K k. agree (length w.job.names) k) bytes J (is_read) σ scoped came.is_whole (below_is ∙ f)
             ∙ (λ i. rules.refuse (record { number = 14; place = sym last_is i })))
 
-        pub typed_within : b ≡ true → {t : ℕ} → t ≡ get_or os e 0 → Judged bytes J (Accepted t s) left
+        pub typed_within : b ≡ true → {t : ℕ} → t ≡ get_or os e 0 → Judged bytes J (accepted_by t s) left
         unfolding filled_from filled_with
         typed_within f {t} t_is =
             let r : t ≡ last_entry J σ = t_is ∙ (λ i. get_or (came.entries i) (last_is i) 0) ∙ filled_at (length w.entries) σ.of (last_of J) in

@@ -6,15 +6,14 @@ ghost use Rattle.syntax.specs.Job.{Job};
 ghost use Rattle.judge.specs.Answer.{Given, Untyped, Judged};
 ghost use Rattle.judge.specs.Lent.{typed_before, typed_after};
 
-use elaborate::Passed;
 use job::Shape;
-use table::{at16, at64, last};
+use table::{Refusal, get_or, last};
 
-// Accepted, with the entry of the job's type and its effect; or refused, with the number and the place.
+// What a job is accepted with: the entry of its type, and its effect.
 #[derive(Clone, Copy)]
-pub enum Verdict {
-    Accepted(u16, u64),
-    Refused(u8, usize),
+pub struct Accepted {
+    pub entry: u16,
+    pub effect: u64,
 }
 
 fn narrow(n: usize) -> u16
@@ -34,14 +33,14 @@ pub fn typed<'a>(
     sets: &mut [u64],
     entries: &mut [u16],
     effects: &mut [u64],
-) -> Verdict
+) -> Result<Accepted, Refusal>
     ensures { (bytes : List ℕ) (J : Job)
         → Given bytes J g (typed_before names types sets values heads slots entries effects)
         → Untyped (typed_before names types sets values heads slots entries effects)
         → Judged bytes J result (typed_after names types sets values heads slots entries effects) }
 {
     let anc = names::ancestors(names, g.names);
-    match elaborate::number_all(
+    elaborate::number_all(
         names,
         &anc,
         values,
@@ -54,16 +53,17 @@ pub fn typed<'a>(
         sets,
         entries,
         effects,
-    ) {
-        Passed::Halted(n, e) => return Verdict::Refused(n, e as usize),
-        Passed::Whole => {
-            let e = last(g.cmds);
-            let s = at64(effects, e);
-            if names::eff_below(&anc, s, g.rights) {
-                let i = at16(entries, e);
-                return Verdict::Accepted(i, s);
-            }
-            return Verdict::Refused(14, e);
-        }
+    )?;
+    let e = last(g.cmds);
+    let effect = get_or(effects, e, 0);
+    if !names::eff_below(&anc, effect, g.rights) {
+        return Err(Refusal {
+            number: 14,
+            place: e,
+        });
     }
+    Ok(Accepted {
+        entry: get_or(entries, e, 0),
+        effect,
+    })
 }

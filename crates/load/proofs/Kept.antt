@@ -16,7 +16,7 @@ use Rattle.syntax.proofs.ReadLaws.{read_ok}
 use Rattle.syntax.specs.Loading.{JobTables, short, zeros, cleared, filled_with, loading, holding, tables_after_load}
 use Rattle.syntax.specs.LoadLaws.{Long, Lengths}
 use Rattle.syntax.proofs.LoadLaws.{loaded, long_after, short_after, long_is}
-use Rattle.job.specs.declared.Answer.{Answer}
+use Rattle.job.specs.Answer.{Answer}
 use Rattle.load.specs.Loads.{LoadTo}
 
 -- an expression takes five places

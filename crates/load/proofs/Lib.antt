@@ -1,4 +1,3 @@
-pub mod Laws
 pub mod Tables
 pub mod Cases
 pub mod Kept

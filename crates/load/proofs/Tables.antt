@@ -18,16 +18,13 @@ use Rattle.syntax.specs.LoadLaws.{Lengths}
 use Rattle.syntax.proofs.LoadLaws.{load_refused, load_whole, load_out, long_load, long_after, cleared_same}
 use Rattle.entry.specs.declared.Shape.{Shape}
 use Rattle.entry.specs.Shapes.{shape_of}
-use Rattle.job.specs.declared.Answer.{Answer}
-use Rattle.job.specs.declared.Answer.TheVariants as answers
+use Rattle.job.specs.Answer.{Answer}
+use Rattle.std.specs.Prelude.{⊤, Result, Ok, Err}
 use Rattle.job.specs.ReadTables.{left}
 use Rattle.job.proofs.ReadTables.{short_tables, tables_left}
 use Rattle.job.specs.Answer.{long_tables, answer_of, refused_by, ReadTo, Zeroed}
 use Rattle.table.specs.Lent.{job_tables}
 use Rattle.table.specs.declared.Refusal.{Refusal}
-use Rattle.table.specs.declared.Expr.{Expr}
-use Rattle.uses.specs.declared.Answer.{Answer as TreeAnswer}
-use Rattle.uses.specs.declared.Answer.TheVariants as trees
 use Rattle.uses.specs.Answer.{refusal_of}
 use Rattle.tree.specs.Holds.{Holds}
 use Rattle.tree.specs.Filled.{filled_holds}
@@ -53,11 +50,11 @@ module _ {bytes n t s v h p n' t' s' v' h' p' : List ℕ} {a : Answer} (to : Rea
   after_is = tables_left to
 
   -- 1 to 7
-  pub refused_to : (q : Refusal) → a ≡ answers.Refused q → LoadTo bytes (answers.Refused q) before after
+  pub refused_to : (q : Refusal) → a ≡ Err q → LoadTo bytes (Err q) before after
   unfolding left answer_of load_with tables_after_load holding
   refused_to q e = go (long_tables n t s v h p) (reading bytes) refl refl (sym e ∙ to.answer)
     where
-      go : (b : Bool) (R : Read) → long_tables n t s v h p ≡ b → reading bytes ≡ R → answers.Refused q ≡ cond b (answer_of R) (refused_by 1 0) → LoadTo bytes (answers.Refused q) before after
+      go : (b : Bool) (R : Read) → long_tables n t s v h p ≡ b → reading bytes ≡ R → Err q ≡ cond b (answer_of R) (refused_by 1 0) → LoadTo bytes (Err q) before after
       go false R l i z = let all_short : short before ≡ true = short_is ∙ ap not l in record { answer = rw all_short z; tables = rw all_short (after_is false R l i) }
       go true (refused r) l i z =
           let none_short : short before ≡ false = short_is ∙ ap not l in
@@ -73,16 +70,16 @@ module _ {bytes n t s v h p n' t' s' v' h' p' : List ℕ} {a : Answer} (to : Rea
     pub long : short before ≡ false
     pub tables : after ≡ filled_with job.types job before
 
-  job_read : (g : Shape) → a ≡ answers.Job g → JobRead g
+  job_read : (g : Shape) → a ≡ Ok g → JobRead g
   unfolding answer_of left holding
   job_read g e = go (long_tables n t s v h p) (reading bytes) refl refl (sym e ∙ to.answer)
     where
-      go : (b : Bool) (R : Read) → long_tables n t s v h p ≡ b → reading bytes ≡ R → answers.Job g ≡ cond b (answer_of R) (refused_by 1 0) → JobRead g
+      go : (b : Bool) (R : Read) → long_tables n t s v h p ≡ b → reading bytes ≡ R → Ok g ≡ cond b (answer_of R) (refused_by 1 0) → JobRead g
       go false R l i z = absurd (let y : ◌≡◌ {A = ℕ} 0 1 = cc in omega arith)
       go true (refused r) l i z = absurd (let y : ◌≡◌ {A = ℕ} 0 1 = cc in omega arith)
       go true (read J) l i z = record { job = J; is = i; shape = cc; long = short_is ∙ ap not l; tables = after_is true (read J) l i }
 
-  module _ (by : Bytes bytes) {g : Shape} (e : a ≡ answers.Job g) (b : TreeAnswer) (f : (J : Job) → JobOk J → Holds J h' p' g.cmds n' g.names t' s' g.types g.values → refusal_of b ≡ tree_refusal (source_of J)) where
+  module _ (by : Bytes bytes) {g : Shape} (e : a ≡ Ok g) (b : Result ⊤ Refusal) (f : (J : Job) → JobOk J → Holds J h' p' g.cmds n' g.names t' s' g.types g.values → refusal_of b ≡ tree_refusal (source_of J)) where
     its : JobRead g
     its = job_read g e
 
@@ -96,21 +93,21 @@ module _ {bytes n t s v h p n' t' s' v' h' p' : List ℕ} {a : Answer} (to : Rea
         (ap (λ (w : JobTables). w.sets) x) (ap (λ (w : JobTables). w.heads) x) (ap (λ (w : JobTables). w.slots) x))
 
     -- the job
-    pub loaded_to : b ≡ trees.Tree → LoadTo bytes (answers.Job g) before after
+    pub loaded_to : b ≡ Ok tt → LoadTo bytes (Ok g) before after
     unfolding answer_of holding
     loaded_to d =
         let k : loading bytes ≡ read its.job = load_whole bytes its.job its.is (sym says ∙ ap refusal_of d) in
         record {
-          answer = ap answers.Job its.shape ∙ sym (ap answer_of (long_load before bytes its.long ∙ k));
+          answer = ap Ok its.shape ∙ sym (ap answer_of (long_load before bytes its.long ∙ k));
           tables = its.tables ∙ sym (long_after before bytes its.long ∙ ap (λ (R : Read). holding R before) k);
         }
 
     -- 8 to 10
-    pub cleared_to : {m : ℕ} {x : Expr} {n'' t'' s'' v'' h'' p'' : List ℕ} → b ≡ trees.Refused m x → Lengths after before → Zeroed n' t' s' v' h' p' n'' t'' s'' v'' h'' p''
-        → LoadTo bytes (refused_by m x.0) before (job_tables n'' t'' s'' v'' h'' p'')
+    pub cleared_to : {r : Refusal} {n'' t'' s'' v'' h'' p'' : List ℕ} → b ≡ Err r → Lengths after before → Zeroed n' t' s' v' h' p' n'' t'' s'' v'' h'' p''
+        → LoadTo bytes (Err r) before (job_tables n'' t'' s'' v'' h'' p'')
     unfolding answer_of holding cleared zeros
-    cleared_to {m} {x} d l y =
-        let k : loading bytes ≡ refused_at m x.0 = load_out bytes its.job its.is _ (sym says ∙ ap refusal_of d) in
+    cleared_to {r} d l y =
+        let k : loading bytes ≡ refused_at r.number r.place = load_out bytes its.job its.is _ (sym says ∙ ap refusal_of d) in
         record {
           answer = sym (ap answer_of (long_load before bytes its.long ∙ k));
           tables =

@@ -4,7 +4,7 @@
 ghost use Rattle.table.specs.Lent.{job_before, job_after};
 ghost use Rattle.load.specs.Loads.{LoadTo};
 
-use job::Answer;
+use entry::Shape;
 use table::Refusal;
 
 // The job that the bytes write, or 1 to 10. Number 1, where a table is too short, writes nothing; after every other refusal all tables are zero.
@@ -16,27 +16,16 @@ pub fn load(
     values: &mut [u64],
     heads: &mut [u64],
     slots: &mut [u16],
-) -> Answer
+) -> Result<Shape, Refusal>
     ensures { LoadTo job.now result
         (job_before names types sets values heads slots) (job_after names types sets values heads slots) }
 {
-    let a = job::read(job, names, types, sets, values, heads, slots);
-    match a {
-        Answer::Refused(r) => Answer::Refused(r),
-        Answer::Job(g) => {
-            let b = tree::tree(
-                heads, slots, g.cmds, names, g.names, types, sets, g.types, g.values,
-            );
-            match b {
-                tree::Answer::Tree => Answer::Job(g),
-                tree::Answer::Refused(n, e) => {
-                    job::clear_all(names, types, sets, values, heads, slots);
-                    Answer::Refused(Refusal {
-                        number: n,
-                        place: e.0 as usize,
-                    })
-                }
-            }
-        }
+    let g = job::read(job, names, types, sets, values, heads, slots)?;
+    if let Err(refusal) = tree::tree(
+        heads, slots, g.cmds, names, g.names, types, sets, g.types, g.values,
+    ) {
+        job::clear_all(names, types, sets, values, heads, slots);
+        return Err(refusal);
     }
+    Ok(g)
 }

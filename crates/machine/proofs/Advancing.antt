@@ -4,7 +4,7 @@ use Prim.Native.Nat.{ℕ, zero, suc, ◌+◌, ◌*◌, ◌/◌, ◌%◌, ◌≤�
 use native.Mathlib.Omega.{arith}
 use mathlib.Core.Bool.{Bool, true, false, cond, false≢true}
 use mathlib.Core.List.{List, [], ◌∷◌}
-use mathlib.Core.Option.{none, some}
+use mathlib.Core.Option.{some}
 use lib.Dec.{eqb, ltb}
 use lib.ListN.{length, get_or, set}
 use borrow.Author.Tests.{eqb-true, ltb-true, ltb-false}
@@ -31,13 +31,13 @@ use Rattle.acts.specs.Inner.{put_frames}
 use Rattle.machine.specs.declared.Scheduler.{Scheduler}
 use Rattle.machine.specs.declared.Turned.{Turned}
 use Rattle.machine.specs.declared.Rounds.{Rounds}
-use Rattle.machine.specs.declared.Whose.{Whose}
-use Rattle.machine.specs.declared.Whose.TheVariants as whose
-use Rattle.machine.specs.contracts.Whose.{the_type as whose_type}
+use Rattle.std.specs.Prelude as std
+use Rattle.std.specs.Prelude.{Some, None}
+use Rattle.machine.specs.declared.Turn as declared
 use Rattle.machine.specs.Turns.{has_left, less, turns_of}
-use Rattle.machine.specs.Ahead.{next_in, at_of, Held, MarksLeft, Least, with_marks, RoundsFrom, Refused, rounded_by, Ended, all_taken, one_refused, Rounded, without, onward, is_onward, joined, Begun, Few, Onward, Leads, to_do, Advanced}
+use Rattle.machine.specs.Ahead.{next_in, at_of, Held, MarksLeft, Least, with_marks, RoundsFrom, Refused, rounded_by, Ended, all_taken, one_refused, Rounded, without, onward, is_onward, joined, Begun, Few, Leads, to_do, Advanced}
 use Rattle.machine.specs.OneTurn.{less_total, less_few, turns_none}
-use Rattle.machine.specs.Scheduled.{system_in, marked, whose_in, turned_in, Started}
+use Rattle.machine.specs.Scheduled.{system_in, marked, whose_in, Started}
 use Rattle.machine.proofs.Lefts.{total_few}
 use Rattle.machine.proofs.Picked.{nobody_asked, marked_at, among, small, someone}
 use Rattle.machine.proofs.Moves.{answer_no_lem, held_without, fails, passes, not_live, held_stayed, full, starts, held_started}
@@ -152,25 +152,21 @@ held_left c w lv h m = record {
 
 -- nobody is left
 pub nobody_left : (heads slots : List ℕ) (c : Scheduler) (w : Tables) (lv : List ℕ) → length w.frames ≡ threads_words → Held c w → MarksLeft c.live c.rest lv
-    → (o : Whose) → whose_in o ≡ next_in lv c.from c.round c.count → OneOf (1 ∷ []) (tag_of whose_type o) → Advanced (code_in heads slots) c w (record { scheduler = c; thread = 0; answer = Finished }) w
+    → (o : std.Option declared.Turn) → whose_in o ≡ next_in lv c.from c.round c.count → o ≡ None → Advanced (code_in heads slots) c w (record { scheduler = c; thread = 0; answer = Finished }) w
 nobody_left heads slots c w lv long h m o e t = record {
   leads = record {
     long = long;
     few = few_here h c.rest (λ j. omega arith) 0 (omega arith) Finished;
     on = λ q. absurd (finished_not_taken q);
-    over = λ n. sym (turns_none (steps_of (code_in heads slots)) c.rest (nobody_asked (with_marks c lv) w (held_left c w lv h m) (sym e ∙ at o t)));
+    over = λ n. sym (turns_none (steps_of (code_in heads slots)) c.rest (nobody_asked (with_marks c lv) w (held_left c w lv h m) (sym e ∙ ap whose_in t)));
   };
   falls = λ q. absurd (finished_not_taken q);
 }
-  where
-    at : (o : Whose) → OneOf (1 ∷ []) (tag_of whose_type o) → whose_in o ≡ none
-    at (whose.Thread i r) t = absurd (miss (1 ∷ []) 0 tt t)
-    at whose.Nobody t = refl
 
 -- Turns that are known ahead
 
-module _ (c : Scheduler) (w : Tables) (h : Held c w) (lv : List ℕ) (m : MarksLeft c.live c.rest lv) (o : Whose) (i r : ℕ)
-    (e : whose_in o ≡ next_in lv c.from c.round c.count) (g : o ≡ whose.Thread i r) where
+module _ (c : Scheduler) (w : Tables) (h : Held c w) (lv : List ℕ) (m : MarksLeft c.live c.rest lv) (o : std.Option declared.Turn) (i r : ℕ)
+    (e : whose_in o ≡ next_in lv c.from c.round c.count) (g : o ≡ Some (record { at = i; round = r })) where
   abbrev c₀ : Scheduler
   c₀ = with_marks c lv
 
@@ -428,7 +424,7 @@ module _ (heads slots : List ℕ) {c : Scheduler} {v : Tables} {lv : List ℕ} {
 -- Turns one after another
 
 -- before the first
-leads_first : (heads slots : List ℕ) (c : Scheduler) (w : Tables) → length w.frames ≡ threads_words → Held c w → Leads (code_in heads slots) c w (onward c) w
+pub leads_first : (heads slots : List ℕ) (c : Scheduler) (w : Tables) → length w.frames ≡ threads_words → Held c w → Leads (code_in heads slots) c w (onward c) w
 leads_first heads slots c w long h = record {
   long = long;
   few = few_here h c.rest (λ j. omega arith) 0 (omega arith) Taken;
@@ -445,65 +441,34 @@ is_onward_lem answers.Stuck e = absurd (false≢true e)
 is_onward_lem answers.Denied e = absurd (false≢true e)
 is_onward_lem answers.Starts e = absurd (false≢true e)
 
-pub not_going : (a : Answer) → OneOf (1 ∷ 2 ∷ 3 ∷ 4 ∷ 5 ∷ []) (tag_of answer_type a) → false ≡ is_onward a
-unfolding is_onward
-not_going answers.Taken t = absurd (miss (1 ∷ 2 ∷ 3 ∷ 4 ∷ 5 ∷ []) 0 tt t)
-not_going answers.Finished t = refl
-not_going answers.NoRoom t = refl
-not_going answers.Stuck t = refl
-not_going answers.Denied t = refl
-not_going answers.Starts t = refl
-
-not_onward : (a : Answer) → is_onward a ≡ false → a ≡ Taken → ⊥
-unfolding is_onward
-not_onward a e q = false≢true (sym e ∙ ap is_onward q)
-
--- where turns stand, and their last answer
-pub record Going (heads slots : List ℕ) (c : Scheduler) (v : Tables) (t : Turned) (a : Answer) (x : Tables) : Type 0 where
-  pub same : a ≡ t.answer
-  pub leads : Leads (code_in heads slots) c v t x
-
-pub going_first : (heads slots : List ℕ) (c : Scheduler) (w : Tables) → length w.frames ≡ threads_words → Held c w → Going heads slots c w (onward c) Taken w
-going_first heads slots c w long h = record { same = refl; leads = leads_first heads slots c w long h }
-
 -- what is to be done, and one for the end
-unfoldable pub measure : Turned → Answer → ℕ
-measure t a = cond (is_onward a) (suc (to_do t.scheduler)) 0
+unfoldable pub measure : Turned → ℕ
+measure t = cond (is_onward t.answer) (suc (to_do t.scheduler)) 0
 
-module _ {heads slots : List ℕ} {c : Scheduler} {v : Tables} {t : Turned} {a : Answer} {x : Tables} (g : Going heads slots c v t a x) where
-  pub held_now : is_onward a ≡ true → Held t.scheduler x
-  held_now e = (g.leads.on (sym g.same ∙ is_onward_lem a e)).held
+module _ (heads slots : List ℕ) {c : Scheduler} {v : Tables} {t : Turned} {x : Tables} (g : Leads (code_in heads slots) c v t x) (e : t.answer ≡ Taken) where
+  pub held_now : Held t.scheduler x
+  held_now = (g.on e).held
 
   -- some more
-  module _ (e : is_onward a ≡ true) {u : Turned} {y : Tables} (s : Advanced (code_in heads slots) t.scheduler x u y) where
-    before : Onward (code_in heads slots) c v t.scheduler x
-    before = g.leads.on (sym g.same ∙ is_onward_lem a e)
-
-    pub goes_on : Going heads slots c v u u.answer y
+  module _ {u : Turned} {y : Tables} (s : Advanced (code_in heads slots) t.scheduler x u y) where
+    pub goes_on : Leads (code_in heads slots) c v u y
     goes_on = record {
-      same = refl;
-      leads = record {
-        long = s.leads.long;
-        few = record {
-          count = s.leads.few.count;
-          round = s.leads.few.round;
-          from = s.leads.few.from;
-          thread = s.leads.few.thread;
-          left = λ j. let z = s.leads.few.left j in omega (arith, z, g.leads.few.left j);
-        };
-        on = λ q. let z = s.leads.on q in record { held = z.held; turns = before.turns ∙ z.turns };
-        over = λ n. s.leads.over n ∙ sym before.turns;
+      long = s.leads.long;
+      few = record {
+        count = s.leads.few.count;
+        round = s.leads.few.round;
+        from = s.leads.few.from;
+        thread = s.leads.few.thread;
+        left = λ j. let z = s.leads.few.left j in omega (arith, z, g.few.left j);
       };
+      on = λ q. let z = s.leads.on q in record { held = z.held; turns = (g.on e).turns ∙ z.turns };
+      over = λ n. s.leads.over n ∙ sym (g.on e).turns;
     }
 
-    pub measure_falls : measure u u.answer < measure t a
-    unfolding measure
-    measure_falls = subst⁻¹ (λ (b : Bool). cond (is_onward u.answer) (suc (to_do u.scheduler)) 0 < cond b (suc (to_do t.scheduler)) 0) e (at (is_onward u.answer) refl)
+    pub measure_falls : measure u < measure t
+    unfolding measure is_onward
+    measure_falls = subst⁻¹ (λ (b : Bool). cond (is_onward u.answer) (suc (to_do u.scheduler)) 0 < cond b (suc (to_do t.scheduler)) 0) (ap is_onward e) (at (is_onward u.answer) refl)
       where
         at : (b : Bool) → is_onward u.answer ≡ b → cond b (suc (to_do u.scheduler)) 0 < suc (to_do t.scheduler)
         at true q = let z = s.falls (is_onward_lem u.answer q) in omega (arith, z)
         at false q = omega arith
-
-  -- the end
-  pub all_over : is_onward a ≡ false → turned_in t x ≡ turns_of (steps_of (code_in heads slots)) c.rest (system_in c v)
-  all_over e = g.leads.over (λ q. not_onward a e (g.same ∙ q))

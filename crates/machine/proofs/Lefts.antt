@@ -9,7 +9,6 @@ use lib.ListN.{length, length-set, get_or, set, replicate}
 use lib.Seq.{get_or-set_same, get_or-set_other}
 use borrow.Author.Tests.{eqb-true, eqb-false, ltb-true, ltb-false}
 use Rattle.order.specs.Bools.{◌and◌}
-use Rattle.semantics.specs.Machine.{most_threads}
 use Rattle.semantics.specs.Calls.{total}
 use Rattle.machine.specs.Turns.{has_left}
 use Rattle.machine.specs.TurnsCalls.{Split}
@@ -129,23 +128,35 @@ least_all v h = record { within = v.within; each = λ j l w. v.each j (omega (ar
 
 -- What is taken of an allowance
 
-abbrev pub less_by : List ℕ → List ℕ → ℕ → ℕ
-less_by a r i = get_or a i 0 - get_or r i 0
+-- up to place i what is left is taken off; from there on the allowance stands
+pub record TakenTo (allow rest counts : List ℕ) (i : ℕ) : Type 0 where
+  pub long : length counts ≡ 8
+  pub done : (j : ℕ) → j < i → get_or counts j 0 + get_or rest j 0 ≡ get_or allow j 0
+  pub todo : (j : ℕ) → i ≤ j → get_or counts j 0 ≡ get_or allow j 0
 
-pub eight_split : (allow rest : List ℕ) → length allow ≡ 8 → length rest ≡ 8 → ((j : ℕ) → j < most_threads → get_or rest j 0 ≤ get_or allow j 0)
-    → Split allow (less_by allow rest 0 ∷ less_by allow rest 1 ∷ less_by allow rest 2 ∷ less_by allow rest 3 ∷ less_by allow rest 4 ∷ less_by allow rest 5 ∷ less_by allow rest 6 ∷ less_by allow rest 7 ∷ []) rest
-eight_split allow rest a b f = record { each = λ i. at i }
+pub taken_none : (allow rest : List ℕ) → length allow ≡ 8 → TakenTo allow rest allow 0
+taken_none allow rest a = record { long = a; done = λ j h. absurd (omega (arith, h)); todo = λ j h. refl }
+
+pub taken_more : {allow rest counts : List ℕ} {i : ℕ} → TakenTo allow rest counts i → i < 8 → get_or rest i 0 ≤ get_or allow i 0
+    → TakenTo allow rest (set counts i (get_or counts i 0 - get_or rest i 0)) (i + 1)
+taken_more {allow} {rest} {counts} {i} v h f = record {
+  long = length-set counts i _ ∙ v.long;
+  done = λ j l. at j l (eqb j i) refl;
+  todo = λ j l. get_or-set_other counts i j _ 0 (λ q. omega (arith, q, l)) ∙ v.todo j (omega (arith, l));
+}
   where
-    at : (i : ℕ) →
-        get_or (less_by allow rest 0 ∷ less_by allow rest 1 ∷ less_by allow rest 2 ∷ less_by allow rest 3 ∷ less_by allow rest 4 ∷ less_by allow rest 5 ∷ less_by allow rest 6 ∷ less_by allow rest 7 ∷ []) i 0
-        + get_or rest i 0 ≡ get_or allow i 0
-    at zero = omega (arith, f 0 (omega arith))
-    at (suc zero) = omega (arith, f 1 (omega arith))
-    at (suc (suc zero)) = omega (arith, f 2 (omega arith))
-    at (suc (suc (suc zero))) = omega (arith, f 3 (omega arith))
-    at (suc (suc (suc (suc zero)))) = omega (arith, f 4 (omega arith))
-    at (suc (suc (suc (suc (suc zero))))) = omega (arith, f 5 (omega arith))
-    at (suc (suc (suc (suc (suc (suc zero)))))) = omega (arith, f 6 (omega arith))
-    at (suc (suc (suc (suc (suc (suc (suc zero))))))) = omega (arith, f 7 (omega arith))
-    at (suc (suc (suc (suc (suc (suc (suc (suc i)))))))) =
-        omega (arith, past allow (suc (suc (suc (suc (suc (suc (suc (suc i)))))))) (omega (arith, a)), past rest (suc (suc (suc (suc (suc (suc (suc (suc i)))))))) (omega (arith, b)))
+    here : get_or (set counts i (get_or counts i 0 - get_or rest i 0)) i 0 + get_or rest i 0 ≡ get_or allow i 0
+    here = omega (arith, get_or-set_same counts i (get_or counts i 0 - get_or rest i 0) 0 (omega (arith, v.long, h)), v.todo i (omega arith), f)
+
+    at : (j : ℕ) → j < i + 1 → (b : Bool) → eqb j i ≡ b → get_or (set counts i (get_or counts i 0 - get_or rest i 0)) j 0 + get_or rest j 0 ≡ get_or allow j 0
+    at j l true q = subst⁻¹ (λ (k : ℕ). get_or (set counts i (get_or counts i 0 - get_or rest i 0)) k 0 + get_or rest k 0 ≡ get_or allow k 0) (eqb-true j i q) here
+    at j l false q =
+        let z = eqb-false j i q in
+        omega (arith, get_or-set_other counts i j (get_or counts i 0 - get_or rest i 0) 0 z, v.done j (omega (arith, l, z)))
+
+pub taken_all : {allow rest counts : List ℕ} {i : ℕ} → length rest ≡ 8 → TakenTo allow rest counts i → 8 ≤ i → Split allow counts rest
+taken_all {allow} {rest} {counts} {i} b v h = record { each = λ j. at j (ltb j i) refl }
+  where
+    at : (j : ℕ) (c : Bool) → ltb j i ≡ c → get_or counts j 0 + get_or rest j 0 ≡ get_or allow j 0
+    at j true q = v.done j (ltb-true j i q)
+    at j false q = let l = ltb-false j i q in omega (arith, v.todo j l, past rest j (omega (arith, l, b, h)))

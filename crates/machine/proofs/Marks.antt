@@ -4,26 +4,25 @@ use Prim.Native.Nat.{ℕ, zero, suc, ◌+◌, ◌-◌, ◌≤◌, ◌<◌}
 use native.Mathlib.Omega.{arith}
 use native.Mathlib.Numerals.{add-one}
 use mathlib.Core.Bool.{Bool, true, false, cond, not}
-use mathlib.Core.List.{List, [], ◌∷◌}
+use mathlib.Core.List.{List, []}
 use mathlib.Core.Option.{none, some}
 use lib.Dec.{eqb, ltb}
 use lib.ListN.{length, length-set, get_elem?, get_or, set, replicate}
 use lib.Seq.{get_or-set_same, get_or-set_other}
 use borrow.Author.Tests.{eqb-true, eqb-false, ltb-true, ltb-false, lt-ltb}
-use types.Run.{OneOf, miss}
-use denote.Enum.Declared.{tag_of}
 use Rattle.semantics.specs.Machine.{most_threads}
 use Rattle.semantics.specs.Room.{is_done}
 use Rattle.semantics.specs.Threads.{live_thread, first_from}
 use Rattle.store.specs.declared.Used.{Used}
-use Rattle.acts.specs.contracts.Control.{the_type as control_type}
+use Rattle.table.specs.declared.Expr.{Expr}
+use Rattle.acts.specs.declared.Control.TheVariants.{Enter, Hand}
 use Rattle.acts.specs.View.{Tables, tables, view}
 use Rattle.thread.specs.declared.Thread.{Thread}
 use Rattle.thread.specs.View.{state_of}
 use Rattle.thread.proofs.Hands.{done_enter, done_hand}
-use Rattle.machine.specs.declared.Whose.{Whose}
-use Rattle.machine.specs.declared.Whose.TheVariants as whose
-use Rattle.machine.specs.contracts.Whose.{the_type as whose_type}
+use Rattle.std.specs.Prelude as std
+use Rattle.std.specs.Prelude.{Some, None}
+use Rattle.machine.specs.declared.Turn as declared
 use Rattle.machine.specs.Scheduled.{thread_in, thread_at, part_of, idle, listed, marked, whose_in}
 use Rattle.machine.specs.Ahead.{next_in, at_of}
 use Rattle.machine.specs.Listed.{listed_get, listed_none}
@@ -36,13 +35,13 @@ unused = record { cells = 0; keys = 0; pairs = 0; functions = 0; bindings = 0 }
 abbrev frames_only : List ℕ → Tables
 frames_only fs = tables [] fs [] [] [] [] []
 
-pub mark_enter : (t : Thread) → OneOf (0 ∷ []) (tag_of control_type t.now.control) → (fs : List ℕ) → eqb 1 1 ≡ live_thread (some (thread_in t fs))
+pub mark_enter : (t : Thread) (e : Expr) → t.now.control ≡ Enter e → (fs : List ℕ) → eqb 1 1 ≡ live_thread (some (thread_in t fs))
 unfolding live_thread view is_done
-mark_enter t h fs = ap not (done_enter (state_of t unused) (frames_only fs) h)
+mark_enter t e h fs = ap not (done_enter (state_of t unused) (frames_only fs) e h)
 
-pub mark_hand : (t : Thread) (b : Bool) → OneOf (1 ∷ []) (tag_of control_type t.now.control) → eqb t.frames 0 ≡ b → (fs : List ℕ) → not b ≡ live_thread (some (thread_in t fs))
+pub mark_hand : (t : Thread) (b : Bool) (w : ℕ) → t.now.control ≡ Hand w → eqb t.frames 0 ≡ b → (fs : List ℕ) → not b ≡ live_thread (some (thread_in t fs))
 unfolding live_thread view is_done
-mark_hand t b h e fs = ap not (sym e ∙ done_hand (state_of t unused) (frames_only fs) h)
+mark_hand t b w h e fs = ap not (sym e ∙ done_hand (state_of t unused) (frames_only fs) w h)
 
 -- The first that a test holds of
 
@@ -102,17 +101,13 @@ marks_more live ts i m h e o fs j = at (eqb j i) refl
 -- Whose turn it is, looked up ahead
 
 -- the thread that the table names
-pub known_at : (live : List ℕ) (f n i r : ℕ) (w : Whose) → whose_in w ≡ next_in live f n n → w ≡ whose.Thread i r → i ≡ at_of (next_in live f n n)
+pub known_at : (live : List ℕ) (f n : ℕ) (o : std.Option declared.Turn) (t : declared.Turn) → whose_in o ≡ next_in live f n n → o ≡ Some t → t.at ≡ at_of (next_in live f n n)
 unfolding at_of
-known_at live f n i r w e q = ap at_of (sym (ap whose_in q) ∙ e)
+known_at live f n o t e q = ap at_of (sym (ap whose_in q) ∙ e)
 
-pub known_nobody : (live : List ℕ) (f n : ℕ) (w : Whose) → whose_in w ≡ next_in live f n n → OneOf (1 ∷ []) (tag_of whose_type w) → 8 ≡ at_of (next_in live f n n)
+pub known_nobody : (live : List ℕ) (f n : ℕ) (o : std.Option declared.Turn) → whose_in o ≡ next_in live f n n → o ≡ None → 8 ≡ at_of (next_in live f n n)
 unfolding at_of
-known_nobody live f n w e t = at w t ∙ ap at_of e
-  where
-    at : (w : Whose) → OneOf (1 ∷ []) (tag_of whose_type w) → 8 ≡ at_of (whose_in w)
-    at (whose.Thread i r) t = absurd (miss (1 ∷ []) 0 tt t)
-    at whose.Nobody t = refl
+known_nobody live f n o e q = ap at_of (sym (ap whose_in q) ∙ e)
 
 -- the table up to place f
 pub record AheadTo (live : List ℕ) (n : ℕ) (a : List ℕ) (f : ℕ) : Type 0 where

@@ -4,10 +4,8 @@ use Prim.Native.Nat.{ℕ, ◌-◌, ◌%◌, ◌≤◌, ◌<◌}
 use native.Mathlib.Omega.{arith}
 use native.Mathlib.Nat.{sub-zero, mod-eq_of_lt}
 use mathlib.Core.Bool.{Bool, true, false, cond, false≢true}
-use mathlib.Core.List.{List, [], ◌∷◌}
+use mathlib.Core.List.{List, []}
 use mathlib.Core.Option.{Option, none, some, none-ne-some, some-injective}
-use types.Run.{OneOf, miss}
-use denote.Enum.Declared.{tag_of}
 use lib.Dec.{ltb, leb}
 use lib.ListN.{length, get_elem?, get_or}
 use borrow.Author.Tests.{ltb-true, ltb-false, le-leb, lt-leb}
@@ -29,9 +27,9 @@ use Rattle.thread.specs.Own.{own_in, Owned}
 use Rattle.machine.specs.declared.Answer.{Answer}
 use Rattle.machine.specs.declared.Machine.{Machine}
 use Rattle.machine.specs.declared.Turned.{Turned}
-use Rattle.machine.specs.declared.Whose.{Whose}
-use Rattle.machine.specs.declared.Whose.TheVariants as whose
-use Rattle.machine.specs.contracts.Whose.{the_type as whose_type}
+use Rattle.std.specs.Prelude as std
+use Rattle.std.specs.Prelude.{Some, None}
+use Rattle.machine.specs.declared.Turn as declared
 use Rattle.machine.specs.Turns as turns
 use Rattle.machine.specs.Turns.{turns_of, said_by, thread_by, says}
 use Rattle.machine.specs.TurnsCalls.{Split, split_taken, call_turns, only, step_idle, step_turns}
@@ -169,7 +167,7 @@ seen_few m fs = rw (listed_length (thread_at m.threads fs) (capped m.count most_
 
 -- whose turn it is, of all threads that are not finished
 module _ (m : Machine) (fs l : List ℕ) {x y : ℕ} (p : x ≡ capped m.count most_threads) (q : y ≡ capped m.round most_threads)
-    (k : (fs : List ℕ) (j : ℕ) → marked l j ≡ live_thread (get_elem? (listed (thread_at m.threads fs) x) j)) (o : Whose) (e : whose_in o ≡ next_in l m.from y x) where
+    (k : (fs : List ℕ) (j : ℕ) → marked l j ≡ live_thread (get_elem? (listed (thread_at m.threads fs) x) j)) (o : std.Option declared.Turn) (e : whose_in o ≡ next_in l m.from y x) where
   anybody : ℕ → Bool
   anybody i = live (seen m fs) i and always no_steps i
 
@@ -190,15 +188,11 @@ module _ (m : Machine) (fs l : List ℕ) {x y : ℕ} (p : x ≡ capped m.count m
 
   module _ (code : ℕ → Cmd ℕ) where
     -- nobody's
-    pub nobody_told : OneOf (1 ∷ []) (tag_of whose_type o) → ran SCalls.finished no_steps 0 (seen m fs) ≡ call (steps_of code) one_step (seen m fs)
+    pub nobody_told : o ≡ None → ran SCalls.finished no_steps 0 (seen m fs) ≡ call (steps_of code) one_step (seen m fs)
     unfolding anybody
-    nobody_told t = sym (step_idle (steps_of code) (lawful code) (seen m fs) (sym next_seen ∙ at o t))
-      where
-        at : (o : Whose) → OneOf (1 ∷ []) (tag_of whose_type o) → whose_in o ≡ none
-        at (whose.Thread i r) t = absurd (miss (1 ∷ []) 0 tt t)
-        at whose.Nobody t = refl
+    nobody_told t = sym (step_idle (steps_of code) (lawful code) (seen m fs) (sym next_seen ∙ ap whose_in t))
 
-    module _ {i r : ℕ} (g : o ≡ whose.Thread i r) where
+    module _ {i r : ℕ} (g : o ≡ Some (record { at = i; round = r })) where
       is_next : next anybody (seen m fs) ≡ some (record { at = i; round = r })
       is_next = sym next_seen ∙ ap whose_in g
 

@@ -1,5 +1,6 @@
 -- The threads of a machine and its store in words, seen as the machine of the semantics.
-use Rattle.std.specs.Prelude.{◌≡◌, ℕ, zero, suc, ◌*◌, Bool, List, [], ◌∷◌, ◌++◌, get_or, take, drop, eqb}
+use Rattle.std.specs.Prelude as std
+use Rattle.std.specs.Prelude.{◌≡◌, Some, None, ℕ, zero, suc, ◌*◌, Bool, List, [], ◌∷◌, ◌++◌, get_or, take, drop, eqb}
 use Rattle.std.proofs.Math.Option.{Option, none, some}
 use Rattle.semantics.specs.Machine.{k_num, unkeyed, enter, hand, Thread as SThread, Store, System, most_frames, most_cells, most_keys, most_pairs, most_functions, most_bindings}
 use Rattle.semantics.specs.Step.{fresh}
@@ -16,8 +17,7 @@ use Rattle.thread.specs.declared.Thread.{Thread}
 use Rattle.thread.specs.Own.{own_in, Owned}
 use Rattle.machine.specs.declared.Scheduler.{Scheduler}
 use Rattle.machine.specs.declared.Turned.{Turned}
-use Rattle.machine.specs.declared.Whose.{Whose}
-use Rattle.machine.specs.declared.Whose.TheVariants as whose
+use Rattle.machine.specs.declared.Turn as declared
 use Rattle.machine.specs.Turns as turns
 
 -- a thread, with its part of the words, of which the frames are read
@@ -78,9 +78,10 @@ pub record Started (a b : List ℕ) (i k : ℕ) (slots : List ℕ) : Type 0 wher
 unfoldable pub marked : List ℕ → ℕ → Bool
 marked l j = eqb (get_or l j 0) 1
 
-abbrev pub whose_in : Whose → Option Turn
-whose_in (whose.Thread i r) = some (record { at = i; round = r })
-whose_in whose.Nobody = none
+-- whose turn it is; none where nobody has one
+abbrev pub whose_in : std.Option declared.Turn → Option Turn
+whose_in (Some t) = some (record { at = t.at; round = t.round })
+whose_in None = none
 
 abbrev pub turned_in : Turned → Tables → turns.Turned
 turned_in r w = turns.turned (answer_in r.answer) r.scheduler.rest r.thread (system_in r.scheduler w)

@@ -6,7 +6,7 @@ ghost use Rattle.semantics.specs.Threads.{first_from};
 ghost use Rattle.machine.specs.Scheduled.{marked, whose_in};
 ghost use Rattle.machine.specs.Ahead.{next_in, at_of};
 
-use crate::Whose;
+use crate::Turn;
 use store::MOST_THREADS;
 
 // One place for each thread that may have stepped last, and one for none.
@@ -17,30 +17,36 @@ pub(crate) fn first(live: &[u8; MOST_THREADS], i: usize, e: usize) -> usize
     requires { e ≤ most_threads }
     ensures { first_from (marked live.now) i (e - i) ≡ cond (ltb result e) (some result) none }
 {
-    let mut j = i;
-    while j < e {
+    for j in i..e {
         if live[j] == 1 {
             return j;
         }
-        j = j + 1;
     }
     e
 }
 
 // The next live thread of the round, else the lowest of all, in a new round of the threads that there are.
-pub(crate) fn next_turn(live: &[u8; MOST_THREADS], from: usize, round: usize, count: usize) -> Whose
+pub(crate) fn next_turn(
+    live: &[u8; MOST_THREADS],
+    from: usize,
+    round: usize,
+    count: usize,
+) -> Option<Turn>
     requires { (round ≤ most_threads) × (count ≤ most_threads) }
     ensures { whose_in result ≡ next_in live.now from round count }
 {
     let i = first(live, from, round);
     if i < round {
-        return Whose::Thread(i, round);
+        return Some(Turn { at: i, round });
     }
     let j = first(live, 0, count);
     if j < count {
-        return Whose::Thread(j, count);
+        return Some(Turn {
+            at: j,
+            round: count,
+        });
     }
-    Whose::Nobody
+    None
 }
 
 // The thread whose turn it is after place f, where all threads are in the round; past all of them where there is none.
@@ -48,10 +54,9 @@ fn known(live: &[u8; MOST_THREADS], f: usize, count: usize) -> usize
     requires { count ≤ most_threads }
     ensures { result ≡ at_of (next_in live.now f count count) }
 {
-    let whose = next_turn(live, f, count, count);
-    match whose {
-        Whose::Thread(i, _) => i,
-        Whose::Nobody => MOST_THREADS,
+    match next_turn(live, f, count, count) {
+        Some(turn) => turn.at,
+        None => MOST_THREADS,
     }
 }
 
@@ -61,10 +66,8 @@ pub(crate) fn ahead(live: &[u8; MOST_THREADS], count: usize) -> [usize; AHEAD]
     ensures { (f : ℕ) → f ≤ most_threads → get_or result f 0 ≡ at_of (next_in live.now f count count) }
 {
     let mut a = [0usize; AHEAD];
-    let mut f: usize = 0;
-    while f < AHEAD {
+    for f in 0..AHEAD {
         a[f] = known(live, f, count);
-        f = f + 1;
     }
     a
 }

@@ -22,6 +22,7 @@ pub enum Answer {
 }
 
 // Where turns stand: 1 for each thread that may have a turn, the steps that are left to each, how many threads there are, the round and who stepped last, and what the store uses.
+// The marks are numbers and no bools: `to_do` adds them up.
 #[derive(Drop)]
 pub struct Scheduler {
     pub live: [u8; MOST_THREADS],
@@ -50,11 +51,11 @@ pub struct Rounds {
     pub answer: acts::Answer,
 }
 
-// Whose turn it is, and how many threads are in the round in which it steps.
+// The thread whose turn it is, and how many threads are in the round in which it steps.
 #[derive(Clone, Copy)]
-pub enum Whose {
-    Thread(usize, usize),
-    Nobody,
+pub struct Turn {
+    pub at: usize,
+    pub round: usize,
 }
 
 // So many threads by number, the round and who stepped last, and what the store uses.

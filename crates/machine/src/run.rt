@@ -15,7 +15,7 @@ ghost use Rattle.machine.specs.View.{seen, answer_in, ran_in};
 use crate::ahead::{first, next_turn};
 use crate::turns::{mark, turns};
 use crate::words::{put_threads, threads_in};
-use crate::{Answer, Machine, Outcome, Scheduler, Whose};
+use crate::{Answer, Machine, Outcome, Scheduler};
 use store::{MOST_THREADS, THREADS_WORDS};
 use thread::Thread;
 
@@ -25,11 +25,8 @@ fn marks(threads: [Thread; MOST_THREADS], count: usize) -> [u8; MOST_THREADS]
     ensures { (fs : List ℕ) (j : ℕ) → marked result j ≡ live_thread (get_elem? (listed (thread_at threads fs) count) j) }
 {
     let mut live = [0u8; MOST_THREADS];
-    let mut i: usize = 0;
-    while i < count {
-        let t = threads[i];
-        live[i] = mark(t);
-        i = i + 1;
+    for i in 0..count {
+        live[i] = mark(threads[i]);
     }
     live
 }
@@ -39,16 +36,11 @@ fn taken(allow: [u64; MOST_THREADS], rest: [u64; MOST_THREADS]) -> [u64; MOST_TH
     requires { (j : ℕ) → j < most_threads → get_or rest j 0 ≤ get_or allow j 0 }
     ensures { Split allow result rest }
 {
-    [
-        allow[0] - rest[0],
-        allow[1] - rest[1],
-        allow[2] - rest[2],
-        allow[3] - rest[3],
-        allow[4] - rest[4],
-        allow[5] - rest[5],
-        allow[6] - rest[6],
-        allow[7] - rest[7],
-    ]
+    let mut counts = allow;
+    for i in 0..MOST_THREADS {
+        counts[i] -= rest[i];
+    }
+    counts
 }
 
 fn closed(done: bool) -> Answer
@@ -62,37 +54,28 @@ fn closed(done: bool) -> Answer
 }
 
 // The answer of a run, or of a step, whose turns ended with a; whether all threads are finished then.
+#[tactic(auto, unfolding(crate::specs::Turns::said_by))]
 fn told(run: bool, done: bool, a: acts::Answer) -> Answer
     ensures { answer_in result ≡ said_by run done (meaning.answer_in a) }
 {
     match a {
-        acts::Answer::Taken => closed(done),
-        acts::Answer::Finished => { if run { closed(done) } else { Answer::Taken } }
+        acts::Answer::Finished if !run => Answer::Taken,
         acts::Answer::NoRoom => Answer::NoRoom,
         acts::Answer::Stuck => Answer::Stuck,
         acts::Answer::Denied => Answer::Denied,
-        acts::Answer::Starts => closed(done),
+        _ => closed(done),
     }
 }
 
-// One less than n, of 0 too.
-fn one_less(n: usize) -> usize
-    ensures { result ≡ n - 1 }
-{
-    if n == 0 { 0 } else { n - 1 }
-}
-
 // The thread that is told with the answer: the one that failed; of a step that is taken, who stepped last; else 0.
+#[tactic(auto, unfolding(crate::specs::Turns::thread_by))]
 fn thread_told(run: bool, a: acts::Answer, i: usize, from: usize) -> usize
     ensures { result ≡ thread_by run (meaning.answer_in a) i from }
 {
     match a {
-        acts::Answer::Taken => 0,
-        acts::Answer::Finished => { if run { 0 } else { one_less(from) } }
-        acts::Answer::NoRoom => i,
-        acts::Answer::Stuck => i,
-        acts::Answer::Denied => i,
-        acts::Answer::Starts => 0,
+        acts::Answer::NoRoom | acts::Answer::Stuck | acts::Answer::Denied => i,
+        acts::Answer::Finished if !run => from.saturating_sub(1),
+        _ => 0,
     }
 }
 
@@ -100,8 +83,7 @@ fn thread_told(run: bool, a: acts::Answer, i: usize, from: usize) -> usize
 pub fn within(n: u8) -> usize
     ensures { result ≡ capped n most_threads }
 {
-    let m = n as usize;
-    if m < MOST_THREADS { m } else { MOST_THREADS }
+    usize::from(n).min(MOST_THREADS)
 }
 
 // Whether all of so many threads are finished.
@@ -125,18 +107,16 @@ impl Machine {
     ) -> Outcome
         ensures { ran_in result frames.new ≡ says run allow (turns_of (steps_of (lent_code heads slots)) allow (seen self frames.old)) }
     {
-        let threads = self.threads;
-        let used = self.used;
         let count = within(self.count);
         let scheduler = Scheduler {
-            live: marks(threads, count),
+            live: marks(self.threads, count),
             rest: allow,
-            count: count,
+            count,
             round: within(self.round),
             from: self.from as usize,
-            used: used,
+            used: self.used,
         };
-        put_threads(threads, &mut frames[..]);
+        put_threads(self.threads, &mut frames[..]);
         let mut cells = self.cells;
         let mut keys = self.keys;
         let mut pairs = self.pairs;
@@ -154,28 +134,25 @@ impl Machine {
             &mut bindings,
         );
         let c = s.scheduler;
-        let a = s.answer;
-        let ts = threads_in(&frames[..]);
-        let us = c.used;
-        let left = c.rest;
-        let m = Machine {
-            threads: ts,
-            count: (c.count % 256) as u8,
-            round: (c.round % 256) as u8,
-            from: (c.from % 256) as u8,
-            used: us,
-            cells: cells,
-            keys: keys,
-            pairs: pairs,
-            functions: functions,
-            bindings: bindings,
-        };
-        let done = all_finished(ts, (c.count % 256) as u8);
+        let threads = threads_in(&frames[..]);
+        let count = (c.count % 256) as u8;
+        let done = all_finished(threads, count);
         Outcome {
-            machine: m,
-            counts: taken(allow, left),
-            thread: (thread_told(run, a, s.thread, c.from) % 256) as u8,
-            answer: told(run, done, a),
+            machine: Machine {
+                threads,
+                count,
+                round: (c.round % 256) as u8,
+                from: (c.from % 256) as u8,
+                used: c.used,
+                cells,
+                keys,
+                pairs,
+                functions,
+                bindings,
+            },
+            counts: taken(allow, c.rest),
+            thread: (thread_told(run, s.answer, s.thread, c.from) % 256) as u8,
+            answer: told(run, done, s.answer),
         }
     }
 
@@ -184,11 +161,9 @@ impl Machine {
         ensures { ran_in result frames.new ≡ call (steps_of (lent_code heads slots)) one_step (seen self frames.old) }
     {
         let mut one = [0u64; MOST_THREADS];
-        let threads = self.threads;
         let count = within(self.count);
-        let live = marks(threads, count);
-        let whose = next_turn(&live, self.from as usize, within(self.round), count);
-        let Whose::Thread(i, _) = whose else {
+        let live = marks(self.threads, count);
+        let Some(turn) = next_turn(&live, self.from as usize, within(self.round), count) else {
             return Outcome {
                 machine: self,
                 counts: one,
@@ -196,7 +171,7 @@ impl Machine {
                 answer: Answer::Finished,
             };
         };
-        one[i] = 1;
+        one[turn.at] = 1;
         self.call(one, false, heads, slots, frames)
     }
 

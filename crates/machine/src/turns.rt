@@ -19,7 +19,7 @@ ghost use Rattle.machine.specs.Scheduled.{thread_in, part_of, system_in, turned_
 
 use crate::ahead::{AHEAD, ahead, next_turn};
 use crate::words::{put_at, thread_at};
-use crate::{Rounds, Scheduler, Turned, Whose};
+use crate::{Rounds, Scheduler, Turned};
 use acts::{Answer, Control, Now};
 use store::{
     BINDING_WORDS, CELL_WORDS, FUNCTION_WORDS, KEY_BYTES, Keys, MOST_THREADS, PAIR_WORDS,
@@ -32,10 +32,8 @@ use thread::{Ended, Thread, step};
 fn body_of(t: Thread, slots: &[u16]) -> Expr
     ensures { (e : ℕ) → control_in t.now.control ≡ enter e → result.0 ≡ get_or slots.now (e * 5) 0 }
 {
-    let now = t.now;
-    let control = now.control;
-    match control {
-        Control::Enter(e) => Expr(table::at16(slots, e.0 as usize * 5)),
+    match t.now.control {
+        Control::Enter(e) => Expr(table::get_or(slots, e.0 as usize * 5, 0)),
         Control::Hand(_) => Expr(0),
     }
 }
@@ -44,25 +42,23 @@ fn body_of(t: Thread, slots: &[u16]) -> Expr
 fn fresh(t: Thread, slots: &[u16]) -> Thread
     ensures { (e : ℕ) (fs : List ℕ) → control_in t.now.control ≡ enter e → thread_in result fs ≡ semantics.fresh (get_or slots.now (e * 5) 0) t.now.env }
 {
-    let now = t.now;
-    let e = body_of(t, slots);
-    let n = Now {
-        control: Control::Enter(e),
-        env: now.env,
-        on: Keys(0, 0),
-    };
-    Thread { now: n, frames: 0 }
+    Thread {
+        now: Now {
+            control: Control::Enter(body_of(t, slots)),
+            env: t.now.env,
+            on: Keys(0, 0),
+        },
+        frames: 0,
+    }
 }
 
 // 1 for a thread that is not finished, 0 for one that is.
 pub(crate) fn mark(t: Thread) -> u8
     ensures { (fs : List ℕ) → eqb result 1 ≡ live_thread (some (thread_in t fs)) }
 {
-    let now = t.now;
-    let control = now.control;
-    match control {
-        Control::Enter(_) => 1,
-        Control::Hand(_) => { if t.frames == 0 { 0 } else { 1 } }
+    match t.now.control {
+        Control::Hand(_) if t.frames == 0 => 0,
+        _ => 1,
     }
 }
 
@@ -70,16 +66,12 @@ pub(crate) fn mark(t: Thread) -> u8
 fn handing(t: Thread) -> Thread
     ensures { result ≡ with_control t (Hand 0) }
 {
-    let now = t.now;
-    let on = now.on;
-    let n = Now {
-        control: Control::Hand(0),
-        env: now.env,
-        on: on,
-    };
     Thread {
-        now: n,
-        frames: t.frames,
+        now: Now {
+            control: Control::Hand(0),
+            ..t.now
+        },
+        ..t
     }
 }
 
@@ -132,10 +124,8 @@ fn with_left<'a>(live: &'a [u8; MOST_THREADS], rest: &'a [u64; MOST_THREADS]) ->
     ensures { MarksLeft live.now rest.now result }
 {
     let mut left = [0u8; MOST_THREADS];
-    let mut i: usize = 0;
-    while i < MOST_THREADS {
+    for i in 0..MOST_THREADS {
         left[i] = kept(live[i], rest[i]);
-        i = i + 1;
     }
     left
 }
@@ -144,13 +134,7 @@ fn with_left<'a>(live: &'a [u8; MOST_THREADS], rest: &'a [u64; MOST_THREADS]) ->
 fn fewer(n: u64, mark: u8, steps: u64) -> u64
     ensures { result ≡ cond (eqb mark 1) (cond (ltb steps n) steps n) n }
 {
-    if mark == 1 {
-        if steps < n {
-            return steps;
-        }
-        return n;
-    }
-    n
+    if mark == 1 { steps.min(n) } else { n }
 }
 
 // The fewest steps that are left to a marked thread, and at most `most`.
@@ -158,10 +142,8 @@ fn least<'a>(live: &'a [u8; MOST_THREADS], rest: &'a [u64; MOST_THREADS], most: 
     ensures { Least live.now rest.now most result }
 {
     let mut n = most;
-    let mut i: usize = 0;
-    while i < MOST_THREADS {
+    for i in 0..MOST_THREADS {
         n = fewer(n, live[i], rest[i]);
-        i = i + 1;
     }
     n
 }
@@ -208,34 +190,32 @@ fn rounds(
     let mut prior = [first; AHEAD];
     let mut used = us;
     let mut left = n;
+    // Stays a while: how many are left is given at either end, and a `for` would count up beside it.
     while 0 < left {
         let s = visit(
             used, i, heads, slots, words, cells, keys, pairs, functions, bindings,
         );
-        let next = s.used;
-        let a = s.answer;
-        used = next;
-        let Answer::Taken = a else {
-            let last = prior[i];
+        used = s.used;
+        let Answer::Taken = s.answer else {
             return Rounds {
-                used: used,
-                left: left,
-                last: last,
+                used,
+                left,
+                last: prior[i],
                 at: i,
-                answer: a,
+                answer: s.answer,
             };
         };
-        rest[i] = rest[i] - 1;
-        left = left - 1;
+        rest[i] -= 1;
+        left -= 1;
         let j = known[i + 1];
         prior[j] = i;
         i = j;
     }
     let last = prior[i];
     Rounds {
-        used: used,
-        left: left,
-        last: last,
+        used,
+        left,
+        last,
         at: last,
         answer: Answer::Taken,
     }
@@ -253,70 +233,49 @@ fn rounded(
     requires { s.last < most_threads }
     ensures { result ≡ rounded_by (with_marks c live) r n s.left s.last rest s.used }
 {
-    let used = s.used;
     Scheduler {
-        live: live,
-        rest: rest,
-        count: c.count,
+        live,
+        rest,
         round: later(s.left, n, c.round, r),
         from: later(s.left, n, c.from, s.last + 1),
-        used: used,
+        used: s.used,
+        ..c
     }
 }
 
 // Thread i is passed over from now on.
-fn passed(c: Scheduler, i: usize) -> Turned
+fn passed(mut c: Scheduler, i: usize) -> Turned
     requires { i < most_threads }
     ensures { result ≡ onward (without c i) }
 {
-    let mut live = c.live;
-    live[i] = 0;
-    let rest = c.rest;
-    let used = c.used;
-    let next = Scheduler {
-        live: live,
-        rest: rest,
-        count: c.count,
-        round: c.round,
-        from: c.from,
-        used: used,
-    };
+    c.live[i] = 0;
     Turned {
-        scheduler: next,
+        scheduler: c,
         thread: 0,
         answer: Answer::Taken,
     }
 }
 
 // Thread i enters a 0x42, in a round of r threads: a thread starts, where there is a place for it.
-fn begin(c: Scheduler, i: usize, r: usize, slots: &[u16], words: &mut [u64]) -> Turned
+fn begin(mut c: Scheduler, i: usize, r: usize, slots: &[u16], words: &mut [u64]) -> Turned
     requires { (i < c.count) × (c.count ≤ most_threads) × (0 < get_or c.rest i 0) × (length words.old ≡ threads_words) }
     ensures { Begun c i r slots.now words.old result words.new }
 {
-    let count = c.count;
-    if MOST_THREADS <= count {
+    if MOST_THREADS <= c.count {
         return Turned {
             scheduler: c,
             thread: i,
             answer: Answer::NoRoom,
         };
     }
-    start(words, i, count, slots);
-    let mut live = c.live;
-    live[count] = 1;
-    let mut rest = c.rest;
-    rest[i] = rest[i] - 1;
-    let used = c.used;
-    let next = Scheduler {
-        live: live,
-        rest: rest,
-        count: count + 1,
-        round: r,
-        from: i + 1,
-        used: used,
-    };
+    start(words, i, c.count, slots);
+    c.live[c.count] = 1;
+    c.rest[i] -= 1;
+    c.count += 1;
+    c.round = r;
+    c.from = i + 1;
     Turned {
-        scheduler: next,
+        scheduler: c,
         thread: 0,
         answer: Answer::Taken,
     }
@@ -338,10 +297,8 @@ fn advance(
     ensures { Advanced (lent_code heads slots) c (before [] words cells keys pairs functions bindings) result (after [] words cells keys pairs functions bindings) }
 {
     let mut rest = c.rest;
-    let marks = c.live;
-    let live = with_left(&marks, &rest);
-    let whose = next_turn(&live, c.from, c.round, c.count);
-    let Whose::Thread(first, r) = whose else {
+    let live = with_left(&c.live, &rest);
+    let Some(turn) = next_turn(&live, c.from, c.round, c.count) else {
         return Turned {
             scheduler: c,
             thread: 0,
@@ -349,34 +306,21 @@ fn advance(
         };
     };
     let known = ahead(&live, c.count);
-    let most = rest[first];
-    let n = quota(r, c.count, least(&live, &rest, most));
-    let used = c.used;
+    let most = rest[turn.at];
+    let n = quota(turn.round, c.count, least(&live, &rest, most));
     let s = rounds(
-        first, used, n, &known, &mut rest, heads, slots, words, cells, keys, pairs, functions,
+        turn.at, c.used, n, &known, &mut rest, heads, slots, words, cells, keys, pairs, functions,
         bindings,
     );
-    let next = rounded(c, live, r, n, rest, s);
-    let i = s.at;
-    let a = s.answer;
-    match a {
-        Answer::Finished => passed(next, i),
-        Answer::Starts => begin(next, i, r, slots, words),
+    let next = rounded(c, live, turn.round, n, rest, s);
+    match s.answer {
+        Answer::Finished => passed(next, s.at),
+        Answer::Starts => begin(next, s.at, turn.round, slots, words),
         _ => Turned {
             scheduler: next,
-            thread: i,
-            answer: a,
+            thread: s.at,
+            answer: s.answer,
         },
-    }
-}
-
-// Whether turns go on.
-fn goes_on(a: Answer) -> bool
-    ensures { result ≡ is_onward a }
-{
-    match a {
-        Answer::Taken => true,
-        _ => false,
     }
 }
 
@@ -398,19 +342,22 @@ pub(crate) fn turns(
     ensures few { Few scheduler.rest result }
 {
     let mut t = Turned {
-        scheduler: scheduler,
+        scheduler,
         thread: 0,
         answer: Answer::Taken,
     };
-    let mut a = Answer::Taken;
-    while goes_on(a) {
-        let c = t.scheduler;
-        let next = advance(
-            c, heads, slots, words, cells, keys, pairs, functions, bindings,
+    while t.answer == Answer::Taken {
+        t = advance(
+            t.scheduler,
+            heads,
+            slots,
+            words,
+            cells,
+            keys,
+            pairs,
+            functions,
+            bindings,
         );
-        let b = next.answer;
-        t = next;
-        a = b;
     }
     t
 }

@@ -30,11 +30,8 @@ pub(crate) fn put_threads(threads: [Thread; MOST_THREADS], words: &mut [u64])
     requires { length words.old ≡ threads_words }
     ensures { (j : ℕ) → j < most_threads → Owned (part_of words.old j) (part_of words.new j) (get_or threads j idle) }
 {
-    let mut i: usize = 0;
-    while i < MOST_THREADS {
-        let t = threads[i];
-        put_at(words, i, t);
-        i = i + 1;
+    for i in 0..MOST_THREADS {
+        put_at(words, i, threads[i]);
     }
 }
 
@@ -43,12 +40,9 @@ pub(crate) fn threads_in(words: &[u64]) -> [Thread; MOST_THREADS]
     requires { length words.now ≡ threads_words }
     ensures { (j : ℕ) → j < most_threads → get_or result j idle ≡ own_in (part_of words.now j) }
 {
-    let t = thread_at(words, 0);
-    let mut threads = [t; MOST_THREADS];
-    let mut i: usize = 1;
-    while i < MOST_THREADS {
+    let mut threads = [thread_at(words, 0); MOST_THREADS];
+    for i in 1..MOST_THREADS {
         threads[i] = thread_at(words, i);
-        i = i + 1;
     }
     threads
 }

@@ -2,6 +2,7 @@
 #![tactic(auto)]
 
 ghost use Rattle.std.specs.Prelude.{◌≡◌, ◌<◌, cond, get_or, ltb};
+ghost use Rattle.std.specs.Iterator.{YieldsFirst, item_count};
 ghost use Rattle.order.specs.Sets.{bit, members, all_of};
 ghost use Rattle.syntax.specs.Reading.{host_name, open_name, local_name};
 ghost use Rattle.names.specs.Ancestors.{name_of, names_in, entered, ancestors_by, lowest, one_of, nonzero};
@@ -9,23 +10,20 @@ ghost use Rattle.names.specs.Ancestors.{below_by, meets_by, eff_below_by, maxima
 ghost use Rattle.names.specs.Ancestors.{declared_of, set_ok_by, rights_ok_by};
 
 use table::{MOST_DECLARED, MOST_NAMES};
-pub use table::{Name, at16, at64};
+pub use table::{Name, get_or};
 
 // The entry of name n in a table of ancestors, and none for a number that is no name.
 fn entry(anc: &[u64; MOST_NAMES], n: u8) -> u64
     ensures { result ≡ get_or anc.now n 0 }
 {
-    at64(anc, n as usize)
+    get_or(anc, n as usize, 0)
 }
 
 // Whether n is in the set s.
 pub fn has(s: u64, n: u8) -> bool
     ensures { result ≡ bit s n }
 {
-    if n < 64 {
-        return (s >> n) % 2 == 1;
-    }
-    false
+    n < 64 && (s >> n) % 2 == 1
 }
 
 // The lowest member of s; 64 for none.
@@ -35,27 +33,44 @@ fn low(s: u64) -> u8
     u64::trailing_zeros(s) as u8
 }
 
+// The members of a set, from the lowest up.
+#[derive(Clone, Copy)]
+struct Members(u64);
+
+impl Iterator for Members {
+    type Item = u8;
+
+    ghost next_gives = { YieldsFirst (λ s. members s.0) };
+
+    ghost remaining = { item_count (λ s. members s.0) };
+
+    fn next(&mut self) -> Option<u8> {
+        if self.0 == 0 {
+            return None;
+        }
+        let n = low(self.0);
+        self.0 &= self.0 - 1;
+        Some(n)
+    }
+}
+
 // The set of n alone; none for a number that is no name.
 pub fn single(n: u8) -> u64
     ensures { result ≡ one_of n }
 {
-    if n < 64 {
-        return 1u64 << n;
-    }
-    0
+    if n < 64 { 1u64 << n } else { 0 }
 }
 
 // The set of n alone, or none.
+#[tactic(auto, unfolding(crate::specs::Ancestors::one_of))]
 fn single_if(on: bool, n: u8) -> u64
     ensures { result ≡ cond on (one_of n) 0 }
 {
-    if on {
-        return single(n);
-    }
-    0
+    if on { single(n) } else { 0 }
 }
 
 // s without 0, which is no name of an effect.
+#[tactic(auto, unfolding(crate::specs::Ancestors::nonzero))]
 fn proper(s: u64) -> u64
     ensures { result ≡ nonzero s }
 {
@@ -67,8 +82,7 @@ pub fn enter(anc: &mut [u64; MOST_NAMES], a: usize, w: u16)
     ensures { anc.new ≡ cond (ltb a 64) (entered anc.old a (name_of w)) anc.old }
 {
     if a < MOST_NAMES {
-        let above = entry(anc, (w % 256) as u8);
-        anc[a] = single(a as u8) | above;
+        anc[a] = single(a as u8) | entry(anc, (w % 256) as u8);
     }
 }
 
@@ -79,55 +93,37 @@ pub fn ancestors(names: &[u16], n: usize) -> [u64; MOST_NAMES]
     let mut anc = [0u64; MOST_NAMES];
     anc[0] = 0xFFFF_FFFF_FFFF_FFFF;
     anc[1] = 2;
-    let mut k: usize = 0;
-    while k < n {
-        if MOST_DECLARED <= k {
-            return anc;
-        }
+    for k in 0..n.min(MOST_DECLARED) {
         let a = k + 2;
-        let above = entry(&anc, (at16(names, a) % 256) as u8);
-        anc[a] = single(a as u8) | above;
-        k = k + 1;
+        enter(&mut anc, a, get_or(names, a, 0));
     }
     anc
 }
 
 // Whether a is below b: a is 0 or b, or b is above a.
+#[tactic(auto, unfolding(crate::specs::Ancestors::below_by))]
 pub fn below(anc: &[u64; MOST_NAMES], a: Name, b: Name) -> bool
     ensures { result ≡ below_by anc.now a.0 b.0 }
 {
-    let m = a.0;
-    let n = b.0;
-    if m == 0 {
-        return true;
-    }
-    if m == n {
-        return true;
-    }
-    has(entry(anc, m), n)
+    a.0 == 0 || a.0 == b.0 || has(entry(anc, a.0), b.0)
 }
 
 // Whether a name of t is at or above n.
+#[tactic(auto, unfolding(crate::specs::Ancestors::meets_by))]
 fn meets(anc: &[u64; MOST_NAMES], t: u64, n: u8) -> bool
     ensures { result ≡ meets_by anc.now t n }
 {
-    let common = entry(anc, n) & t;
-    if common == 0 {
-        return false;
-    }
-    true
+    entry(anc, n) & t != 0
 }
 
 // Whether each name of s is below some name of t.
 pub fn eff_below(anc: &[u64; MOST_NAMES], s: u64, t: u64) -> bool
     ensures { result ≡ eff_below_by anc.now s t }
 {
-    let mut rest = proper(s);
-    while 0 < rest {
-        if meets(anc, t, low(rest)) {} else {
+    for n in Members(proper(s)) {
+        if !meets(anc, t, n) {
             return false;
         }
-        rest = rest & (rest - 1);
     }
     true
 }
@@ -137,23 +133,17 @@ fn maximal(anc: &[u64; MOST_NAMES], s: u64, n: u8) -> bool
     requires { n < 64 }
     ensures { result ≡ maximal_by anc.now s n }
 {
-    if n == 0 {
-        return false;
-    }
-    let common = entry(anc, n) & s;
-    common == single(n)
+    n != 0 && entry(anc, n) & s == single(n)
 }
 
 // Whether s has no 0, and no name below another.
 pub fn reduced(anc: &[u64; MOST_NAMES], s: u64) -> bool
     ensures { result ≡ reduced_by anc.now s }
 {
-    let mut rest = s;
-    while 0 < rest {
-        if maximal(anc, s, low(rest)) {} else {
+    for n in Members(s) {
+        if !maximal(anc, s, n) {
             return false;
         }
-        rest = rest & (rest - 1);
     }
     true
 }
@@ -162,62 +152,51 @@ pub fn reduced(anc: &[u64; MOST_NAMES], s: u64) -> bool
 pub fn reduce(anc: &[u64; MOST_NAMES], s: u64) -> u64
     ensures { result ≡ reduce_by anc.now s }
 {
-    let mut rest = s;
     let mut acc: u64 = 0;
-    while 0 < rest {
-        let n = low(rest);
-        acc = acc | single_if(maximal(anc, s, n), n);
-        rest = rest & (rest - 1);
+    for n in Members(s) {
+        acc |= single_if(maximal(anc, s, n), n);
     }
     acc
 }
 
 // Whether n is not below r.
+#[tactic(auto, unfolding(crate::specs::Ancestors::stays_by))]
 fn stays(anc: &[u64; MOST_NAMES], r: Name, n: u8) -> bool
     ensures { result ≡ stays_by anc.now r.0 n }
 {
-    if below(anc, Name(n), r) {
-        return false;
-    }
-    true
+    !below(anc, Name(n), r)
 }
 
 // s without 0 and without the names below r.
 pub fn drop_below(anc: &[u64; MOST_NAMES], r: Name, s: u64) -> u64
     ensures { result ≡ drop_by anc.now r.0 s }
 {
-    let mut rest = proper(s);
     let mut acc: u64 = 0;
-    while 0 < rest {
-        let n = low(rest);
-        acc = acc | single_if(stays(anc, r, n), n);
-        rest = rest & (rest - 1);
+    for n in Members(proper(s)) {
+        acc |= single_if(stays(anc, r, n), n);
     }
     acc
 }
 
 // s without 0, with u in place of r.
+#[tactic(auto, unfolding(crate::specs::Ancestors::raise_by))]
 pub fn raise(r: Name, u: Name, s: u64) -> u64
     ensures { result ≡ raise_by r.0 u.0 s }
 {
-    let n = r.0;
-    let upper = u.0;
     let t = proper(s);
-    if has(t, n) {
-        return single(upper) | (t ^ single(n));
+    if has(t, r.0) {
+        single(u.0) | (t ^ single(r.0))
+    } else {
+        t
     }
-    t
 }
 
 // s with q; without a key, s as it is.
+#[tactic(auto, unfolding(crate::specs::Ancestors::touch_by))]
 pub fn touch(q: Name, s: u64) -> u64
     ensures { result ≡ touch_by q.0 s }
 {
-    let n = q.0;
-    if n == 0 {
-        return s;
-    }
-    single(n) | s
+    if q.0 == 0 { s } else { single(q.0) | s }
 }
 
 // The names of s and of t.
@@ -231,87 +210,53 @@ pub fn join(s: u64, t: u64) -> u64
 pub fn is_declared(n: usize, q: u8) -> bool
     ensures { result ≡ declared_of n q }
 {
-    if q < 2 {
-        return true;
-    }
-    let k = q as usize - 2;
-    k < n
+    q < 2 || usize::from(q) - 2 < n
 }
 
 // A host name or 1.
 pub fn is_host_name(names: &[u16], n: usize, q: u8) -> bool
     ensures { result ≡ host_name (names_in names.now n) q }
 {
-    if q == 1 {
-        return true;
-    }
-    if q < 2 {
-        return false;
-    }
-    let i = q as usize;
-    let k = i - 2;
-    if k < n {
-        return at16(names, i) / 256 == 1;
-    }
-    false
+    let i = usize::from(q);
+    q == 1 || (2 <= q && i - 2 < n && get_or(names, i, 0) / 256 == 1)
 }
 
 // A host name, 1 or 0.
 pub fn is_open_name(names: &[u16], n: usize, q: u8) -> bool
     ensures { result ≡ open_name (names_in names.now n) q }
 {
-    if q == 0 {
-        return true;
-    }
-    is_host_name(names, n, q)
+    q == 0 || is_host_name(names, n, q)
 }
 
 // A declared name that is not the host's.
 pub fn is_local_name(names: &[u16], n: usize, q: u8) -> bool
     ensures { result ≡ local_name (names_in names.now n) q }
 {
-    if q < 2 {
-        return false;
-    }
-    if is_declared(n, q) {
-        if is_host_name(names, n, q) {
-            return false;
-        }
-        return true;
-    }
-    false
+    2 <= q && is_declared(n, q) && !is_host_name(names, n, q)
 }
 
 // Whether s is a set of declared names, 0 and 1.
 fn all_declared(n: usize, s: u64) -> bool
     ensures { result ≡ all_of (declared_of n) (members s) }
 {
-    if n < MOST_DECLARED {
-        return s >> (n + 2) == 0;
-    }
-    true
+    MOST_DECLARED <= n || s >> (n + 2) == 0
 }
 
 // Whether s is a reduced set of declared names.
 pub fn set_ok(n: usize, anc: &[u64; MOST_NAMES], s: u64) -> bool
     ensures { result ≡ set_ok_by anc.now n s }
 {
-    if all_declared(n, s) {
-        return reduced(anc, s);
-    }
-    false
+    all_declared(n, s) && reduced(anc, s)
 }
 
 // Whether s is a set of host names and 1.
 fn all_host(names: &[u16], n: usize, s: u64) -> bool
     ensures { result ≡ all_of (host_name (names_in names.now n)) (members s) }
 {
-    let mut rest = s;
-    while 0 < rest {
-        if is_host_name(names, n, low(rest)) {} else {
+    for q in Members(s) {
+        if !is_host_name(names, n, q) {
             return false;
         }
-        rest = rest & (rest - 1);
     }
     true
 }
@@ -320,8 +265,5 @@ fn all_host(names: &[u16], n: usize, s: u64) -> bool
 pub fn rights_ok<'a>(names: &'a [u16], n: usize, anc: &'a [u64; MOST_NAMES], s: u64) -> bool
     ensures { result ≡ rights_ok_by anc.now (names_in names.now n) s }
 {
-    if set_ok(n, anc, s) {
-        return all_host(names, n, s);
-    }
-    false
+    set_ok(n, anc, s) && all_host(names, n, s)
 }

@@ -1,11 +1,13 @@
 -- The lines that the functions put together are the desk program's.
 use mathlib.Core.Path.{◌≡◌, refl, sym, ap, ◌∙◌, fun_ext}
-use Prim.Native.Nat.{ℕ, ◌%◌, ◌≤◌, ◌<◌}
+use Prim.Native.Nat.{ℕ, min, ◌%◌, ◌≤◌, ◌<◌}
 use native.Mathlib.Omega.{arith}
 use mathlib.Core.Bool.{Bool, true, false, cond, not, false≢true}
 use mathlib.Core.List.{List, [], ◌++◌, append-nil}
+use mathlib.Core.Logic.{◌⊎◌, inl, inr}
 use lib.ListN.{length, get_elem?, get_or, take}
-use lib.Seq.{take_all, length-take-le}
+use lib.Seq.{length-take-le}
+use Rattle.std.proofs.lemmas.List.{take_min}
 use lib.Dec.{eqb}
 use borrow.Author.Tests.{ne_eqb}
 use Rattle.order.specs.Effects.{Effect, of_word}
@@ -37,19 +39,21 @@ use Rattle.store.specs.Words.{word_in}
 use Rattle.machine.specs.declared.Machine.{Machine}
 use Rattle.machine.specs.declared.Outcome.{Outcome}
 use Rattle.machine.specs.declared.Answer.{Answer}
+use Rattle.machine.specs.declared.Answer.TheVariants.{Taken, Stuck, Denied}
 use Rattle.acts.specs.declared.Control.TheVariants.{Enter, Hand}
 use Rattle.acts.specs.Meaning.{control_in}
 use Rattle.store.specs.Tables.{capped}
 use Rattle.machine.specs.Scheduled.{idle, thread_at}
 use Rattle.machine.specs.Listed.{listed_length, listed_get}
 use Rattle.machine.specs.View.{seen, answer_in, ran_in}
-use Rattle.format.specs.declared.Sort.{Sort}
-use Rattle.format.specs.declared.Sort.TheVariants.{Number, Pair, Cell, Function, Limit, Grant}
+use Rattle.store.specs.declared.Kind.{Kind}
+use Rattle.store.specs.declared.Kind.TheVariants.{Number, Pair, Cell, Function, Limit, Grant}
 use Rattle.output.specs.Lines.{refused_line, accepted_line, ran_line, ran_of, run_line, run_read, reported, desk_of, most_bytes, desk_allows, printed}
 use Rattle.format.specs.Text.{joined, type_sort, kind_sort, kind_number, accepted_as, done_as, spent_as, no_room_as}
 use Rattle.format.specs.Laws.{accepted_line_lem, accepted_done, accepted_spent, accepted_no_room}
 use Rattle.checker.specs.declared.Checked.{Checked}
-use Rattle.judge.specs.declared.Verdict.TheVariants as verdicts
+use Rattle.std.specs.Prelude.{Ok, Err}
+use Rattle.table.specs.declared.Refusal.{Refusal}
 use Rattle.checker.specs.Answer.{tree_of, CheckTo}
 use Rattle.safety.specs.Accepting.{Accepting}
 use Rattle.safety.proofs.Accepting.{accepting, refusing}
@@ -86,7 +90,32 @@ module _ (byte q a b s : ℕ) (f : ℕ → Ty) where
       at true = refl
       at false = refl
 
-pub sort_is : (types sets : List ℕ) (i w : ℕ) (k : Sort) → ((q a b s : ℕ) (f : ℕ → Ty) → k ≡ type_sort (entry_tree (entry_bits (w % 256) q a b s) f)) → w ≡ get_or types i 0
+-- the kind of a value
+pub kind_is : (k : Kind) (n : ℕ) → k ≡ kind_sort (kind_in k n)
+unfolding kind_sort
+kind_is Number n = refl
+kind_is Pair n = refl
+kind_is Cell n = refl
+kind_is Function n = refl
+kind_is Limit n = refl
+kind_is Grant n = refl
+
+-- its number: of a limit and of a grant the low 8 bits, and of the others all
+pub low_bits : (k : Kind) (n : ℕ) → (k ≡ Limit) ⊎ (k ≡ Grant) → n % 256 ≡ kind_number (kind_in k n)
+unfolding kind_number
+low_bits k n (inl e) = rw e
+low_bits k n (inr e) = rw e
+
+pub all_bits : (k : Kind) (n : ℕ) → (k ≡ Limit → ⊥) → (k ≡ Grant → ⊥) → n ≡ kind_number (kind_in k n)
+unfolding kind_number
+all_bits Number n h g = refl
+all_bits Pair n h g = refl
+all_bits Cell n h g = refl
+all_bits Function n h g = refl
+all_bits Limit n h g = absurd (h refl)
+all_bits Grant n h g = absurd (g refl)
+
+pub sort_is : (types sets : List ℕ) (i w : ℕ) (k : Kind) → ((q a b s : ℕ) (f : ℕ → Ty) → k ≡ type_sort (entry_tree (entry_bits (w % 256) q a b s) f)) → w ≡ get_or types i 0
     → k ≡ type_sort (tree_of types sets i)
 unfolding tree_of tree_in entry_in
 sort_is types sets i w k h e = rw (sym e) (h _ _ _ _ _)
@@ -111,7 +140,7 @@ module _ (m : Machine) (fs : List ℕ) (some_thread : 0 < length (seen m fs).thr
       at true d = absurd (false≢true (sym (done_live (seen m fs).threads d 0) ∙ ap live_thread first_there ∙ busy))
       at false d = refl
 
-pub finished_hand : (T : Ty) (s : Effect) (o : Outcome) (fs : List ℕ) (w : ℕ) (v : Held) (first second both : List ℕ) (n : ℕ) (k : Sort) (x : ℕ) → first ≡ accepted_as s (type_sort T)
+pub finished_hand : (T : Ty) (s : Effect) (o : Outcome) (fs : List ℕ) (w : ℕ) (v : Held) (first second both : List ℕ) (n : ℕ) (k : Kind) (x : ℕ) → first ≡ accepted_as s (type_sort T)
     → 0 < length (seen o.machine fs).threads → all_done (seen o.machine fs).threads ≡ true → (get_or o.machine.threads 0 idle).now.control ≡ Hand w → value_in v ≡ word_in w → n ≡ get_or o.counts 0 0
     → k ≡ kind_sort (kind_in v.kind v.payload) → x ≡ kind_number (kind_in v.kind v.payload) → second ≡ done_as n k x → both ≡ joined first second
     → both ≡ accepted_line T s ++ ran_line finished o.counts o.thread (seen o.machine fs)
@@ -139,20 +168,26 @@ pub with_no_room : (T : Ty) (s : Effect) (c : List ℕ) (i : ℕ) (m : System) (
     → both ≡ accepted_line T s ++ ran_line noroom c i m
 with_no_room T s c i m first second both a b e = rw (e, a, b) (accepted_no_room T s c i m)
 
-pub with_none : (T : Ty) (s : Effect) (first l : List ℕ) → first ≡ accepted_as s (type_sort T) → l ≡ [] → first ≡ accepted_line T s ++ l
+with_none : (T : Ty) (s : Effect) (first l : List ℕ) → first ≡ accepted_as s (type_sort T) → l ≡ [] → first ≡ accepted_line T s ++ l
 with_none T s first l a e = a ∙ accepted_line_lem T s ∙ sym (append-nil (accepted_line T s)) ∙ ap (λ z. accepted_line T s ++ z) (sym e)
 
-pub no_taken : (c : List ℕ) (i : ℕ) (m : System) → ran_line taken c i m ≡ []
+no_taken : (c : List ℕ) (i : ℕ) (m : System) → ran_line taken c i m ≡ []
 unfolding ran_line
 no_taken c i m = refl
 
-pub no_stuck : (c : List ℕ) (i : ℕ) (m : System) → ran_line stuck c i m ≡ []
+no_stuck : (c : List ℕ) (i : ℕ) (m : System) → ran_line stuck c i m ≡ []
 unfolding ran_line
 no_stuck c i m = refl
 
-pub no_denied : (c : List ℕ) (i : ℕ) (m : System) → ran_line denied c i m ≡ []
+no_denied : (c : List ℕ) (i : ℕ) (m : System) → ran_line denied c i m ≡ []
 unfolding ran_line
 no_denied c i m = refl
+
+-- no second line
+pub quiet : (T : Ty) (s : Effect) (o : Outcome) (fs first : List ℕ) → (o.answer ≡ Taken) ⊎ ((o.answer ≡ Stuck) ⊎ (o.answer ≡ Denied)) → first ≡ accepted_as s (type_sort T) → first ≡ accepted_line T s ++ ran_of (ran_in o fs)
+quiet T s o fs first (inl e) a = ended_with T s o fs _ _ e (with_none T s _ _ a (no_taken _ _ _))
+quiet T s o fs first (inr (inl e)) a = ended_with T s o fs _ _ e (with_none T s _ _ a (no_stuck _ _ _))
+quiet T s o fs first (inr (inr e)) a = ended_with T s o fs _ _ e (with_none T s _ _ a (no_denied _ _ _))
 
 -- a run of the machine leaves at least the threads that there were, and is finished only where all are
 module _ (h p allow : List ℕ) (m : System) (few : length m.threads ≤ most_threads) where
@@ -197,35 +232,30 @@ ran_line_lem J h p m o e f g =
     (e ∙ ap (λ (z : ℕ → Cmd ℕ). call (steps_of z) (run_of desk_allows) m) (fun_ext g) ∙ ap (λ z. call (steps_in J) (run_of desk_allows) z) f
     ∙ ap (λ K. call K (run_of desk_allows) (start_of (source_of J))) (sym (same_steps J)))
 
-pub told_refused : (bytes : List ℕ) (r : Checked) (w x : Tables) (n p q : ℕ) (text : List ℕ) → CheckTo bytes r w x → r.verdict ≡ verdicts.Refused n p → q ≡ p
-    → text ≡ refused_line (record { number = n; place = q }) → short w ≡ false → text ≡ desk_of bytes
+pub told_refused : (bytes : List ℕ) (r : Refusal) (w x : Tables) (text : List ℕ) → CheckTo bytes (Err r) w x
+    → text ≡ refused_line (record { number = r.number; place = r.place }) → short w ≡ false → text ≡ desk_of bytes
 unfolding desk_of reported
-told_refused bytes r w x n p q text c v z f l =
-    f ∙ ap (λ (k : ℕ). refused_line (record { number = n; place = k })) z ∙ sym (ap (λ k. reported k (reading bytes)) (refusing bytes r w x n p c v l))
+told_refused bytes r w x text c f l = f ∙ sym (ap (λ k. reported k (reading bytes)) (refusing bytes r w x c l))
 
 desk_accepted : (bytes : List ℕ) (J : Job) (T : Ty) (s : Effect) → verdict_of bytes ≡ accept T s → reading bytes ≡ read J → desk_of bytes ≡ accepted_line T s ++ run_line (source_of J)
 unfolding desk_of reported run_read
 desk_accepted bytes J T s e f = rw (e, f)
 
-pub told_accepted : (bytes : List ℕ) (r : Checked) (w x : Tables) (i s : ℕ) (text : List ℕ) → CheckTo bytes r w x → r.verdict ≡ verdicts.Accepted i s
-    → ((J : Job) (sets : List ℕ) → Ready J r.shape x.job.names x.job.types x.job.values → ((e : ℕ) → code_in x.job.heads x.job.slots e ≡ expr_of J e) → text ≡ accepted_line (tree_of x.job.types sets i) (of_word s) ++ run_line (source_of J))
+pub told_accepted : (bytes : List ℕ) (r : Checked) (w x : Tables) (text : List ℕ) → CheckTo bytes (Ok r) w x
+    → ((J : Job) (sets : List ℕ) → Ready J r.shape x.job.names x.job.types x.job.values → ((e : ℕ) → code_in x.job.heads x.job.slots e ≡ expr_of J e) → text ≡ accepted_line (tree_of x.job.types sets r.accepted.entry) (of_word r.accepted.effect) ++ run_line (source_of J))
     → Bytes bytes → text ≡ desk_of bytes
-told_accepted bytes r w x i s text c v f by = go (accepting bytes by r w x i s c v)
+told_accepted bytes r w x text c f by = go (accepting bytes by r w x c)
   where
-    go : Accepting bytes r.shape (tree_of x.job.types x.job.sets i) (of_word s) x → text ≡ desk_of bytes
-    go y = f y.job x.job.sets y.ready y.code ∙ sym (desk_accepted bytes y.job _ (of_word s) y.verdict y.is)
-
-pub whole : (l : List ℕ) → length l ≤ most_bytes → desk_of l ≡ printed l
-unfolding printed
-whole l h = ap desk_of (sym (take_all most_bytes l h))
+    go : Accepting bytes r.shape (tree_of x.job.types x.job.sets r.accepted.entry) (of_word r.accepted.effect) x → text ≡ desk_of bytes
+    go y = f y.job x.job.sets y.ready y.code ∙ sym (desk_accepted bytes y.job _ (of_word r.accepted.effect) y.verdict y.is)
 
 pub accepted_ran : (T : Ty) (s : Effect) {text l k : List ℕ} → text ≡ accepted_line T s ++ l → l ≡ k → text ≡ accepted_line T s ++ k
 accepted_ran T s e f = e ∙ ap (λ z. accepted_line T s ++ z) f
 
--- the first bytes of a longer input
-pub head_length : (n : ℕ) (l : List ℕ) → n < length l → n ≡ length (take n l)
-head_length n l h = sym (length-take-le n l (omega arith))
+-- the first bytes of an input
+pub head_length : (n k : ℕ) (l : List ℕ) → n ≡ min k (length l) → n ≡ length (take n l)
+head_length n k l e = sym (length-take-le n l (omega (arith, e)))
 
-pub printed_head : (l : List ℕ) → desk_of (take most_bytes l) ≡ printed l
+pub printed_head : (n : ℕ) (l : List ℕ) → n ≡ min most_bytes (length l) → desk_of (take n l) ≡ printed l
 unfolding printed
-printed_head l = refl
+printed_head n l e = ap desk_of (ap (λ (k : ℕ). take k l) e ∙ take_min most_bytes l)

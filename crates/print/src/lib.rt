@@ -12,57 +12,40 @@ ghost use Rattle.semantics.specs.Demand3.{expr_of};
 ghost use Rattle.store.specs.Meaning.{kind_in};
 ghost use Rattle.machine.specs.View.{seen, answer_in, ran_in};
 ghost use Rattle.output.specs.Lines.{accepted_line, ran_line, ran_of, run_line, desk_of, printed};
-ghost use Rattle.format.specs.Text.{text_of, type_sort, kind_sort, kind_number, accepted_as};
+ghost use Rattle.format.specs.Text.{text_of, type_sort, kind_number, accepted_as};
 ghost use Rattle.checker.specs.Answer.{tree_of};
 ghost use Rattle.start.specs.Starts.{Ready};
 
-use checker::Verdict;
-use format::{Sort, Text};
+use format::Text;
 use job::Shape;
 use machine::{Answer, Control, Outcome};
 use store::{Kind, MOST_THREADS, THREADS_WORDS};
-use table::{MOST_BYTES, MOST_EXPRESSIONS, MOST_NAMES, MOST_VARIABLES, PLACES, TYPE_ENTRIES, wide};
+use table::{MOST_BYTES, MOST_EXPRESSIONS, MOST_NAMES, MOST_VARIABLES, PLACES, TYPE_ENTRIES};
 
 // So many steps are allowed to each thread.
 pub const MOST_STEPS: u64 = 100000;
 
 // The kind of a type, by the command byte of its word.
-fn type_sort(byte: u64) -> Sort
+fn type_sort(byte: u64) -> Kind
     ensures { (q a b s : ℕ) (f : ℕ → Ty) → result ≡ type_sort (entry_tree (entry_bits byte q a b s) f) }
 {
     match byte {
-        0x11 => Sort::Pair,
-        0x12 => Sort::Cell,
-        0x13 => Sort::Function,
-        0x14 => Sort::Limit,
-        0x15 => Sort::Grant,
-        _ => Sort::Number,
+        0x11 => Kind::Pair,
+        0x12 => Kind::Cell,
+        0x13 => Kind::Function,
+        0x14 => Kind::Limit,
+        0x15 => Kind::Grant,
+        _ => Kind::Number,
     }
 }
 
-fn kind_sort(k: Kind) -> Sort
-    ensures { (n : ℕ) → result ≡ kind_sort (kind_in k n) }
-{
-    match k {
-        Kind::Number => Sort::Number,
-        Kind::Pair => Sort::Pair,
-        Kind::Cell => Sort::Cell,
-        Kind::Function => Sort::Function,
-        Kind::Limit => Sort::Limit,
-        Kind::Grant => Sort::Grant,
-    }
-}
-
+// The number in a value of a kind.
 fn kind_number(k: Kind, payload: u32) -> u32
     ensures { result ≡ kind_number (kind_in k payload) }
 {
     match k {
-        Kind::Number => payload,
-        Kind::Pair => payload,
-        Kind::Cell => payload,
-        Kind::Function => payload,
-        Kind::Limit => payload % 256,
-        Kind::Grant => payload % 256,
+        Kind::Limit | Kind::Grant => payload % 256,
+        _ => payload,
     }
 }
 
@@ -71,20 +54,11 @@ fn finished(first: Text, o: Outcome) -> Text
     ensures { (T : Ty) (s : Effect) (fs : List ℕ) → text_of first ≡ accepted_as s (type_sort T) → 0 < length (seen o.machine fs).threads
         → all_done (seen o.machine fs).threads ≡ true → text_of result ≡ accepted_line T s ++ ran_line spec.finished o.counts o.thread (seen o.machine fs) }
 {
-    let counts = o.counts;
-    let n = counts[0];
-    let m = o.machine;
-    let threads = m.threads;
-    let t = threads[0];
-    let now = t.now;
-    let control = now.control;
-    match control {
+    match o.machine.threads[0].now.control {
         Control::Hand(w) => {
             let v = store::unpack(w);
-            let k = v.kind;
-            let sort = kind_sort(k);
-            let x = kind_number(k, v.payload);
-            let second = format::done(n, sort, x);
+            let x = kind_number(v.kind, v.payload);
+            let second = format::done(o.counts[0], v.kind, x);
             format::both(first, second)
         }
         Control::Enter(_) => first,
@@ -96,18 +70,14 @@ fn ended(first: Text, o: Outcome) -> Text
     ensures { (T : Ty) (s : Effect) (fs : List ℕ) → text_of first ≡ accepted_as s (type_sort T) → 0 < length (seen o.machine fs).threads
         → (answer_in o.answer ≡ spec.finished → all_done (seen o.machine fs).threads ≡ true) → text_of result ≡ accepted_line T s ++ ran_of (ran_in o fs) }
 {
-    let a = o.answer;
-    let counts = o.counts;
-    match a {
+    match o.answer {
         Answer::Finished => finished(first, o),
-        Answer::Spent => format::both(first, format::spent(counts[0])),
+        Answer::Spent => format::both(first, format::spent(o.counts[0])),
         Answer::NoRoom => format::both(
             first,
-            format::no_room(table::at64(&counts, o.thread as usize)),
+            format::no_room(table::get_or(&o.counts, o.thread as usize, 0)),
         ),
-        Answer::Taken => first,
-        Answer::Stuck => first,
-        Answer::Denied => first,
+        Answer::Taken | Answer::Stuck | Answer::Denied => first,
     }
 }
 
@@ -126,7 +96,7 @@ fn accepted(
         → ((e : ℕ) → code_in heads.now slots.now e ≡ expr_of J e)
         → text_of result ≡ accepted_line (tree_of types.now sets i) (of_word s) ++ run_line (source_of J) }
 {
-    let w = table::at64(types, i as usize);
+    let w = table::get_or(types, i as usize, 0);
     let sort = type_sort(w % 256);
     let first = format::accepted(s, sort);
     let m = start::built(g, names, types, values);
@@ -147,7 +117,7 @@ fn told(job: &[u8]) -> Text
     let mut slots = [0u16; PLACES];
     let mut entries = [0u16; MOST_EXPRESSIONS];
     let mut effects = [0u64; MOST_EXPRESSIONS];
-    let c = checker::check(
+    match checker::check(
         job,
         &mut names,
         &mut types,
@@ -157,12 +127,18 @@ fn told(job: &[u8]) -> Text
         &mut slots,
         &mut entries,
         &mut effects,
-    );
-    let v = c.verdict;
-    let g = c.shape;
-    match v {
-        Verdict::Refused(n, p) => format::refused(n, wide(p)),
-        Verdict::Accepted(i, s) => accepted(i, s, g, &names, &types, &values, &heads, &slots),
+    ) {
+        Ok(c) => accepted(
+            c.accepted.entry,
+            c.accepted.effect,
+            c.shape,
+            &names,
+            &types,
+            &values,
+            &heads,
+            &slots,
+        ),
+        Err(q) => format::refused(q.number, q.place as u64),
     }
 }
 
@@ -170,9 +146,5 @@ fn told(job: &[u8]) -> Text
 pub fn print(job: &[u8]) -> Text
     ensures { text_of result ≡ printed job.now }
 {
-    if MOST_BYTES < job.len() {
-        let head = &job[..MOST_BYTES];
-        return told(head);
-    }
-    told(job)
+    told(&job[..MOST_BYTES.min(job.len())])
 }

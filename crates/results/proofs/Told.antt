@@ -1,15 +1,14 @@
--- Words written one by one: a verdict, the room of a machine by its counts; and which lent slice is too short.
+-- The words of a verdict, and of the room of a machine by its counts; and slices that are long enough.
 use mathlib.Core.Path.{◌≡◌, refl, sym, ap, ◌∙◌}
-use Prim.Native.Nat.{ℕ, ◌+◌, ◌*◌, ◌<◌, ◌≤◌}
+use Prim.Native.Nat.{ℕ, ◌+◌, ◌*◌, ◌≤◌}
 use native.Mathlib.Omega.{arith}
 use mathlib.Core.Bool.{Bool, true, false, not, false≢true}
 use mathlib.Core.List.{List, [], ◌∷◌, ◌++◌}
-use borrow.Author.Tests.{lt-ltb, le-ltb, ltb-false}
+use borrow.Author.Tests.{ltb-false}
 use lib.ListN.{length, get_or, set}
 use native.Mathlib.Numerals.{add-one}
 use lib.Dec.{ltb}
 use Rattle.order.specs.Bools.{◌or◌}
-use Rattle.table.specs.Told.{TwoPut}
 use Rattle.semantics.specs.Machine.{Thread as SThread, most_threads, most_cells, most_keys, most_pairs, most_functions, most_frames, most_bindings}
 use Rattle.store.specs.Tables.{capped, stack_of}
 use Rattle.store.specs.Words.{cell_in, pair_in, function_in, link_in, up_in}
@@ -23,24 +22,14 @@ use Rattle.machine.specs.Listed.{listed_length}
 use Rattle.machine.specs.View.{seen}
 use Rattle.calls.specs.Words.{room_for, over}
 use Rattle.calls.proofs.Laws.{sets_over}
-use Rattle.judge.specs.declared.Verdict.{Verdict}
-use Rattle.judge.specs.declared.Verdict.TheVariants as verdict
-use Rattle.results.specs.Told.{number_for, out_words, frames_of, room_words, count_words, cell_words_lem, lent_short}
-
-pub tells_accepted : (v : Verdict) (l : List ℕ) (i s : ℕ) {k : List ℕ} {a : ℕ} → v ≡ verdict.Accepted i s → a ≡ i → TwoPut l k 0 a s → (0 ≡ number_for v) × (k ≡ over l (out_words v))
-unfolding number_for out_words
-tells_accepted v l i s e c z =
-    (sym (ap (λ (u : Verdict). number_for u) e), z.same ∙ sets_over l _ ∙ ap (λ (x : ℕ). over l (x ∷ s ∷ [])) c ∙ sym (ap (λ (u : Verdict). over l (out_words u)) e))
-
-pub tells_refused : (v : Verdict) (l : List ℕ) (n p : ℕ) {k : List ℕ} {r a : ℕ} → v ≡ verdict.Refused n p → r ≡ n → a ≡ p → TwoPut l k 0 a 0 → (r ≡ number_for v) × (k ≡ over l (out_words v))
-unfolding number_for out_words
-tells_refused v l n p e d c z =
-    (d ∙ sym (ap (λ (u : Verdict). number_for u) e), z.same ∙ sets_over l _ ∙ ap (λ (x : ℕ). over l (x ∷ 0 ∷ [])) c ∙ sym (ap (λ (u : Verdict). over l (out_words u)) e))
+use Rattle.std.specs.Prelude.{Ok, Err}
+use Rattle.judge.specs.Answer.{Verdict}
+use Rattle.results.specs.Told.{out_words, frames_of, room_words, count_words, cell_words_lem, lent_short}
 
 pub out_length : (u : Verdict) → length (out_words u) ≡ 2
 unfolding out_words
-out_length (verdict.Accepted i s) = refl
-out_length (verdict.Refused n p) = refl
+out_length (Ok a) = refl
+out_length (Err k) = refl
 
 pub counted : (u : Used) (e g : ℕ) (l : List ℕ) {l1 l2 l3 l4 l5 l6 l7 : List ℕ} {a b c d f : ℕ}
     → a ≡ capped u.cells most_cells → b ≡ capped u.keys most_keys → c ≡ capped u.pairs most_pairs → d ≡ capped u.functions most_functions → f ≡ capped u.bindings most_bindings
@@ -69,21 +58,19 @@ frames_more ts i {x} {s} h e fs =
     w ∙ sym z ∙ ap (λ (n : ℕ). frames_of (listed (thread_at ts fs) n)) (sym (add-one i))
 
 -- the frames of so many of them are summed
-pub record Summing (ts : List Thread) (n sum i : ℕ) : Type 0 where
+pub record Summing (ts : List Thread) (sum i : ℕ) : Type 0 where
   pub told : (fs : List ℕ) → sum ≡ frames_of (listed (thread_at ts fs) i)
   pub few : sum ≤ i * 256
-  pub within : i ≤ n
-  pub places : n ≤ 8
 
-pub summing_start : (ts : List Thread) (n : ℕ) → n ≤ 8 → Summing ts n 0 0
+pub summing_start : (ts : List Thread) → Summing ts 0 0
 unfolding listed frames_of
-summing_start ts n h = record { told = λ fs. refl; few = omega arith; within = omega arith; places = h }
+summing_start ts = record { told = λ fs. refl; few = omega arith }
 
-pub summing_on : (ts : List Thread) {n s i x : ℕ} → i < n → (x ≡ capped (get_or ts i idle).frames most_frames) × (x ≤ most_frames) → Summing ts n s i → Summing ts n (s + x) (i + 1)
-summing_on ts {n} {s} {i} h c w = record { told = frames_more ts i c.0 w.told; few = omega (arith, w.few, c.1); within = omega arith; places = w.places }
+pub summing_on : (ts : List Thread) {s i x : ℕ} → (x ≡ capped (get_or ts i idle).frames most_frames) × (x ≤ most_frames) → Summing ts s i → Summing ts (s + x) (i + 1)
+summing_on ts {s} {i} c w = record { told = frames_more ts i c.0 w.told; few = omega (arith, w.few, c.1) }
 
-pub summing_end : {ts : List Thread} {n s i : ℕ} → n ≤ i → Summing ts n s i → (fs : List ℕ) → s ≡ frames_of (listed (thread_at ts fs) n)
-summing_end {ts} {n} {s} {i} h w fs = w.told fs ∙ ap (λ (k : ℕ). frames_of (listed (thread_at ts fs) k)) (let z : i ≡ n = omega (arith, h, w.within) in z)
+pub summing_end : {ts : List Thread} {n s i : ℕ} → n ≤ i → i ≤ n → Summing ts s i → (fs : List ℕ) → s ≡ frames_of (listed (thread_at ts fs) n)
+summing_end {ts} {n} {s} {i} h g w fs = w.told fs ∙ ap (λ (k : ℕ). frames_of (listed (thread_at ts fs) k)) (let z : i ≡ n = omega arith in z)
 
 pub within_few : (m : ℕ) {n : ℕ} → n ≡ capped m most_threads → n ≤ most_threads
 within_few m h = let z = cap_le m most_threads in omega (arith, h, z)
@@ -105,29 +92,11 @@ unfolding ◌or◌
 or_none true b e = absurd (false≢true (sym e))
 or_none false b e = (refl, e)
 
--- which slice is too short
-module _ (ws a v c o : List ℕ) where
-  pub short_answers : not (room_for ws a) ≡ true → true ≡ lent_short ws a v c o
-  unfolding lent_short ◌or◌
-  short_answers h = simp h
-
-  pub short_value : not (room_for ws a) ≡ false → length v < 2 → true ≡ lent_short ws a v c o
-  unfolding lent_short ◌or◌
-  short_value h g = simp (h, lt-ltb _ _ g)
-
-  pub short_cells : not (room_for ws a) ≡ false → 2 ≤ length v → length c < cell_words_lem → true ≡ lent_short ws a v c o
-  unfolding lent_short ◌or◌
-  short_cells h g k = simp (h, le-ltb _ _ g, lt-ltb _ _ k)
-
-  pub short_out : not (room_for ws a) ≡ false → 2 ≤ length v → cell_words_lem ≤ length c → ltb (length o) 2 ≡ lent_short ws a v c o
-  unfolding lent_short ◌or◌
-  short_out h g k = simp (h, le-ltb _ _ g, le-ltb _ _ k)
-
-  -- none is
-  pub long_lent : lent_short ws a v c o ≡ false → (2 ≤ length v) × (cell_words_lem ≤ length c) × (2 ≤ length o)
-  unfolding lent_short
-  long_lent e =
-      let x = or_none (not (room_for ws a) or ltb (length v) 2 or ltb (length c) cell_words_lem) (ltb (length o) 2) e in
-      let y = or_none (not (room_for ws a) or ltb (length v) 2) (ltb (length c) cell_words_lem) x.0 in
-      let z = or_none (not (room_for ws a)) (ltb (length v) 2) y.0 in
-      (ltb-false _ _ z.1, ltb-false _ _ y.1, ltb-false _ _ x.1)
+-- no slice is too short
+pub long_lent : (ws a v c o : List ℕ) → lent_short ws a v c o ≡ false → (2 ≤ length v) × (cell_words_lem ≤ length c) × (2 ≤ length o)
+unfolding lent_short
+long_lent ws a v c o e =
+    let x = or_none (not (room_for ws a) or ltb (length v) 2 or ltb (length c) cell_words_lem) (ltb (length o) 2) e in
+    let y = or_none (not (room_for ws a) or ltb (length v) 2) (ltb (length c) cell_words_lem) x.0 in
+    let z = or_none (not (room_for ws a)) (ltb (length v) 2) y.0 in
+    (ltb-false _ _ z.1, ltb-false _ _ y.1, ltb-false _ _ x.1)

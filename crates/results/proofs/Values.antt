@@ -90,11 +90,10 @@ module _ (table : List ℕ) (used i : ℕ) {s k : List ℕ} where
 -- so many cells are written; the others are still to be
 pub record Writing (l : List Value) (before after : List ℕ) (i : ℕ) : Type 0 where
   pub onward : sets after (2 * i) (cells_from l i (most_cells - i)) ≡ sets before 0 (cells_from l 0 most_cells)
-  pub within : i ≤ most_cells
   pub same : length after ≡ length before
 
 pub writing_start : (l : List Value) (s : List ℕ) → Writing l s s 0
-writing_start l s = record { onward = refl; within = omega arith; same = refl }
+writing_start l s = record { onward = refl; same = refl }
 
 pub writing_on : (l : List Value) {s a b : List ℕ} {i : ℕ} → i < most_cells → length b ≡ length a → CellPut l a b i → Writing l s a i → Writing l s b (i + 1)
 unfolding cells_from
@@ -110,7 +109,6 @@ writing_on l {s} {a} {b} {i} h n e w =
           ∙ ap (λ (k : ℕ). sets a (2 * i) (first_word (get_elem? l i) ∷ second_word (get_elem? l i) ∷ cells_from l k (most_cells - (i + 1)))) q
           ∙ ap (λ (k : ℕ). sets a (2 * i) (cells_from l i k)) (sym r)
           ∙ w.onward;
-      within = omega arith;
       same = n ∙ w.same;
     }
 

@@ -1,22 +1,21 @@
 -- What callers from C and Rust are told of a verdict and of the room in use, in words; and how long the slices are that they lend for it.
-use Rattle.std.specs.Prelude.{ℕ, ◌+◌, ◌*◌, Bool, not, List, [], ◌∷◌, length, ltb}
+use Rattle.std.specs.Prelude.{ℕ, ◌+◌, ◌*◌, Bool, not, List, [], ◌∷◌, length, ltb, Ok, Err}
 use Rattle.order.specs.Bools.{◌or◌}
 use Rattle.semantics.specs.Machine.{Thread as SThread, System, most_cells, most_keys, most_pairs, most_functions, most_bindings}
 use Rattle.store.specs.Tables.{capped}
 use Rattle.store.specs.declared.Used.{Used}
 use Rattle.calls.specs.Words.{room_for}
-use Rattle.judge.specs.declared.Verdict.{Verdict}
-use Rattle.judge.specs.declared.Verdict.TheVariants.{Accepted, Refused}
+use Rattle.judge.specs.Answer.{Verdict}
 
 -- the number of a verdict: 0 is an acceptance
 unfoldable pub number_for : Verdict → ℕ
-number_for (Accepted i s) = 0
-number_for (Refused n p) = n
+number_for (Ok a) = 0
+number_for (Err k) = k.number
 
 -- the entry of the job's type and its effect, or the place of the refusal and 0
 unfoldable pub out_words : Verdict → List ℕ
-out_words (Accepted i s) = i ∷ s ∷ []
-out_words (Refused n p) = p ∷ 0 ∷ []
+out_words (Ok a) = a.entry ∷ a.effect ∷ []
+out_words (Err k) = k.place ∷ 0 ∷ []
 
 -- the frames of all threads together
 unfoldable pub frames_of : List SThread → ℕ

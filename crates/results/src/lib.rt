@@ -14,32 +14,30 @@ ghost use Rattle.calls.specs.Words.{over};
 ghost use Rattle.results.specs.Told.{number_for, out_words, frames_of, room_words, count_words, lent_short};
 ghost use Rattle.results.specs.Values.{kind_no, payload_of, cells_from, value_at, value_among, value_words, cell_words, CellPut};
 
-use checker::Verdict;
+use judge::Accepted;
 use machine::{Control, Machine, Thread, all_finished, within};
 use store::{
     CELL_WORDS, Kind, MOST_BINDINGS, MOST_CELLS, MOST_FRAMES, MOST_FUNCTIONS, MOST_KEYS,
     MOST_PAIRS, MOST_THREADS, Used, cap,
 };
-use table::{put_two, put64, wide, wide8, wide16};
+use table::{Refusal, put_two, set_at};
 
 // The words of all cells, two for each.
 pub const TOLD_WORDS: usize = CELL_WORDS * 2;
 
-const CELLS: u32 = MOST_CELLS as u32;
-
 // The number of a verdict; what else it says is written.
-pub fn tell(v: Verdict, out: &mut [u64]) -> u64
+pub fn tell(v: Result<Accepted, Refusal>, out: &mut [u64]) -> u64
     ensures number { result ≡ number_for v }
     ensures written { out.new ≡ over out.old (out_words v) }
 {
     match v {
-        Verdict::Accepted(i, s) => {
-            put_two(out, 0, wide16(i), s);
+        Ok(job) => {
+            put_two(out, 0, job.entry as u64, job.effect);
             0
         }
-        Verdict::Refused(n, p) => {
-            put_two(out, 0, wide(p), 0);
-            wide8(n)
+        Err(refusal) => {
+            put_two(out, 0, refusal.place as u64, 0);
+            refusal.number as u64
         }
     }
 }
@@ -50,12 +48,8 @@ fn frames_of(threads: [Thread; MOST_THREADS], n: usize) -> u64
     ensures { (fs : List ℕ) → result ≡ frames_of (listed (thread_at threads fs) n) }
 {
     let mut sum: u64 = 0;
-    let mut i: usize = 0;
-    while i < n {
-        let t = threads[i];
-        let frames = cap(t.frames, MOST_FRAMES);
-        sum = sum + frames;
-        i = i + 1;
+    for i in 0..n {
+        sum += cap(threads[i].frames, MOST_FRAMES);
     }
     sum
 }
@@ -64,18 +58,13 @@ fn frames_of(threads: [Thread; MOST_THREADS], n: usize) -> u64
 fn put_rooms(u: Used, frames: u64, threads: u64, rooms: &mut [u64])
     ensures { rooms.new ≡ over rooms.old (count_words u frames threads) }
 {
-    let cells = cap(u.cells, MOST_CELLS);
-    let keys = cap(u.keys, MOST_KEYS);
-    let pairs = cap(u.pairs, MOST_PAIRS);
-    let functions = cap(u.functions, MOST_FUNCTIONS);
-    let bindings = cap(u.bindings, MOST_BINDINGS);
-    put64(rooms, 0, cells);
-    put64(rooms, 1, keys);
-    put64(rooms, 2, pairs);
-    put64(rooms, 3, functions);
-    put64(rooms, 4, frames);
-    put64(rooms, 5, bindings);
-    put64(rooms, 6, threads);
+    set_at(rooms, 0, cap(u.cells, MOST_CELLS));
+    set_at(rooms, 1, cap(u.keys, MOST_KEYS));
+    set_at(rooms, 2, cap(u.pairs, MOST_PAIRS));
+    set_at(rooms, 3, cap(u.functions, MOST_FUNCTIONS));
+    set_at(rooms, 4, frames);
+    set_at(rooms, 5, cap(u.bindings, MOST_BINDINGS));
+    set_at(rooms, 6, threads);
 }
 
 // How much of each kind the machine uses, and its threads, as far as there are places to write it.
@@ -83,10 +72,8 @@ pub fn count(m: Machine, rooms: &mut [u64])
     ensures { (fs : List ℕ) → rooms.new ≡ over rooms.old (room_words (seen m fs)) }
 {
     let n = within(m.count);
-    let threads = m.threads;
-    let frames = frames_of(threads, n);
-    let u = m.used;
-    put_rooms(u, frames, wide(n), rooms);
+    let frames = frames_of(m.threads, n);
+    put_rooms(m.used, frames, n as u64, rooms);
 }
 
 // Whether a slice that is lent to a session is too short: nine words a call, ten for its answer, two for the value, two for each cell, two for what is told.
@@ -99,29 +86,17 @@ pub fn is_short<'a>(
 ) -> bool
     ensures { result ≡ lent_short calls.now answers.now value.now cells.now out.now }
 {
-    if calls::lacks_room(calls, answers) {
-        return true;
-    }
-    if value.len() < 2 {
-        return true;
-    }
-    if cells.len() < TOLD_WORDS {
-        return true;
-    }
-    out.len() < 2
+    calls::lacks_room(calls, answers)
+        || value.len() < 2
+        || cells.len() < TOLD_WORDS
+        || out.len() < 2
 }
 
+// The number of a kind, from 1 on: the variants stand in the order of the numbers.
 fn kind_word(k: Kind) -> u64
     ensures { (n : ℕ) → result ≡ kind_no (kind_in k n) }
 {
-    match k {
-        Kind::Number => 1,
-        Kind::Pair => 2,
-        Kind::Cell => 3,
-        Kind::Function => 4,
-        Kind::Limit => 5,
-        Kind::Grant => 6,
-    }
+    k as u64 + 1
 }
 
 fn payload_word(k: Kind, payload: u32) -> u64
@@ -129,12 +104,8 @@ fn payload_word(k: Kind, payload: u32) -> u64
 {
     let n = payload as u64;
     match k {
-        Kind::Number => n,
-        Kind::Pair => n,
-        Kind::Cell => n,
-        Kind::Function => n,
-        Kind::Limit => n % 256,
-        Kind::Grant => n % 256,
+        Kind::Number | Kind::Pair | Kind::Cell | Kind::Function => n,
+        Kind::Limit | Kind::Grant => n % 256,
     }
 }
 
@@ -142,31 +113,23 @@ fn payload_word(k: Kind, payload: u32) -> u64
 fn put_handed(t: Thread, value: &mut [u64])
     ensures { value.new ≡ over value.old (value_at (handed_on (control_in t.now.control))) }
 {
-    let n = t.now;
-    let c = n.control;
-    let Control::Hand(w) = c else {
+    let Control::Hand(w) = t.now.control else {
         put_two(value, 0, 0, 0);
         return;
     };
     let v = store::unpack(w);
-    let k = v.kind;
-    put_two(value, 0, kind_word(k), payload_word(k, v.payload));
+    put_two(value, 0, kind_word(v.kind), payload_word(v.kind, v.payload));
 }
 
 // The value of a job whose threads are all finished: that of the first.
 fn put_value(threads: [Thread; MOST_THREADS], count: u8, value: &mut [u64])
     ensures { (fs : List ℕ) → value.new ≡ over value.old (value_at (value_among (listed (thread_at threads fs) (capped count most_threads)))) }
 {
-    if count == 0 {
+    if 0 < count && all_finished(threads, count) {
+        put_handed(threads[0], value);
+    } else {
         put_two(value, 0, 0, 0);
-        return;
     }
-    if all_finished(threads, count) {
-        let t = threads[0];
-        put_handed(t, value);
-        return;
-    }
-    put_two(value, 0, 0, 0);
 }
 
 // What cell i of so many holds.
@@ -177,21 +140,23 @@ fn put_cell(table: &[u64; CELL_WORDS], used: u64, i: u32, cells: &mut [u64])
     let at = 2 * (i as usize);
     if (i as u64) < used {
         let v = store::cell_at(table, i);
-        let k = v.kind;
-        put_two(cells, at, kind_word(k), payload_word(k, v.payload));
-        return;
+        put_two(
+            cells,
+            at,
+            kind_word(v.kind),
+            payload_word(v.kind, v.payload),
+        );
+    } else {
+        put_two(cells, at, 0, 0);
     }
-    put_two(cells, at, 0, 0);
 }
 
 // What the cells hold, so many of them.
 fn put_cells(table: &[u64; CELL_WORDS], used: u64, cells: &mut [u64])
     ensures { cells.new ≡ over cells.old (cells_from (list_of cell_in table.now used) 0 most_cells) }
 {
-    let mut i: u32 = 0;
-    while i < CELLS {
+    for i in 0..MOST_CELLS as u32 {
         put_cell(table, used, i, cells);
-        i = i + 1;
     }
 }
 
@@ -200,10 +165,6 @@ pub fn hand_over(m: Machine, value: &mut [u64], cells: &mut [u64])
     ensures value { (fs : List ℕ) → value.new ≡ over value.old (value_words (seen m fs)) }
     ensures cells { (fs : List ℕ) → cells.new ≡ over cells.old (cell_words (seen m fs)) }
 {
-    let threads = m.threads;
-    put_value(threads, m.count, value);
-    let u = m.used;
-    let used = cap(u.cells, MOST_CELLS);
-    let table = m.cells;
-    put_cells(&table, used, cells);
+    put_value(m.threads, m.count, value);
+    put_cells(&m.cells, cap(m.used.cells, MOST_CELLS), cells);
 }

@@ -1,3 +1,1 @@
-pub mod Sorts
-pub mod Branches
 pub mod Keys

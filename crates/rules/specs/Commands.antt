@@ -1,5 +1,5 @@
 -- The result of each command from what is known of its operands: the clauses of `result_at`, with the operands' entries and effects in place of their numbers.
-use Rattle.std.specs.Prelude.{ℕ, zero, suc, ◌+◌, ◌/◌, ◌%◌, Bool, false, cond, List, [], ◌∷◌, get_or, take, eqb, ltb}
+use Rattle.std.specs.Prelude.{ℕ, zero, suc, ◌+◌, ◌/◌, ◌%◌, Bool, false, cond, List, [], ◌∷◌, get_or, take, eqb}
 use Rattle.order.specs.Effects.{of_word, pure}
 use Rattle.syntax.specs.Types.{e_num, e_pair, e_cell, e_fn, e_lim}
 use Rattle.syntax.specs.Commands.{Cmd, c_num, c_pair, c_app, c_asg, c_sum, c_test, c_grant, c_newkey, c_assoc, c_access, c_divide}
@@ -66,10 +66,6 @@ test_by anc types sets x y z t =
     need_num (entry_in types sets x.ty)
     (λ q. need 12 (fits_by anc types sets y.ty t) (need 12 (fits_by anc types sets z.ty t)
     (points t (of_word (reduce_by anc (touch_by q (join_by x.effect (join_by y.effect z.effect))))))))
-
--- how many of n keys there are places for
-abbrev pub four : ℕ → ℕ
-four n = cond (ltb n 4) n 4
 
 -- the slots from place i on, n of them
 unfoldable pub slots_from : List ℕ → ℕ → ℕ → List ℕ

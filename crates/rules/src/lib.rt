@@ -1,5 +1,5 @@
 // The rule of each command: the type and effect of an expression from those of its operands.
-#![tactic(auto)]
+#![tactic(auto, unfolding(equality::specs::Entry::entry_of, crate::specs::Answer::result_in, crate::specs::Answer::made, typing::specs::Layout::rekeyed, typing::specs::Numbered::key_in, typing::specs::Numbered::need, typing::specs::Numbered::need_num, typing::specs::Numbered::need_pair, typing::specs::Numbered::need_cell, typing::specs::Numbered::need_fn, typing::specs::Numbered::need_lim, typing::specs::Numbered::need_grant))]
 
 ghost use Rattle.std.specs.Prelude.{◌≡◌, ◌≤◌, ◌%◌, get_or, eqb};
 ghost use Rattle.typing.specs.Layout as layout;
@@ -11,16 +11,16 @@ ghost use Rattle.rules.specs.Answer.{made, result_in};
 ghost use Rattle.rules.specs.Commands as by;
 
 use names::{eff_below, join, touch};
-use table::{MOST_DEPTH, MOST_NAMES, MOST_VARIABLES, Name, at16, at64};
+use table::{MOST_DEPTH, MOST_NAMES, MOST_VARIABLES, Name, get_or};
 use types::{Entry, entry_at};
 
-// The type and effect of an expression: a new entry; two new ones, for a number, whose entry is given, and for a pair with both parts there; or one already there. Or the number of a refusal.
+// The type and effect of an expression: a new entry; two new ones, for a number, whose entry is given, and for a pair with both parts there; or one already there.
+// A rule gives that, or the number of a refusal: no more, since which expression it is of is not known here.
 #[derive(Clone, Copy)]
 pub enum Typing {
     Makes(Entry, u64),
     Shares(u16, u64),
     Points(u16, u64),
-    Wrong(u8),
 }
 
 // What is known of an operand: the entry of its type, and its effect.
@@ -34,10 +34,10 @@ pub struct Operand {
 pub fn operand_at<'a>(slots: &'a [u16], entries: &'a [u16], effects: &'a [u64], j: usize) -> Operand
     ensures { result ≡ by.operand_at slots.now entries.now effects.now j }
 {
-    let a = at16(slots, j) as usize;
+    let a = get_or(slots, j, 0) as usize;
     Operand {
-        ty: at16(entries, a),
-        effect: at64(effects, a),
+        ty: get_or(entries, a, 0),
+        effect: get_or(effects, a, 0),
     }
 }
 
@@ -78,39 +78,36 @@ fn branches_fit<'a>(
     ensures { (result ≡ by.branches_fit anc.now types.now sets.now a b t)
         × Known anc.now types.now sets.now known.new }
 {
-    if fits(anc, types, sets, a, t, known) {
-        return fits(anc, types, sets, b, t, known);
-    }
-    false
+    fits(anc, types, sets, a, t, known) && fits(anc, types, sets, b, t, known)
 }
 
 // 0x30, 0x31, 0x32.
-pub fn number() -> Typing
+pub fn number() -> Result<Typing, u8>
     ensures { result_in result ≡ by.number_by }
 {
-    Typing::Makes(Entry::Number(Name(0)), 0)
+    Ok(Typing::Makes(Entry::Number(Name(0)), 0))
 }
 
-pub fn top() -> Typing
+pub fn top() -> Result<Typing, u8>
     ensures { result_in result ≡ by.top_by }
 {
-    Typing::Makes(Entry::Limit(Name(0), Name(1)), 0)
+    Ok(Typing::Makes(Entry::Limit(Name(0), Name(1)), 0))
 }
 
-pub fn variable(vars: &[u16; MOST_VARIABLES], v: u8) -> Typing
+pub fn variable(vars: &[u16; MOST_VARIABLES], v: u8) -> Result<Typing, u8>
     ensures { result_in result ≡ by.variable_by vars.now v }
 {
-    Typing::Points(at16(vars, v as usize), 0)
+    Ok(Typing::Points(get_or(vars, v as usize, 0), 0))
 }
 
 // 0x33.
-pub fn pair(anc: &[u64; MOST_NAMES], x: Operand, y: Operand) -> Typing
+pub fn pair(anc: &[u64; MOST_NAMES], x: Operand, y: Operand) -> Result<Typing, u8>
     ensures { result_in result ≡ by.pair_by anc.now x y }
 {
-    Typing::Makes(
+    Ok(Typing::Makes(
         Entry::Pair(Name(0), x.ty, y.ty),
         names::reduce(anc, join(x.effect, y.effect)),
-    )
+    ))
 }
 
 // 0x34.
@@ -120,24 +117,21 @@ pub fn part<'a>(
     sets: &'a [u64],
     x: Operand,
     i: u32,
-) -> Typing
+) -> Result<Typing, u8>
     ensures { result_in result ≡ by.part_by anc.now types.now sets.now x i }
 {
     let Entry::Pair(q, a, b) = entry_at(types, sets, x.ty) else {
-        return Typing::Wrong(11);
+        return Err(11);
     };
-    let s = touched(anc, q, x.effect);
-    if i == 1 {
-        return Typing::Points(a, s);
-    }
-    Typing::Points(b, s)
+    let j = if i == 1 { a } else { b };
+    Ok(Typing::Points(j, touched(anc, q, x.effect)))
 }
 
 // 0x35.
-pub fn function(t: u16, x: Operand) -> Typing
+pub fn function(t: u16, x: Operand) -> Result<Typing, u8>
     ensures { result_in result ≡ by.function_by t x }
 {
-    Typing::Makes(Entry::Function(Name(0), t, x.ty, x.effect), 0)
+    Ok(Typing::Makes(Entry::Function(Name(0), t, x.ty, x.effect), 0))
 }
 
 // 0x36.
@@ -148,19 +142,19 @@ pub fn apply<'a>(
     x: Operand,
     y: Operand,
     known: &mut [u64],
-) -> Typing
+) -> Result<Typing, u8>
     requires { Known anc.now types.now sets.now known.old }
     ensures { (result_in result ≡ by.apply_by anc.now types.now sets.now x y)
         × Known anc.now types.now sets.now known.new }
 {
     let Entry::Function(q, t, u, l) = entry_at(types, sets, x.ty) else {
-        return Typing::Wrong(11);
+        return Err(11);
     };
-    if fits(anc, types, sets, y.ty, t, known) {
-        let s = join(l, join(x.effect, y.effect));
-        return Typing::Points(u, touched(anc, q, s));
+    if !fits(anc, types, sets, y.ty, t, known) {
+        return Err(12);
     }
-    Typing::Wrong(12)
+    let s = join(l, join(x.effect, y.effect));
+    Ok(Typing::Points(u, touched(anc, q, s)))
 }
 
 // 0x37.
@@ -171,15 +165,15 @@ pub fn cell<'a>(
     t: u16,
     x: Operand,
     known: &mut [u64],
-) -> Typing
+) -> Result<Typing, u8>
     requires { Known anc.now types.now sets.now known.old }
     ensures { (result_in result ≡ by.cell_by anc.now types.now sets.now t x)
         × Known anc.now types.now sets.now known.new }
 {
-    if fits(anc, types, sets, x.ty, t, known) {
-        return Typing::Makes(Entry::Cell(Name(0), t), x.effect);
+    if !fits(anc, types, sets, x.ty, t, known) {
+        return Err(12);
     }
-    Typing::Wrong(12)
+    Ok(Typing::Makes(Entry::Cell(Name(0), t), x.effect))
 }
 
 // 0x38.
@@ -190,28 +184,33 @@ pub fn assign<'a>(
     x: Operand,
     y: Operand,
     known: &mut [u64],
-) -> Typing
+) -> Result<Typing, u8>
     requires { Known anc.now types.now sets.now known.old }
     ensures { (result_in result ≡ by.assign_by anc.now types.now sets.now x y)
         × Known anc.now types.now sets.now known.new }
 {
     let Entry::Cell(q, t) = entry_at(types, sets, x.ty) else {
-        return Typing::Wrong(11);
+        return Err(11);
     };
-    if fits(anc, types, sets, y.ty, t, known) {
-        return Typing::Points(t, touched(anc, q, join(x.effect, y.effect)));
+    if !fits(anc, types, sets, y.ty, t, known) {
+        return Err(12);
     }
-    Typing::Wrong(12)
+    Ok(Typing::Points(t, touched(anc, q, join(x.effect, y.effect))))
 }
 
 // 0x39.
-pub fn read<'a>(anc: &'a [u64; MOST_NAMES], types: &'a [u64], sets: &'a [u64], x: Operand) -> Typing
+pub fn read<'a>(
+    anc: &'a [u64; MOST_NAMES],
+    types: &'a [u64],
+    sets: &'a [u64],
+    x: Operand,
+) -> Result<Typing, u8>
     ensures { result_in result ≡ by.read_by anc.now types.now sets.now x }
 {
     let Entry::Cell(q, t) = entry_at(types, sets, x.ty) else {
-        return Typing::Wrong(11);
+        return Err(11);
     };
-    Typing::Points(t, touched(anc, q, x.effect))
+    Ok(Typing::Points(t, touched(anc, q, x.effect)))
 }
 
 // 0x3A.
@@ -221,17 +220,17 @@ pub fn sum<'a>(
     sets: &'a [u64],
     x: Operand,
     y: Operand,
-) -> Typing
+) -> Result<Typing, u8>
     ensures { result_in result ≡ by.sum_by anc.now types.now sets.now x y }
 {
     let Entry::Number(p) = entry_at(types, sets, x.ty) else {
-        return Typing::Wrong(11);
+        return Err(11);
     };
     let Entry::Number(q) = entry_at(types, sets, y.ty) else {
-        return Typing::Wrong(11);
+        return Err(11);
     };
     let s = touch(q, join(x.effect, y.effect));
-    Typing::Makes(Entry::Number(Name(0)), touched(anc, p, s))
+    Ok(Typing::Makes(Entry::Number(Name(0)), touched(anc, p, s)))
 }
 
 // 0x3B.
@@ -244,32 +243,22 @@ pub fn test<'a>(
     z: Operand,
     t: u16,
     known: &mut [u64],
-) -> Typing
+) -> Result<Typing, u8>
     requires { Known anc.now types.now sets.now known.old }
     ensures { (result_in result ≡ by.test_by anc.now types.now sets.now x y z t)
         × Known anc.now types.now sets.now known.new }
 {
     let Entry::Number(q) = entry_at(types, sets, x.ty) else {
-        return Typing::Wrong(11);
+        return Err(11);
     };
-    if branches_fit(anc, types, sets, y.ty, z.ty, t, known) {} else {
-        return Typing::Wrong(12);
+    if !branches_fit(anc, types, sets, y.ty, z.ty, t, known) {
+        return Err(12);
     }
     let s = join(x.effect, join(y.effect, z.effect));
-    Typing::Points(t, touched(anc, q, s))
+    Ok(Typing::Points(t, touched(anc, q, s)))
 }
 
-// A limit has at most four keys.
-fn four(n: u32) -> usize
-    ensures { result ≡ by.four n }
-{
-    if n < 4 {
-        return n as usize;
-    }
-    4
-}
-
-// 0x3C: n keys at place `at` and after it, and the body at the fifth place.
+// 0x3C: n keys at place `at` and after it, of which there are at most four, and the body at the fifth place.
 pub fn limit<'a>(
     anc: &'a [u64; MOST_NAMES],
     types: &'a [u64],
@@ -279,30 +268,26 @@ pub fn limit<'a>(
     effects: &'a [u64],
     at: usize,
     n: u32,
-) -> Typing
+) -> Result<Typing, u8>
     requires { at ≤ 327675 }
     ensures { result_in result
         ≡ by.limit_by anc.now types.now sets.now slots.now entries.now effects.now at n }
 {
     let mut rs: u64 = 0;
     let mut s: u64 = 0;
-    let mut j = at;
-    let mut left = four(n);
-    while 0 < left {
+    for j in at..at + n.min(4) as usize {
         let x = operand_at(slots, entries, effects, j);
         let Entry::Limit(q, r) = entry_at(types, sets, x.ty) else {
-            return Typing::Wrong(11);
+            return Err(11);
         };
         rs = touch(r, rs);
         s = touch(q, join(x.effect, s));
-        j = j + 1;
-        left = left - 1;
     }
     let body = operand_at(slots, entries, effects, at + 4);
-    if eff_below(anc, body.effect, rs) {
-        return Typing::Points(body.ty, names::reduce(anc, join(s, body.effect)));
+    if !eff_below(anc, body.effect, rs) {
+        return Err(13);
     }
-    Typing::Wrong(13)
+    Ok(Typing::Points(body.ty, names::reduce(anc, join(s, body.effect))))
 }
 
 // 0x3D.
@@ -312,23 +297,21 @@ pub fn grant<'a>(
     sets: &'a [u64],
     x: Operand,
     y: Operand,
-) -> Typing
+) -> Result<Typing, u8>
     ensures { result_in result ≡ by.grant_by anc.now types.now sets.now x y }
 {
     let Entry::Grant(q, r) = entry_at(types, sets, x.ty) else {
-        return Typing::Wrong(11);
+        return Err(11);
     };
     let s = join(x.effect, names::drop_below(anc, r, y.effect));
-    Typing::Points(y.ty, touched(anc, q, s))
+    Ok(Typing::Points(y.ty, touched(anc, q, s)))
 }
 
 // Whether u is the upper name of r.
 fn is_upper(names: &[u16], r: Name, u: Name) -> bool
     ensures { result ≡ eqb u.0 (get_or names.now r.0 0 % 256) }
 {
-    let w = at16(names, r.0 as usize) % 256;
-    let n = u.0 as u16;
-    n == w
+    u16::from(u.0) == get_or(names, r.0 as usize, 0) % 256
 }
 
 // 0x3E.
@@ -342,35 +325,35 @@ pub fn new_key<'a>(
     y: Operand,
     t: u16,
     known: &mut [u64],
-) -> Typing
+) -> Result<Typing, u8>
     requires { Known anc.now types.now sets.now known.old }
     ensures { (result_in result ≡ by.new_key_by anc.now types.now sets.now names.now r.0 x y t)
         × Known anc.now types.now sets.now known.new }
 {
     let Entry::Limit(q, u) = entry_at(types, sets, x.ty) else {
-        return Typing::Wrong(11);
+        return Err(11);
     };
-    if is_upper(names, r, u) {} else {
-        return Typing::Wrong(11);
+    if !is_upper(names, r, u) {
+        return Err(11);
     }
-    if fits(anc, types, sets, y.ty, t, known) {} else {
-        return Typing::Wrong(12);
+    if !fits(anc, types, sets, y.ty, t, known) {
+        return Err(12);
     }
     let s = join(x.effect, names::raise(r, u, y.effect));
-    Typing::Points(t, touched(anc, q, s))
+    Ok(Typing::Points(t, touched(anc, q, s)))
 }
 
-// The key of an entry, and an entry with another key.
+// The key of an entry, and an entry with another key. These stay two matches: with the key in a struct beside the kind, each rule would match Entry { key: q, kind: Kind::Pair(a, b) }.
 fn key(e: Entry) -> Name
     ensures { result.0 ≡ key_in (entry_of e) }
 {
     match e {
-        Entry::Number(q) => q,
-        Entry::Pair(q, _, _) => q,
-        Entry::Cell(q, _) => q,
-        Entry::Function(q, _, _, _) => q,
-        Entry::Limit(q, _) => q,
-        Entry::Grant(q, _) => q,
+        Entry::Number(q)
+        | Entry::Pair(q, _, _)
+        | Entry::Cell(q, _)
+        | Entry::Function(q, _, _, _)
+        | Entry::Limit(q, _)
+        | Entry::Grant(q, _) => q,
         Entry::Nothing => Name(0),
     }
 }
@@ -379,13 +362,12 @@ fn rekeyed(k: Name, e: Entry) -> Entry
     ensures { made (entry_of result) ≡ layout.rekeyed k.0 (entry_of e) }
 {
     match e {
-        Entry::Number(_) => Entry::Number(k),
+        Entry::Number(_) | Entry::Nothing => Entry::Number(k),
         Entry::Pair(_, a, b) => Entry::Pair(k, a, b),
         Entry::Cell(_, a) => Entry::Cell(k, a),
         Entry::Function(_, a, b, s) => Entry::Function(k, a, b, s),
         Entry::Limit(_, r) => Entry::Limit(k, r),
         Entry::Grant(_, r) => Entry::Grant(k, r),
-        Entry::Nothing => Entry::Number(k),
     }
 }
 
@@ -396,16 +378,15 @@ pub fn associate<'a>(
     sets: &'a [u64],
     x: Operand,
     y: Operand,
-) -> Typing
+) -> Result<Typing, u8>
     ensures { result_in result ≡ by.associate_by anc.now types.now sets.now x y }
 {
     let Entry::Limit(q, r) = entry_at(types, sets, y.ty) else {
-        return Typing::Wrong(11);
+        return Err(11);
     };
     let e = entry_at(types, sets, x.ty);
     let s = touch(q, join(x.effect, y.effect));
-    let k = key(e);
-    Typing::Makes(rekeyed(r, e), touched(anc, k, s))
+    Ok(Typing::Makes(rekeyed(r, e), touched(anc, key(e), s)))
 }
 
 // 0x40: the first branch's effect without the names below the key's own name, the second's whole.
@@ -418,22 +399,22 @@ pub fn access<'a>(
     z: Operand,
     t: u16,
     known: &mut [u64],
-) -> Typing
+) -> Result<Typing, u8>
     requires { Known anc.now types.now sets.now known.old }
     ensures { (result_in result ≡ by.access_by anc.now types.now sets.now x y z t)
         × Known anc.now types.now sets.now known.new }
 {
     let Entry::Limit(q, r) = entry_at(types, sets, x.ty) else {
-        return Typing::Wrong(11);
+        return Err(11);
     };
-    if branches_fit(anc, types, sets, y.ty, z.ty, t, known) {} else {
-        return Typing::Wrong(12);
+    if !branches_fit(anc, types, sets, y.ty, z.ty, t, known) {
+        return Err(12);
     }
     let s = join(
         x.effect,
         join(names::drop_below(anc, r, y.effect), z.effect),
     );
-    Typing::Points(t, touched(anc, q, s))
+    Ok(Typing::Points(t, touched(anc, q, s)))
 }
 
 // 0x41: entry `next` for the number, and then one for the pair, with both its parts there.
@@ -444,25 +425,25 @@ pub fn divide<'a>(
     x: Operand,
     y: Operand,
     next: u16,
-) -> Typing
+) -> Result<Typing, u8>
     ensures { result_in result ≡ by.divide_by anc.now types.now sets.now x y next }
 {
     let Entry::Number(p) = entry_at(types, sets, x.ty) else {
-        return Typing::Wrong(11);
+        return Err(11);
     };
     let Entry::Number(q) = entry_at(types, sets, y.ty) else {
-        return Typing::Wrong(11);
+        return Err(11);
     };
     let s = touch(q, join(x.effect, y.effect));
-    Typing::Shares(next, touched(anc, p, s))
+    Ok(Typing::Shares(next, touched(anc, p, s)))
 }
 
 // 0x42: a number, where the body's effect is empty, whatever its type.
-pub fn spawn(anc: &[u64; MOST_NAMES], x: Operand) -> Typing
+pub fn spawn(anc: &[u64; MOST_NAMES], x: Operand) -> Result<Typing, u8>
     ensures { result_in result ≡ by.spawn_by anc.now x }
 {
-    if eff_below(anc, x.effect, 0) {
-        return number();
+    if !eff_below(anc, x.effect, 0) {
+        return Err(16);
     }
-    Typing::Wrong(16)
+    number()
 }

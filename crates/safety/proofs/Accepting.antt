@@ -1,6 +1,6 @@
 -- What an accepted job's tables say: the job that its bytes are, held by the tables, and demand 3 of its calls. And what a refusal says, where no table is too short.
-use Rattle.std.specs.Prelude.{◌≡◌, refl, ℕ, zero, suc, Bool, true, false, cond, List, [], ◌∷◌, ◌++◌, length}
-use Rattle.std.proofs.Common.{sym, ap, ◌∙◌, arith}
+use Rattle.std.specs.Prelude.{◌≡◌, refl, ℕ, zero, suc, Bool, true, false, cond, List, [], ◌∷◌, ◌++◌, length, Ok, Err}
+use Rattle.std.proofs.Common.{sym, ◌∙◌, arith}
 use Rattle.std.proofs.Math.Option.{some}
 use Rattle.std.proofs.Math.ListN.{get_elem?}
 use Rattle.order.specs.Effects.{Effect, of_word}
@@ -17,15 +17,14 @@ use Rattle.syntax.specs.Loading.{filled_with}
 use Rattle.typing.specs.Layout.{Points, new, old, Layout, point, layout_from, layout_of}
 use Rattle.typing.specs.Verdict.{Verdict, accept, refuse, verdict_of}
 use Rattle.typing.specs.Tables.{Tables, short, layout_for, filled_by, verdict_with, kept_on, tables_after}
-use Rattle.semantics.specs.Calls.{Call}
-use Rattle.semantics.specs.Demand3.{expr_of, calls_of, Allowed}
+use Rattle.semantics.specs.Demand3.{expr_of}
 use Rattle.semantics.proofs.Demand3.{demand3}
 use Rattle.initial.specs.Held.{Holds}
 use Rattle.initial.specs.Held as held
 use Rattle.entry.specs.declared.Shape.{Shape}
 use Rattle.entry.specs.Shapes.{shape_of}
+use Rattle.table.specs.declared.Refusal.{Refusal as Refused}
 use Rattle.checker.specs.declared.Checked.{Checked}
-use Rattle.judge.specs.declared.Verdict.TheVariants as verdicts
 use Rattle.checker.specs.Answer.{tree_of, verdict_in, shape_read, shape_for, CheckTo}
 use Rattle.start.specs.Starts.{Ready}
 use Rattle.safety.specs.Accepting.{Accepting}
@@ -84,11 +83,11 @@ code_of : (J : Job) (x w : Tables) → JobOk J → JobFits J → x ≡ filled_by
 unfolding filled_by filled_with
 code_of J x w o f b i = rw b (code_back J o f _ _ i)
 
-pub accepting : (bytes : List ℕ) → Bytes bytes → (r : Checked) (w x : Tables) (i s : ℕ) → CheckTo bytes r w x → r.verdict ≡ verdicts.Accepted i s
-    → Accepting bytes r.shape (tree_of x.job.types x.job.sets i) (of_word s) x
+pub accepting : (bytes : List ℕ) → Bytes bytes → (r : Checked) (w x : Tables) → CheckTo bytes (Ok r) w x
+    → Accepting bytes r.shape (tree_of x.job.types x.job.sets r.accepted.entry) (of_word r.accepted.effect) x
 unfolding verdict_in verdict_with
-accepting bytes by r w x i s c v =
-    let a : accept (tree_of x.job.types x.job.sets i) (of_word s) ≡ verdict_with w bytes = sym (ap (verdict_in x.job.types x.job.sets) v) ∙ c.verdict in
+accepting bytes by r w x c =
+    let a : accept (tree_of x.job.types x.job.sets r.accepted.entry) (of_word r.accepted.effect) ≡ verdict_with w bytes = c.verdict in
     let b = if_accepted (short w) _ (verdict_of bytes) _ _ a in
     let d = demand3 bytes b.1 in
     let J = d.0 in
@@ -109,8 +108,6 @@ accepting bytes by r w x i s c v =
 refused_with : (b : Bool) (q : Refusal) (v : Verdict) (r : Refusal) → b ≡ false → refuse r ≡ cond b (refuse q) v → v ≡ refuse r
 refused_with b q v r e h = sym (rw e at h)
 
-pub refusing : (bytes : List ℕ) (r : Checked) (w x : Tables) (n p : ℕ) → CheckTo bytes r w x → r.verdict ≡ verdicts.Refused n p → short w ≡ false → verdict_of bytes ≡ refuse (record { number = n; place = p })
+pub refusing : (bytes : List ℕ) (r : Refused) (w x : Tables) → CheckTo bytes (Err r) w x → short w ≡ false → verdict_of bytes ≡ refuse (record { number = r.number; place = r.place })
 unfolding verdict_in verdict_with
-refusing bytes r w x n p c v l =
-    let e : refuse (record { number = n; place = p }) ≡ verdict_with w bytes = sym (ap (verdict_in x.job.types x.job.sets) v) ∙ c.verdict in
-    refused_with (short w) _ (verdict_of bytes) _ l e
+refusing bytes r w x c l = refused_with (short w) _ (verdict_of bytes) _ l c.verdict

@@ -1,11 +1,10 @@
 -- Demand 3 from the contracts of the public functions alone. Whoever checks a job by `check`, starts it by `start` (or by `built`, from the tables that the check left) and then
 -- makes any list of calls of `Machine::step` and `Machine::run`, each on the machine that the last one gave and with the frames as that one left them (at the first they may hold
 -- anything), while the job's tables stay as the check or the start left them, gets answers that demand 3 allows. The hypotheses are what these functions ensure, and nothing else.
-use Rattle.std.specs.Prelude.{◌≡◌, refl, ℕ, Bool, true, false, List, [], ◌∷◌, map}
+use Rattle.std.specs.Prelude.{◌≡◌, refl, ℕ, Bool, true, false, List, [], ◌∷◌, map, Ok, Err}
 use Rattle.std.proofs.Math.Path.{sym, fun_ext}
 use Rattle.std.proofs.Common.{ap, ◌∙◌, subst, arith}
 use Rattle.std.proofs.Math.Option.{Option, none, some}
-use Rattle.std.proofs.Math.ListN.{get_elem?}
 use Rattle.order.specs.Effects.{Effect, of_word}
 use Rattle.syntax.specs.Types.{Ty}
 use Rattle.syntax.specs.Commands.{Cmd}
@@ -21,24 +20,19 @@ use Rattle.syntax.proofs.LoadLaws.{load_whole, short_load, long_load, long_after
 use Rattle.typing.specs.Verdict.{accept, refuse, unless, judge, judge_read, verdict_of}
 use Rattle.typing.specs.Tables as tables
 use Rattle.typing.specs.Tables.{Tables, verdict_with}
-use Rattle.semantics.specs.Machine.{Thread, System}
+use Rattle.semantics.specs.Machine.{System}
 use Rattle.semantics.specs.Start.{start_of}
 use Rattle.semantics.specs.Starting.{started, unstarted, start_loaded, start_with}
-use Rattle.semantics.specs.Wants.{needs, wrong, shut}
-use Rattle.semantics.specs.Threads.{steps_of, alone}
-use Rattle.semantics.specs.Calls.{Call, one_step, run_of, Ran, call, calls, last_of}
+use Rattle.semantics.specs.Threads.{steps_of}
+use Rattle.semantics.specs.Calls.{Call, Ran, call, calls, last_of}
 use Rattle.semantics.specs.Demand3.{expr_of, steps_in, calls_of, Allowed}
 use Rattle.semantics.proofs.Demand3.{demand3_threads}
 use Rattle.machine.specs.declared.Machine.{Machine}
-use Rattle.machine.specs.declared.Outcome.{Outcome}
-use Rattle.machine.specs.View.{seen, ran_in}
+use Rattle.machine.specs.View.{seen}
 use Rattle.checker.specs.declared.Checked.{Checked}
-use Rattle.judge.specs.declared.Verdict.TheVariants as verdicts
 use Rattle.checker.specs.Answer.{tree_of, verdict_in, CheckTo}
-use Rattle.start.specs.declared.Told.{Told}
-use Rattle.start.specs.declared.Told.TheVariants as told
 use Rattle.start.specs.declared.Opened.{Opened}
-use Rattle.start.specs.Starts.{told_in, started_in, Starts, built_from}
+use Rattle.start.specs.Starts.{Told, told_in, started_in, Starts}
 use Rattle.start.proofs.Starts.{ready_built}
 use Rattle.safety.specs.Accepting.{Accepting}
 use Rattle.safety.proofs.Accepting.{accepting, if_accepted, after_accept}
@@ -94,7 +88,7 @@ loaded_code bytes J by i l w h e k =
     rw (e ∙ long_after w bytes h ∙ ap (λ (R : Read). holding R w) l) (code_back J (read_ok bytes J i) (job_fits bytes J by i) _ _ k)
 
 -- a start that says so had tables long enough
-was_long : {bytes : List ℕ} {o : Opened} {w y : JobTables} → Starts bytes o w y → o.told ≡ told.Started → short w ≡ false
+was_long : {bytes : List ℕ} {o : Opened} {w y : JobTables} → Starts bytes o w y → o.told ≡ Ok tt → short w ≡ false
 unfolding start_with start_loaded
 was_long {bytes} {o} {w} {y} h e = at (short w) refl (sym (ap (λ (u : Told). told_in u (seen o.machine [])) e) ∙ h.answer [])
   where
@@ -104,25 +98,25 @@ was_long {bytes} {o} {w} {y} h e = at (short w) refl (sym (ap (λ (u : Told). to
     at false f g = refl
 
 -- the answer of a start that is the machine m
-says_started : (o : Opened) {m : System} → ((fs : List ℕ) → started_in o fs ≡ started m) → (o.told ≡ told.Started) × ((fs : List ℕ) → seen o.machine fs ≡ m)
+says_started : (o : Opened) {m : System} → ((fs : List ℕ) → started_in o fs ≡ started m) → (o.told ≡ Ok tt) × ((fs : List ℕ) → seen o.machine fs ≡ m)
 says_started o {m} h = (at o.told (h []), λ fs. is o.told fs (h fs))
   where
-    at : (u : Told) → told_in u (seen o.machine []) ≡ started m → u ≡ told.Started
-    at told.Started g = refl
-    at (told.Refused n p) g = absurd (let z : ◌≡◌ {A = ℕ} 0 1 = cc in omega arith)
+    at : (u : Told) → told_in u (seen o.machine []) ≡ started m → u ≡ Ok tt
+    at (Ok u) g = refl
+    at (Err k) g = absurd (let z : ◌≡◌ {A = ℕ} 0 1 = cc in omega arith)
 
     is : (u : Told) (fs : List ℕ) → told_in u (seen o.machine fs) ≡ started m → seen o.machine fs ≡ m
-    is told.Started fs g = cc
-    is (told.Refused n p) fs g = absurd (let z : ◌≡◌ {A = ℕ} 0 1 = cc in omega arith)
+    is (Ok u) fs g = cc
+    is (Err k) fs g = absurd (let z : ◌≡◌ {A = ℕ} 0 1 = cc in omega arith)
 
 -- tables that the check found long enough are so for the start
 still_long : (J : Job) (w : Tables) → tables.short w ≡ false → short (tables.filled_by J w).job ≡ false
 unfolding tables.short tables.filled_by
 still_long J w e = long_with _ J w.job (or_none _ _ (or_none _ _ e).0).0
 
-module _ (bytes : List ℕ) (by : Bytes bytes) {r : Checked} {w x : Tables} {i s : ℕ} (c : CheckTo bytes r w x) (v : r.verdict ≡ verdicts.Accepted i s) where
-  its : Accepting bytes r.shape (tree_of x.job.types x.job.sets i) (of_word s) x
-  its = accepting bytes by r w x i s c v
+module _ (bytes : List ℕ) (by : Bytes bytes) {r : Checked} {w x : Tables} (c : CheckTo bytes (Ok r) w x) where
+  its : Accepting bytes r.shape (tree_of x.job.types x.job.sets r.accepted.entry) (of_word r.accepted.effect) x
+  its = accepting bytes by r w x c
 
   its_loads : loading bytes ≡ read its.job
   its_loads = accepted_loads bytes its.job its.verdict its.is
@@ -137,12 +131,12 @@ module _ (bytes : List ℕ) (by : Bytes bytes) {r : Checked} {w x : Tables} {i s
   pub checked_starts : {o : Opened} {y : JobTables} → Starts bytes o x.job y → StartsJob bytes o
   unfolding verdict_in verdict_with
   checked_starts h =
-      let a : accept (tree_of x.job.types x.job.sets i) (of_word s) ≡ verdict_with w bytes = sym (ap (verdict_in x.job.types x.job.sets) v) ∙ c.verdict in
+      let a : accept (tree_of x.job.types x.job.sets r.accepted.entry) (of_word r.accepted.effect) ≡ verdict_with w bytes = c.verdict in
       let b = if_accepted (tables.short w) _ (verdict_of bytes) _ _ a in
       let t : x ≡ tables.filled_by its.job w = c.tables ∙ after_accept w bytes its.job b.0 its.verdict its.is in
       accepted_starts h (ap (λ (y : Tables). short y.job) t ∙ still_long its.job w b.0)
 
-  start_code : {o : Opened} {u y : JobTables} → Starts bytes o u y → o.told ≡ told.Started → (k : ℕ) → code_in y.heads y.slots k ≡ expr_of its.job k
+  start_code : {o : Opened} {u y : JobTables} → Starts bytes o u y → o.told ≡ Ok tt → (k : ℕ) → code_in y.heads y.slots k ≡ expr_of its.job k
   start_code {u = u} h e k = loaded_code bytes its.job by its.is its_loads u (was_long h e) h.tables k
 
   -- every opening has the job's start and its expressions

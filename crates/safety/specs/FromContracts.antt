@@ -1,46 +1,26 @@
 -- Demand 3 from the contracts of the public functions alone. Whoever checks a job by `check`, starts it by `start` (or by `built`, from the tables that the check left) and then
 -- makes any list of calls of `Machine::step` and `Machine::run`, each on the machine that the last one gave and with the frames as that one left them (at the first they may hold
 -- anything), while the job's tables stay as the check or the start left them, gets answers that demand 3 allows. The hypotheses are what these functions ensure, and nothing else.
-use Rattle.std.specs.Prelude.{◌≡◌, refl, ℕ, Bool, true, false, List, [], ◌∷◌, map}
-use Rattle.std.proofs.Math.Path.{sym, fun_ext}
-use Rattle.std.proofs.Common.{ap, ◌∙◌, subst, arith}
-use Rattle.std.proofs.Math.Option.{Option, none, some}
+use Rattle.std.specs.Prelude.{◌≡◌, ℕ, false, List, [], ◌∷◌, map, Ok}
+use Rattle.std.proofs.Math.Option.{some}
 use Rattle.std.proofs.Math.ListN.{get_elem?}
-use Rattle.order.specs.Effects.{Effect, of_word}
-use Rattle.syntax.specs.Types.{Ty}
-use Rattle.syntax.specs.Commands.{Cmd}
 use Rattle.syntax.specs.Job.{Job, source_of}
-use Rattle.syntax.specs.Reading.{Refusal, Read, read, reading}
-use Rattle.syntax.proofs.ReadLaws.{read_ok, or_none}
-use Rattle.syntax.specs.Tree.{tree_refusal}
+use Rattle.syntax.specs.Reading.{read, reading}
 use Rattle.syntax.specs.Words.{code_in}
-use Rattle.syntax.specs.WordLaws.{Bytes}
-use Rattle.syntax.proofs.WordLaws.{job_fits, code_back}
-use Rattle.syntax.specs.Loading.{JobTables, short, filled_with, loading, holding, tables_after_load}
-use Rattle.syntax.proofs.LoadLaws.{load_whole, short_load, long_load, long_after, long_with}
-use Rattle.typing.specs.Verdict.{accept, refuse, unless, judge, judge_read, verdict_of}
-use Rattle.typing.specs.Tables as tables
-use Rattle.typing.specs.Tables.{Tables, verdict_with}
+use Rattle.syntax.specs.Loading.{JobTables}
+use Rattle.typing.specs.Tables.{Tables}
 use Rattle.semantics.specs.Machine.{Thread, System}
 use Rattle.semantics.specs.Start.{start_of}
-use Rattle.semantics.specs.Starting.{started, unstarted, start_loaded, start_with}
 use Rattle.semantics.specs.Wants.{needs, wrong, shut}
 use Rattle.semantics.specs.Threads.{steps_of, alone}
-use Rattle.semantics.specs.Calls.{Call, one_step, run_of, Ran, call, calls, last_of}
-use Rattle.semantics.specs.Demand3.{expr_of, steps_in, calls_of, Allowed}
-use Rattle.semantics.proofs.Demand3.{demand3_threads}
+use Rattle.semantics.specs.Calls.{Call, one_step, run_of, Ran, call}
+use Rattle.semantics.specs.Demand3.{expr_of, calls_of, Allowed}
 use Rattle.machine.specs.declared.Machine.{Machine}
 use Rattle.machine.specs.declared.Outcome.{Outcome}
 use Rattle.machine.specs.View.{seen, ran_in}
 use Rattle.checker.specs.declared.Checked.{Checked}
-use Rattle.judge.specs.declared.Verdict.TheVariants as verdicts
-use Rattle.checker.specs.Answer.{tree_of, verdict_in, CheckTo}
-use Rattle.start.specs.declared.Told.{Told}
-use Rattle.start.specs.declared.Told.TheVariants as told
 use Rattle.start.specs.declared.Opened.{Opened}
-use Rattle.start.specs.Starts.{told_in, started_in, Starts, built_from}
-use Rattle.start.proofs.Starts.{ready_built}
-use Rattle.safety.specs.Accepting.{Accepting}
+use Rattle.start.specs.Starts.{Starts, built_from}
 
 -- what a call gave, and what the lent frames held then
 pub record Gave : Type 0 where
@@ -63,8 +43,8 @@ pub data AllCalled (heads slots : List ℕ) : Machine → List ℕ → List Call
 
 -- the machine of a job that is checked, and the words of its expressions: those that the start left or those that the check left
 pub data Opening (bytes : List ℕ) (r : Checked) (x : Tables) : Machine → List ℕ → List ℕ → Type 0 where
-  start_start : (o : Opened) (w y : JobTables) → Starts bytes o w y → o.told ≡ told.Started → Opening bytes r x o.machine y.heads y.slots
-  start_check : (o : Opened) (w y : JobTables) → Starts bytes o w y → o.told ≡ told.Started → Opening bytes r x o.machine x.job.heads x.job.slots
+  start_start : (o : Opened) (w y : JobTables) → Starts bytes o w y → o.told ≡ Ok tt → Opening bytes r x o.machine y.heads y.slots
+  start_check : (o : Opened) (w y : JobTables) → Starts bytes o w y → o.told ≡ Ok tt → Opening bytes r x o.machine x.job.heads x.job.slots
   built_check : (m : Machine) → ((fs : List ℕ) → seen m fs ≡ built_from r.shape x.job.names x.job.types x.job.values) → Opening bytes r x m x.job.heads x.job.slots
 
 -- the machine that the last of the calls gave, with the frames as that one left them; without a call the first one
@@ -89,6 +69,6 @@ pub record Demand3Of (bytes : List ℕ) (m : Machine) (fs : List ℕ) (cs : List
 pub record StartsJob (bytes : List ℕ) (o : Opened) : Type 0 where
   pub job : Job
   pub is : reading bytes ≡ read job
-  pub says : o.told ≡ told.Started
+  pub says : o.told ≡ Ok tt
   -- the machine is the one that demand 3 speaks of, whatever the frames hold
   pub machine : (fs : List ℕ) → seen o.machine fs ≡ start_of (source_of job)

@@ -26,8 +26,10 @@ use Rattle.calls.specs.Words.{answer_words_lem, call_count, calls_in, room_for, 
 use Rattle.calls.proofs.Laws.{results_fit}
 use Rattle.calls.specs.Made.{Made}
 use Rattle.checker.specs.declared.Checked.{Checked}
-use Rattle.judge.specs.declared.Verdict.{Verdict as Answer}
-use Rattle.judge.specs.declared.Verdict.TheVariants as verdicts
+use Rattle.std.specs.Prelude.{Ok, Err}
+use Rattle.table.specs.declared.Refusal.{Refusal as Told}
+use Rattle.judge.specs.declared.Accepted.{Accepted}
+use Rattle.judge.specs.Answer.{accepted_by, refused_by}
 use Rattle.checker.specs.Answer.{verdict_in, last_in, CheckTo}
 use Rattle.entry.specs.declared.Shape.{Shape}
 use Rattle.entry.specs.Shapes.{shape_of}
@@ -60,7 +62,7 @@ session_short bytes ws fs a w o h f =
     record {
       verdict = rw (f.verdict, h);
       tables = rw (h);
-      entry = λ i s e J q. absurd (let g : verdicts.Refused 1 0 ≡ verdicts.Accepted i s = sym f.verdict ∙ e in let z : ◌≡◌ {A = ℕ} 0 1 = cc in omega arith);
+      entry = λ i s e J q. absurd (let g : refused_by 1 0 ≡ accepted_by i s = sym f.verdict ∙ e in let z : ◌≡◌ {A = ℕ} 0 1 = cc in omega arith);
       refused = λ q e. record { written = refl; frames = refl; machine = f.machine fs };
       accepted = λ T s e. absurd (let f : refuse (record { number = 1; place = 0 }) ≡ accept T s = rw (h) at e in let z : ◌≡◌ {A = ℕ} 0 1 = cc in omega arith);
     }
@@ -73,18 +75,18 @@ tables_room : (bytes ws a : List ℕ) (w : Tables) → room_for ws a ≡ true �
 unfolding session_tables
 tables_room bytes ws a w h = rw (h)
 
-pub session_refused : (bytes ws fs a : List ℕ) (r : Checked) (w x : Tables) (n p : ℕ) (o : Held) → room_for ws a ≡ true → CheckTo bytes r w x → r.verdict ≡ verdicts.Refused n p
-    → RefusedWith n p o → SessionTo bytes ws o w x fs fs a a
+pub session_refused : (bytes ws fs a : List ℕ) (w x : Tables) (k : Told) (o : Held) → room_for ws a ≡ true → CheckTo bytes (Err k) w x
+    → RefusedWith k.number k.place o → SessionTo bytes ws o w x fs fs a a
 unfolding verdict_in
-session_refused bytes ws fs a r w x n p o h c v f =
-    let e : refuse (record { number = n; place = p }) ≡ verdict_with w bytes = sym (ap (verdict_in x.job.types x.job.sets) v) ∙ c.verdict in
+session_refused bytes ws fs a w x k o h c f =
+    let e : refuse (record { number = k.number; place = k.place }) ≡ verdict_with w bytes = c.verdict in
     let b = with_room bytes ws a w h in
     record {
       verdict = ap (verdict_in x.job.types x.job.sets) f.verdict ∙ e ∙ sym b;
       tables = c.tables ∙ tables_room bytes ws a w h;
-      entry = λ i s k J q. absurd (let g : verdicts.Refused n p ≡ verdicts.Accepted i s = sym f.verdict ∙ k in let z : ◌≡◌ {A = ℕ} 0 1 = cc in omega arith);
-      refused = λ q k. record { written = refl; frames = refl; machine = f.machine fs };
-      accepted = λ T s k. absurd (let z : ◌≡◌ {A = ℕ} 0 1 = cc in omega arith);
+      entry = λ i s y J q. absurd (let g : refused_by k.number k.place ≡ accepted_by i s = sym f.verdict ∙ y in let z : ◌≡◌ {A = ℕ} 0 1 = cc in omega arith);
+      refused = λ q y. record { written = refl; frames = refl; machine = f.machine fs };
+      accepted = λ T s y. absurd (let z : ◌≡◌ {A = ℕ} 0 1 = cc in omega arith);
     }
 
 fits : (J : Job) (ws a : List ℕ) → room_for ws a ≡ true
@@ -92,7 +94,7 @@ fits : (J : Job) (ws a : List ℕ) → room_for ws a ≡ true
 unfolding start_of
 fits J ws a h = results_fit (steps_in J) (lawful (expr_of J)) ws a (start_of (source_of J)) (omega arith) h
 
-never : {A : Type 0} (t u : List ℕ) (i s : ℕ) (q : Refusal) → verdict_in t u (verdicts.Accepted i s) ≡ refuse q → A
+never : {A : Type 0} (t u : List ℕ) (i s : ℕ) (q : Refusal) → verdict_in t u (accepted_by i s) ≡ refuse q → A
 unfolding verdict_in
 never t u i s q k = absurd (let z : ◌≡◌ {A = ℕ} 0 1 = cc in omega arith)
 
@@ -100,23 +102,21 @@ counted : (l : List ℕ) (J K : Job) → read J ≡ read K → last_in l (shape_
 unfolding shape_of
 counted l J K e = let z : J ≡ K = cc in ap (λ (L : Job). last_in l (length L.cmds)) z
 
-pub session_accepted : (bytes ws fs fs' a b : List ℕ) (r : Checked) (w x : Tables) (i s : ℕ) (m : Machine) → room_for ws a ≡ true → CheckTo bytes r w x → r.verdict ≡ verdicts.Accepted i s
+pub session_accepted : (bytes ws fs fs' a b : List ℕ) (r : Checked) (w x : Tables) (m : Machine) → room_for ws a ≡ true → CheckTo bytes (Ok r) w x
     → Made (steps_of (code_in x.job.heads x.job.slots)) ws (built_from r.shape x.job.names x.job.types x.job.values) a b (seen m fs')
-    → Bytes bytes → SessionTo bytes ws (record { verdict = verdicts.Accepted i s; machine = m }) w x fs fs' a b
-session_accepted bytes ws fs fs' a b r w x i s m h c v f by = go (accepting bytes by r w x i s c v)
+    → Bytes bytes → SessionTo bytes ws (record { verdict = Ok r.accepted; machine = m }) w x fs fs' a b
+session_accepted bytes ws fs fs' a b r w x m h c f by = go (accepting bytes by r w x c)
   where
-    number : Answer → ℕ
-    number (verdicts.Accepted j t) = j
-    number (verdicts.Refused j t) = 0
-
-    go : {T : Ty} → Accepting bytes r.shape T (of_word s) x → SessionTo bytes ws (record { verdict = verdicts.Accepted i s; machine = m }) w x fs fs' a b
+    go : {T : Ty} → Accepting bytes r.shape T (of_word r.accepted.effect) x → SessionTo bytes ws (record { verdict = Ok r.accepted; machine = m }) w x fs fs' a b
     go y =
-        let e : verdict_in x.job.types x.job.sets (verdicts.Accepted i s) ≡ verdict_with w bytes = sym (ap (verdict_in x.job.types x.job.sets) v) ∙ c.verdict in
+        let e = with_room bytes ws a w h in
         record {
-          verdict = e ∙ sym (with_room bytes ws a w h);
+          verdict = c.verdict ∙ sym e;
           tables = c.tables ∙ tables_room bytes ws a w h;
-          entry = λ j t k J q. ap number (sym k) ∙ c.entry i s v ∙ ap (λ (g : Shape). last_in x.entries g.cmds) y.ready.shape ∙ counted x.entries y.job J (sym y.is ∙ q);
-          refused = λ q k. never x.job.types x.job.sets i s q (e ∙ sym (with_room bytes ws a w h) ∙ k);
+          entry =
+              λ j t k J q. let z : r.accepted ≡ record { entry = j; effect = t } = cc in
+              ap (λ (d : Accepted). d.entry) (sym z) ∙ c.entry ∙ ap (λ (g : Shape). last_in x.entries g.cmds) y.ready.shape ∙ counted x.entries y.job J (sym y.is ∙ q);
+          refused = λ q k. never x.job.types x.job.sets _ _ q (c.verdict ∙ sym e ∙ k);
           accepted =
               λ T t k. record {
                 job = y.job;

@@ -13,7 +13,7 @@ use Rattle.semantics.specs.Demand3.{steps_in, calls_of, Allowed}
 use Rattle.machine.specs.View.{seen}
 use Rattle.calls.specs.Words.{answer_words_lem, call_count, calls_in, room_for, result_words}
 use Rattle.initial.specs.Empty.{empty_machine}
-use Rattle.judge.specs.declared.Verdict.TheVariants.{Accepted, Refused}
+use Rattle.judge.specs.Answer.{accepted_by, refused_by}
 use Rattle.checker.specs.Answer.{verdict_in, last_in}
 use Rattle.safety.specs.FromContracts.{ThreadsSafe}
 use Rattle.session.specs.declared.Held.{Held}
@@ -47,7 +47,7 @@ pub record Unanswered (fs fs' before after : List ℕ) (last : System) : Type 0 
 
 -- a session that is refused with a number and a place; its machine is the empty one, whatever the frames hold
 pub record RefusedWith (n p : ℕ) (r : Held) : Type 0 where
-  pub verdict : r.verdict ≡ Refused n p
+  pub verdict : r.verdict ≡ refused_by n p
   pub machine : (fs : List ℕ) → seen r.machine fs ≡ empty_machine
 
 -- fs and fs' are what the lent frames hold before and after; of fs' only the words are fixed that the machine is seen with, the frames in use
@@ -55,6 +55,6 @@ pub record SessionTo (bytes words : List ℕ) (r : Held) (w x : Tables) (fs fs' 
   pub verdict : verdict_in x.job.types x.job.sets r.verdict ≡ session_verdict (room_for words before) w bytes
   pub tables : x ≡ session_tables (room_for words before) w bytes
   -- the entry that an acceptance names is that of the last expression
-  pub entry : (i s : ℕ) → r.verdict ≡ Accepted i s → (J : Job) → reading bytes ≡ read J → i ≡ last_in x.entries (length J.cmds)
+  pub entry : (i s : ℕ) → r.verdict ≡ accepted_by i s → (J : Job) → reading bytes ≡ read J → i ≡ last_in x.entries (length J.cmds)
   pub refused : (q : Refusal) → session_verdict (room_for words before) w bytes ≡ refuse q → Unanswered fs fs' before after (seen r.machine fs')
   pub accepted : (T : Ty) (e : Effect) → session_verdict (room_for words before) w bytes ≡ accept T e → Answered bytes words before after (seen r.machine fs')

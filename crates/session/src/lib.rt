@@ -10,15 +10,16 @@ ghost use Rattle.checker.specs.Lent.{after};
 ghost use Rattle.start.specs.Starts.{built_from};
 ghost use Rattle.session.specs.Session.{RefusedWith, SessionTo};
 
-use checker::Verdict;
+use checker::Accepted;
 use job::Shape;
 use machine::Machine;
 use store::THREADS_WORDS;
+use table::Refusal;
 
-// The verdict, and the machine that the last call gave, whose frames are those that were lent. The machine of a refused session is the empty one.
+// The verdict, and the machine that the last call gave, whose frames are those that were lent. A machine is promised of a refused session too (`RefusedWith`): it is the empty one.
 #[derive(Drop)]
 pub struct Held {
-    pub verdict: Verdict,
+    pub verdict: Result<Accepted, Refusal>,
     pub machine: Machine,
 }
 
@@ -38,18 +39,23 @@ fn answer(
         (built_from g names.now types.now values.now)
         answers.old answers.new (seen result frames.new) }
 {
-    let m = start::built(g, names, types, values);
-    calls::make_calls(m, heads, slots, frames, calls, answers)
+    calls::make_calls(
+        start::built(g, names, types, values),
+        heads,
+        slots,
+        frames,
+        calls,
+        answers,
+    )
 }
 
 // A session that makes no call.
-fn refused(n: u8, p: usize) -> Held
-    ensures { RefusedWith n p result }
+fn refused(refusal: Refusal) -> Held
+    ensures { RefusedWith refusal.number refusal.place result }
 {
-    let m = start::empty();
     Held {
-        verdict: Verdict::Refused(n, p),
-        machine: m,
+        verdict: Err(refusal),
+        machine: start::empty(),
     }
 }
 
@@ -77,23 +83,28 @@ pub fn session(
         frames.old frames.new answers.old answers.new }
 {
     if calls::lacks_room(calls, answers) {
-        return refused(1, 0);
+        return refused(Refusal {
+            number: 1,
+            place: 0,
+        });
     }
-    let c = checker::check(
+    match checker::check(
         job, names, types, sets, values, heads, slots, entries, effects,
-    );
-    let v = c.verdict;
-    let g = c.shape;
-    match v {
-        Verdict::Refused(n, p) => refused(n, p),
-        Verdict::Accepted(i, s) => {
-            let m = answer(
-                g, names, types, values, heads, slots, frames, calls, answers,
-            );
-            Held {
-                verdict: Verdict::Accepted(i, s),
-                machine: m,
-            }
-        }
+    ) {
+        Err(refusal) => refused(refusal),
+        Ok(checked) => Held {
+            verdict: Ok(checked.accepted),
+            machine: answer(
+                checked.shape,
+                names,
+                types,
+                values,
+                heads,
+                slots,
+                frames,
+                calls,
+                answers,
+            ),
+        },
     }
 }

@@ -1,6 +1,8 @@
 -- What is read of an input, and the sheet that is written of it.
-use Rattle.std.proofs.Common.{◌≡◌, ℕ, ◌<◌, ◌≤◌, Bool, true, cond, Option, Some, None, IfSome, List, [], ◌++◌, length, take, sym, ap, ◌∙◌, subst, inl, inr, arith, append-nil, length-take-le, take_all}
-use Rattle.std.proofs.lemmas.Bool.{cases_lt}
+use Rattle.std.proofs.Common.{◌≡◌, ℕ, ◌<◌, ◌≤◌, Bool, true, cond, Option, Some, None, IfSome, List, [], ◌++◌, length, take, sym, ap, ◌∙◌, subst, inl, inr, arith, is_ok, OnOk, IfOk, Result, Ok, Err, append-nil, length-take-le, take_all}
+use Rattle.std.proofs.lemmas.Bool.{cases_lt, false≢true}
+use Rattle.stream.specs.declared.Cut.{Cut}
+use Rattle.stream.specs.Input.{read_length}
 use Rattle.std.proofs.lemmas.List.{take-append-le}
 use Rattle.std.specs.Io.KnownBytes.{Appends, Consumes, IsAtEnd}
 use Rattle.output.specs.Sheet.{sheet_of}
@@ -24,3 +26,12 @@ serves (Some xs) (Some ys) w w' job text n len whole full fits read end is told 
     let said : take len text ≡ sheet_of (take n job) = told ∙ ap (λ b. cond b (sheet_of (take n job)) []) is in
     let same : take most_bytes xs ≡ take n job = ap (take most_bytes) read ∙ take-whole most_bytes (take n job) ys (omega arith) (λ lt. end (omega arith)) in
     subst (Appends w w') (said ∙ ap sheet_of (sym same)) wrote
+
+-- what a call that went well says
+pub on_ok : {T E : Type 0} {P : Type 0} (r : Result T E) → is_ok r ≡ true → OnOk r P → P
+on_ok (Ok x) e h = h
+on_ok (Err x) e h = absurd (false≢true e)
+
+pub ended : (P : ℕ → Type 0) (r : Result ℕ Cut) → is_ok r ≡ true → IfOk r P → P (read_length r)
+ended P (Ok n) e h = h
+ended P (Err k) e h = absurd (false≢true e)

@@ -1,24 +1,11 @@
--- Starting a job: "It starts any job free of 1 to 10 and answers those numbers otherwise. It never looks at types." What it answers is defined in `semantics/Starting`, what it
--- leaves in the lent tables in `syntax/Loading`.
+-- The machine of tables that are ready is that of the job's own start.
 use Rattle.std.specs.Prelude.{◌≡◌, ℕ, List}
 use Rattle.std.proofs.Common.{ap}
 use Rattle.syntax.specs.Job.{Job, source_of}
-use Rattle.syntax.specs.ReadLaws.{JobOk}
-use Rattle.syntax.specs.Loading.{JobTables, tables_after_load}
-use Rattle.semantics.specs.Machine.{System}
 use Rattle.semantics.specs.Start.{start_of}
-use Rattle.semantics.specs.Starting.{Started as Outcome, started, unstarted, start_with}
-use Rattle.machine.specs.View.{seen}
-use Rattle.initial.specs.Empty.{machine_of}
-use Rattle.initial.specs.Begun.{source_in}
-use Rattle.initial.specs.Held.{Holds, held_start}
+use Rattle.initial.specs.Held.{held_start}
 use Rattle.entry.specs.declared.Shape.{Shape}
-use Rattle.entry.specs.Shapes.{shape_of, no_shape}
-use Rattle.job.specs.declared.Answer.{Answer}
-use Rattle.job.specs.declared.Answer.TheVariants as answers
-use Rattle.start.specs.declared.Told.{Told}
-use Rattle.start.specs.declared.Told.TheVariants as told
-use Rattle.start.specs.declared.Opened.{Opened}
+use Rattle.entry.specs.Shapes.{shape_of}
 use Rattle.start.specs.Starts.{Ready, built_from}
 
 -- of tables that are ready it is the job's own

@@ -20,13 +20,12 @@ use Rattle.initial.specs.Begun.{is_job, source_in}
 use Rattle.initial.specs.Held.{filled_holds}
 use Rattle.entry.specs.declared.Shape.{Shape}
 use Rattle.entry.specs.Shapes.{shape_of, no_shape}
-use Rattle.job.specs.declared.Answer.{Answer}
-use Rattle.job.specs.declared.Answer.TheVariants as answers
+use Rattle.std.specs.Prelude.{Ok, Err}
+use Rattle.table.specs.declared.Refusal.{Refusal}
 use Rattle.load.specs.Loads.{LoadTo}
 use Rattle.load.specs.Cases.{Loaded}
 use Rattle.load.proofs.Cases.{refused_by_lem, job_loaded}
-use Rattle.start.specs.declared.Told.{Told}
-use Rattle.start.specs.Starts.{Starts, told_of, counts_in, built_from, Ready}
+use Rattle.start.specs.Starts.{Starts, built_from, Ready}
 use Rattle.start.proofs.Starts.{ready_built}
 
 -- of no job the empty machine is built, whatever the tables hold
@@ -41,17 +40,16 @@ ready_of {J} w o f a b = record { ok = o; shape = a; holds = rw (a, b) (filled_h
 loaded_ready : {bytes : List ℕ} {g : Shape} {w x : JobTables} → Bytes bytes → (l : Loaded bytes g w x) → Ready l.job g x.names x.types x.values
 loaded_ready {bytes} {w = w} by l = let r = (loaded bytes l.job l.is).0 in ready_of w (read_ok bytes l.job r) (job_fits bytes l.job by r) l.shape l.tables
 
-pub starts : {bytes : List ℕ} {a : Answer} {w x : JobTables} {t : Told} {g : Shape} (m : Machine) → Bytes bytes → LoadTo bytes a w x → t ≡ told_of a → g ≡ counts_in a
-    → ((fs : List ℕ) → seen m fs ≡ built_from g x.names x.types x.values) → Starts bytes (record { told = t; machine = m }) w x
-unfolding told_of counts_in start_with start_loaded machine_of
-starts {bytes} {a} {w} {x} m by to e f b = rw e (at a to (λ fs. b fs ∙ ap (λ (k : Shape). built_from k x.names x.types x.values) f))
-  where
-    at : (y : Answer) → LoadTo bytes y w x → ((fs : List ℕ) → seen m fs ≡ built_from (counts_in y) x.names x.types x.values) → Starts bytes (record { told = told_of y; machine = m }) w x
-    at (answers.Refused k) l z =
-        let i = refused_by_lem l k refl in
-        record { answer = λ fs. rw i; machine = λ fs. rw i (z fs ∙ none_built x.names x.types x.values); tables = l.tables }
-    at (answers.Job g) l z =
-        let j = job_loaded l refl in
-        let i = long_load w bytes j.long ∙ j.is in
-        let y : (fs : List ℕ) → seen m fs ≡ start_of (source_of j.job) = λ fs. z fs ∙ ready_built (loaded_ready by j) in
-        record { answer = λ fs. rw i (ap started (y fs)); machine = λ fs. rw i (y fs); tables = l.tables }
+-- a load that is refused, and one that is not
+module _ {bytes : List ℕ} {w x : JobTables} (m : Machine) where
+  pub start_refused : {k : Refusal} → LoadTo bytes (Err k) w x → ((fs : List ℕ) → seen m fs ≡ empty_machine) → Starts bytes (record { told = Err k; machine = m }) w x
+  unfolding start_with start_loaded machine_of
+  start_refused {k} l z = let i = refused_by_lem l k refl in record { answer = λ fs. rw i; machine = λ fs. rw i (z fs); tables = l.tables }
+
+  pub start_made : {g : Shape} → Bytes bytes → LoadTo bytes (Ok g) w x → ((fs : List ℕ) → seen m fs ≡ built_from g x.names x.types x.values) → Starts bytes (record { told = Ok tt; machine = m }) w x
+  unfolding start_with start_loaded machine_of
+  start_made by l z =
+      let j = job_loaded l refl in
+      let i = long_load w bytes j.long ∙ j.is in
+      let y : (fs : List ℕ) → seen m fs ≡ start_of (source_of j.job) = λ fs. z fs ∙ ready_built (loaded_ready by j) in
+      record { answer = λ fs. rw i (ap started (y fs)); machine = λ fs. rw i (y fs); tables = l.tables }

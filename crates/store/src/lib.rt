@@ -1,7 +1,7 @@
 // Values, sets of keys and the entries of the machine's tables, in words of 64 bits.
 #![tactic(auto)]
 
-ghost use Rattle.std.specs.Prelude.{◌≡◌, cond, true, ℕ, ◌<◌, ◌≤◌, ◌+◌, ◌*◌, ◌%◌, ◌^◌, eqb, ltb, length, get_or};
+ghost use Rattle.std.specs.Prelude.{◌≡◌, cond, Bool, true, ℕ, ◌<◌, ◌≤◌, ◌+◌, ◌*◌, ◌%◌, ◌^◌, eqb, ltb, length, get_or};
 ghost use Rattle.std.specs.Int.Bits.{bit_or};
 ghost use Rattle.order.specs.Sets.{bit, some_of};
 ghost use Rattle.semantics.specs.Machine.{most_frames, most_cells, most_keys, most_pairs, most_functions, most_bindings};
@@ -12,7 +12,7 @@ ghost use Rattle.store.specs.Frames.{frame_words, thread_words, head_at, held_in
 ghost use Rattle.store.specs.Tables.{Put, capped, list_of};
 ghost use Rattle.store.specs.Walk.{walk, both_of, bits_of, span};
 
-use table::{Expr, Key, at8, at64, put8, put64};
+use table::{Expr, Key, get_or, set_at};
 
 // Room (document 01): how many frames of a thread, cells, keys, pairs, functions and bindings there are at most; and how many threads (document 02, F-6).
 pub const MOST_THREADS: usize = 8;
@@ -132,7 +132,7 @@ pub fn key_in(v: Value) -> Key
     Key((v.payload % 256) as u8)
 }
 
-// The kind of number t.
+// The kind of number t. A match and no `TryFrom`: every number past 4 is a grant's, as `kind_at` says, so nothing is refused.
 fn kind_of(t: u64) -> Kind
     ensures { (n : ℕ) → kind_in result n ≡ kind_at t n }
 {
@@ -149,13 +149,10 @@ fn kind_of(t: u64) -> Kind
 pub fn unpack(w: u64) -> Value
     ensures { value_in result ≡ word_in w }
 {
-    let n = (w % 4294967296) as u32;
-    let key = Key((w / 1099511627776 % 256) as u8);
-    let kind = kind_of(w / 4294967296 % 256);
     Value {
-        key: key,
-        kind: kind,
-        payload: n,
+        key: Key((w / 1099511627776 % 256) as u8),
+        kind: kind_of(w / 4294967296 % 256),
+        payload: (w % 4294967296) as u32,
     }
 }
 
@@ -163,14 +160,7 @@ pub fn unpack(w: u64) -> Value
 fn kind_number(k: Kind) -> u64
     ensures { ((n : ℕ) → kind_in k n ≡ kind_at result n) × (result < 256) }
 {
-    match k {
-        Kind::Number => 0,
-        Kind::Pair => 1,
-        Kind::Cell => 2,
-        Kind::Function => 3,
-        Kind::Limit => 4,
-        Kind::Grant => 5,
-    }
+    k as u64
 }
 
 fn word(key: u8, tag: u64, n: u32) -> u64
@@ -183,67 +173,57 @@ fn word(key: u8, tag: u64, n: u32) -> u64
 pub fn pack(v: Value) -> u64
     ensures { word_in result ≡ value_in v }
 {
-    let key = v.key;
-    let kind = v.kind;
-    let tag = kind_number(kind);
-    word(key.0, tag, v.payload)
+    word(v.key.0, kind_number(v.kind), v.payload)
 }
 
 // The smaller of a count and the number of places.
 pub fn cap(n: u64, most: u64) -> u64
     ensures { (result ≡ capped n most) × (result ≤ most) }
 {
-    if n < most { n } else { most }
+    n.min(most)
 }
 
 // The upper key of key k.
 pub fn up_at(s: &[u8; KEY_BYTES], k: Key) -> Key
     ensures { result.0 ≡ up_in s.now k.0 }
 {
-    Key(at8(s, k.0 as usize))
+    Key(get_or(s, k.0 as usize, 0))
 }
 
 pub fn put_up(t: &mut [u8; KEY_BYTES], i: u16, k: Key)
     ensures { Put up_in most_keys t.old t.new i k.0 }
 {
-    put8(&mut t[..], i as usize, k.0);
+    set_at(&mut t[..], i as usize, k.0);
 }
 
 pub fn cell_at(t: &[u64; CELL_WORDS], i: u32) -> Value
     ensures { value_in result ≡ cell_in t.now i }
 {
-    unpack(at64(t, i as usize))
+    unpack(get_or(t, i as usize, 0))
 }
 
 pub fn put_cell(t: &mut [u64; CELL_WORDS], i: u32, v: Value)
     ensures { Put cell_in most_cells t.old t.new i (value_in v) }
 {
-    let w = pack(v);
-    put64(&mut t[..], i as usize, w);
+    set_at(&mut t[..], i as usize, pack(v));
 }
 
 pub fn pair_at(t: &[u64; PAIR_WORDS], i: u32) -> Two
     ensures { two_in result ≡ pair_in t.now i }
 {
     let j = i as usize;
-    let a = unpack(at64(t, j * 2));
-    let b = unpack(at64(t, j * 2 + 1));
     Two {
-        first: a,
-        second: b,
+        first: unpack(get_or(t, j * 2, 0)),
+        second: unpack(get_or(t, j * 2 + 1, 0)),
     }
 }
 
 pub fn put_pair(t: &mut [u64; PAIR_WORDS], i: u16, p: Two)
     ensures { Put pair_in most_pairs t.old t.new i (two_in p) }
 {
-    let x = p.first;
-    let y = p.second;
-    let a = pack(x);
-    let b = pack(y);
     let j = i as usize;
-    put64(&mut t[..], j * 2, a);
-    put64(&mut t[..], j * 2 + 1, b);
+    set_at(&mut t[..], j * 2, pack(p.first));
+    set_at(&mut t[..], j * 2 + 1, pack(p.second));
 }
 
 // Three numbers of 8, 16 and 16 bits in a word.
@@ -256,7 +236,7 @@ fn triple(a: u8, b: u16, c: u16) -> u64
 pub fn closure_at(t: &[u64; FUNCTION_WORDS], i: u32) -> Closure
     ensures { closure_in result ≡ function_in t.now i }
 {
-    let w = at64(t, i as usize);
+    let w = get_or(t, i as usize, 0);
     Closure {
         var: (w % 256) as u8,
         body: Expr((w / 256 % 65536) as u16),
@@ -267,29 +247,24 @@ pub fn closure_at(t: &[u64; FUNCTION_WORDS], i: u32) -> Closure
 pub fn put_closure(t: &mut [u64; FUNCTION_WORDS], i: u16, f: Closure)
     ensures { Put function_in most_functions t.old t.new i (closure_in f) }
 {
-    let body = f.body;
-    let w = triple(f.var, body.0, f.env);
-    put64(&mut t[..], i as usize, w);
+    set_at(&mut t[..], i as usize, triple(f.var, f.body.0, f.env));
 }
 
 pub fn binding_at(t: &[u64; BINDING_WORDS], i: u16) -> Binding
     ensures { binding_in result ≡ link_in t.now i }
 {
     let j = i as usize;
-    let w = at64(t, j * 2);
-    let v = at64(t, j * 2 + 1);
+    let w = get_or(t, j * 2, 0);
+    let v = get_or(t, j * 2 + 1, 0);
     let x = (w % 256) as u8;
-    let next = (w / 256 % 65536) as u16;
-    if w / 16777216 % 65536 == 0 {
-        Binding {
-            bound: Bound::Variable(x, v),
-            next: next,
-        }
+    let bound = if w / 16777216 % 65536 == 0 {
+        Bound::Variable(x, v)
     } else {
-        Binding {
-            bound: Bound::Name(x, Key((v % 256) as u8)),
-            next: next,
-        }
+        Bound::Name(x, Key((v % 256) as u8))
+    };
+    Binding {
+        bound,
+        next: (w / 256 % 65536) as u16,
     }
 }
 
@@ -297,34 +272,30 @@ pub fn binding_at(t: &[u64; BINDING_WORDS], i: u16) -> Binding
 pub fn put_variable(t: &mut [u64; BINDING_WORDS], i: u16, x: u8, v: Value, next: u16)
     ensures { Put link_in most_bindings t.old t.new i (variable_in x v next) }
 {
-    let w = triple(x, next, 0);
-    let y = pack(v);
     let j = i as usize;
-    put64(&mut t[..], j * 2, w);
-    put64(&mut t[..], j * 2 + 1, y);
+    set_at(&mut t[..], j * 2, triple(x, next, 0));
+    set_at(&mut t[..], j * 2 + 1, pack(v));
 }
 
 // A name bound to a key.
 pub fn put_name(t: &mut [u64; BINDING_WORDS], i: u16, x: u8, k: Key, next: u16)
     ensures { Put link_in most_bindings t.old t.new i (name_in x k next) }
 {
-    let w = triple(x, next, 1);
     let j = i as usize;
-    put64(&mut t[..], j * 2, w);
-    put64(&mut t[..], j * 2 + 1, k.0 as u64);
+    set_at(&mut t[..], j * 2, triple(x, next, 1));
+    set_at(&mut t[..], j * 2 + 1, k.0 as u64);
 }
 
 pub fn head_at(t: &[u64], i: u16) -> Head
     ensures { result ≡ head_at t.now i }
 {
     let j = i as usize;
-    let w = at64(t, j * 6);
-    let n = (w % 4) as u8;
+    let w = get_or(t, j * 6, 0);
     Head {
         at: Expr((w / 256 % 65536) as u16),
-        held: n,
+        held: (w % 4) as u8,
         env: (w / 16777216 % 65536) as u16,
-        on: Keys(at64(t, j * 6 + 1), at64(t, j * 6 + 2)),
+        on: Keys(get_or(t, j * 6 + 1, 0), get_or(t, j * 6 + 2, 0)),
     }
 }
 
@@ -332,7 +303,7 @@ pub fn head_at(t: &[u64], i: u16) -> Head
 pub fn held_at(t: &[u64], i: u16, j: u8) -> u64
     ensures { word_in result ≡ held_in t.now i j }
 {
-    at64(t, (i as usize) * 6 + 3 + (j as usize))
+    get_or(t, (i as usize) * 6 + 3 + (j as usize), 0)
 }
 
 // A frame with nothing in hand. The words after the frames stay.
@@ -341,11 +312,10 @@ pub fn put_fresh(t: &mut [u64], i: u16, at: Expr, env: u16, on: Keys)
     ensures put { Put frame_in most_frames t.old t.new i (fresh_of at env on) }
     ensures own { (j : ℕ) → frame_words ≤ j → get_or t.new j 0 ≡ get_or t.old j 0 }
 {
-    let w = triple(0, at.0, env);
     let j = i as usize;
-    put64(t, j * 6, w);
-    put64(t, j * 6 + 1, on.0);
-    put64(t, j * 6 + 2, on.1);
+    set_at(t, j * 6, triple(0, at.0, env));
+    set_at(t, j * 6 + 1, on.0);
+    set_at(t, j * 6 + 2, on.1);
 }
 
 // Frame i with one value more in hand, whose word is w; so many are held. The words after the frames stay.
@@ -355,118 +325,94 @@ pub fn put_held(t: &mut [u64], i: u16, held: u8, w: u64)
     ensures own { (j : ℕ) → frame_words ≤ j → get_or t.new j 0 ≡ get_or t.old j 0 }
 {
     let j = i as usize;
-    let head = at64(t, j * 6);
-    put64(t, j * 6, head + 1);
-    put64(t, j * 6 + 3 + (held as usize), w);
+    let head = get_or(t, j * 6, 0);
+    set_at(t, j * 6, head + 1);
+    set_at(t, j * 6 + 3 + (held as usize), w);
 }
 
 // Is k in the set?
 pub fn has(on: Keys, k: Key) -> bool
     ensures { result ≡ bit (keys_in on) k.0 }
 {
-    let i = k.0;
-    if i < SECOND {
-        return (on.0 >> i) % 2 == 1;
+    if k.0 < SECOND {
+        (on.0 >> k.0) % 2 == 1
+    } else {
+        k.0 < ALL_KEYS && (on.1 >> (k.0 - SECOND)) % 2 == 1
     }
-    if i < ALL_KEYS {
-        let j = i - SECOND;
-        return (on.1 >> j) % 2 == 1;
-    }
-    false
 }
 
-// Is there a key in the set?
-fn any(on: Keys) -> bool
-    ensures { result ≡ ltb 0 (keys_in on) }
-{
-    if on.0 == 0 {
-        return 0 < on.1;
-    }
-    true
+// Keys that a walk up the tree looks for: is k one of them, and is key 0, which lies below all, below any of them?
+trait Sought {
+    ghost mem: { Self → ℕ → Bool };
+
+    ghost all: { Self → Bool };
+
+    fn member(self, k: Key) -> bool
+        ensures { result ≡ mem self k.0 };
+
+    fn any(self) -> bool
+        ensures { result ≡ all self };
 }
 
-// Is k, or a key above it in the tree, in the set?
-fn walk_up(keys: &[u8; KEY_BYTES], n: u64, on: Keys, k: Key) -> bool
-    ensures { result ≡ walk (list_of up_in keys.now n) (bit (keys_in on)) (ltb 0 (keys_in on)) n k.0 }
+// Those that are enabled.
+impl Sought for Keys {
+    ghost mem = { λ on. bit (keys_in on) };
+
+    ghost all = { λ on. ltb 0 (keys_in on) };
+
+    fn member(self, k: Key) -> bool {
+        has(self, k)
+    }
+
+    fn any(self) -> bool {
+        0 < self.0 || 0 < self.1
+    }
+}
+
+// Those of a limit.
+impl Sought for Own {
+    ghost mem = { λ own k. some_of (eqb k) (own_in own) };
+
+    ghost all = { λ _. true };
+
+    fn member(self, k: Key) -> bool {
+        k.0 == self.0.0 || k.0 == self.1.0 || k.0 == self.2.0 || k.0 == self.3.0
+    }
+
+    fn any(self) -> bool {
+        true
+    }
+}
+
+// Is k, or a key above it in the tree, one of those sought?
+fn walk<S: Sought + Copy>(keys: &[u8; KEY_BYTES], n: u64, sought: S, k: Key) -> bool
+    ensures { result ≡ walk (list_of up_in keys.now n) (S.mem sought) (S.all sought) n k.0 }
 {
     let mut x = k;
-    let mut left = n;
-    while 0 < left {
+    for _ in 0..n {
         if x.0 == 0 {
-            return any(on);
+            return sought.any();
         }
-        if has(on, x) {
+        if sought.member(x) {
             return true;
         }
-        let i = x.0 as u64;
-        if n <= i {
+        if n <= x.0 as u64 {
             return false;
         }
         x = up_at(keys, x);
-        left = left - 1;
     }
     if x.0 == 0 {
-        return any(on);
+        sought.any()
+    } else {
+        sought.member(x)
     }
-    has(on, x)
 }
 
 // Is the key enabled?
 pub fn enabled(keys: &[u8; KEY_BYTES], n: u64, on: Keys, k: Key) -> bool
     ensures { result ≡ enabled (list_of up_in keys.now (capped n most_keys)) (keys_in on) k.0 }
 {
-    if k.0 == 0 {
-        return true;
-    }
-    let m = cap(n, MOST_KEYS);
-    walk_up(keys, m, on, k)
-}
-
-// Is k one of the keys?
-fn is_own(own: Own, k: Key) -> bool
-    ensures { result ≡ some_of (eqb k.0) (own_in own) }
-{
-    let i = k.0;
-    let a = own.0;
-    let b = own.1;
-    let c = own.2;
-    let d = own.3;
-    if i == a.0 {
-        return true;
-    }
-    if i == b.0 {
-        return true;
-    }
-    if i == c.0 {
-        return true;
-    }
-    i == d.0
-}
-
-// Is k, or a key above it in the tree, one of the keys?
-fn walk_own(keys: &[u8; KEY_BYTES], n: u64, own: Own, k: Key) -> bool
-    ensures { result ≡ walk (list_of up_in keys.now n) (λ x. some_of (eqb x) (own_in own)) true n k.0 }
-{
-    let mut x = k;
-    let mut left = n;
-    while 0 < left {
-        if x.0 == 0 {
-            return true;
-        }
-        if is_own(own, x) {
-            return true;
-        }
-        let i = x.0 as u64;
-        if n <= i {
-            return false;
-        }
-        x = up_at(keys, x);
-        left = left - 1;
-    }
-    if x.0 == 0 {
-        return true;
-    }
-    is_own(own, x)
+    k.0 == 0 || walk(keys, n.min(MOST_KEYS), on, k)
 }
 
 // Is k below both an enabled key and one of the limit's own?
@@ -474,34 +420,21 @@ fn both(keys: &[u8; KEY_BYTES], n: u64, on: Keys, own: Own, k: Key) -> bool
     requires { n ≤ most_keys }
     ensures { result ≡ both_of (list_of up_in keys.now n) (keys_in on) (own_in own) k.0 }
 {
-    if k.0 == 0 {
-        return false;
-    }
-    if walk_up(keys, n, on, k) {
-        return walk_own(keys, n, own, k);
-    }
-    false
+    k.0 != 0 && walk(keys, n, on, k) && walk(keys, n, own, k)
 }
 
 fn one_bit(yes: bool, j: u8) -> u64
     requires { j < word_keys }
     ensures { result ≡ cond yes (2 ^ j) 0 }
 {
-    if yes {
-        return 1u64 << j;
-    }
-    0
+    if yes { 1u64 << j } else { 0 }
 }
 
 // How many of n keys lie from `base` on, as many at most as a number holds.
 fn width(n: u64, base: u64) -> u64
     ensures { (result ≡ span n base) × (result ≤ word_keys) }
 {
-    if n < base {
-        return 0;
-    }
-    let m = n - base;
-    if m < WORD_KEYS { m } else { WORD_KEYS }
+    n.saturating_sub(base).min(WORD_KEYS)
 }
 
 // Of the keys from `base` on, those below both, as bits.
@@ -511,11 +444,8 @@ fn gather(keys: &[u8; KEY_BYTES], n: u64, on: Keys, own: Own, base: Key) -> u64
 {
     let m = width(n, base.0 as u64) as u8;
     let mut acc: u64 = 0;
-    let mut j: u8 = 0;
-    while j < m {
-        let yes = both(keys, n, on, own, Key(base.0 + j));
-        acc = acc | one_bit(yes, j);
-        j = j + 1;
+    for j in 0..m {
+        acc |= one_bit(both(keys, n, on, own, Key(base.0 + j)), j);
     }
     acc
 }
@@ -524,7 +454,7 @@ fn gather(keys: &[u8; KEY_BYTES], n: u64, on: Keys, own: Own, base: Key) -> u64
 pub fn narrow(keys: &[u8; KEY_BYTES], n: u64, on: Keys, own: Own) -> Keys
     ensures { keys_in result ≡ narrow (list_of up_in keys.now (capped n most_keys)) (keys_in on) (own_in own) }
 {
-    let m = cap(n, MOST_KEYS);
+    let m = n.min(MOST_KEYS);
     Keys(
         gather(keys, m, on, own, Key(0)),
         gather(keys, m, on, own, Key(SECOND)),
@@ -535,13 +465,11 @@ pub fn narrow(keys: &[u8; KEY_BYTES], n: u64, on: Keys, own: Own) -> Keys
 pub fn add(n: u64, on: Keys, k: Key) -> Keys
     ensures { keys_in result ≡ cond (ltb k.0 (capped n most_keys)) (bit_or (2 ^ k.0) (keys_in on)) (keys_in on) }
 {
-    let m = cap(n, MOST_KEYS);
-    let i = k.0;
-    if m <= i as u64 {
-        return on;
+    if n.min(MOST_KEYS) <= k.0 as u64 {
+        on
+    } else if k.0 < SECOND {
+        Keys(one_bit(true, k.0) | on.0, on.1)
+    } else {
+        Keys(on.0, one_bit(true, k.0 - SECOND) | on.1)
     }
-    if i < SECOND {
-        return Keys(one_bit(true, i) | on.0, on.1);
-    }
-    Keys(on.0, one_bit(true, i - SECOND) | on.1)
 }

@@ -1,15 +1,27 @@
 -- What several reads or writes, one after another, do to the known bytes.
-use Rattle.std.proofs.Common.{◌≡◌, ℕ, ◌+◌, ◌≤◌, List, ◌++◌, length, take, drop, sym, ap, ◌∙◌, subst, arith}
-use Rattle.std.proofs.Math.Seq.{take-add}
-use Rattle.std.proofs.lemmas.List.{take-take, length-take}
+use Rattle.std.proofs.Common.{◌≡◌, ℕ, ◌+◌, ◌≤◌, List, ◌++◌, length, take, drop, sym, ap, ◌∙◌, subst, arith, length-take-le, length-append}
+use mathlib.Core.Path.{ap₂}
+use Rattle.std.proofs.Math.Seq.{take-add, take-append_seam, drop-append_seam}
+use Rattle.std.proofs.lemmas.List.{take-take, length-take, take-append-le}
 use Rattle.std.specs.Prelude.{Option}
 use Rattle.std.specs.Io.KnownBytes.{Appends, Consumes}
 use Rattle.std.proofs.KnownBytes.{Appends-trans, Consumes-trans}
 
--- a read of k bytes, after the first n, that leaves these as they were
-pub Consumes-more : (a b c : Option (List ℕ)) (n k : ℕ) (old new : List ℕ) → take n new ≡ take n old → Consumes a b (take n old) → Consumes b c (take k (drop n new)) → Consumes a c (take (n + k) new)
-Consumes-more a b c n k old new front before read =
-    subst (Consumes a c) (ap (λ l. l ++ take k (drop n new)) (sym front) ∙ sym (take-add n k new)) (Consumes-trans a b c _ _ before read)
+-- what stands after a read of k bytes into the part that begins at n
+read_part : (n k : ℕ) (old part post : List ℕ) → n ≤ length old → k ≤ length part → take (n + k) (take n old ++ (part ++ post)) ≡ take n old ++ take k part
+read_part n k old part post within bound =
+    let front = take n old in
+    let size : length front ≡ n = length-take-le n old within in
+    subst (λ (m : ℕ). take (m + k) (front ++ (part ++ post)) ≡ front ++ take k part) size
+    (take-add (length front) k (front ++ (part ++ post))
+    ∙ ap₂ (λ a b. a ++ b) (take-append_seam front (part ++ post)) (ap (take k) (drop-append_seam front (part ++ post)) ∙ take-append-le k part post bound))
+
+pub read_within : (n k : ℕ) (old part post : List ℕ) → n ≤ length old → k ≤ length part → n + k ≤ length (take n old ++ (part ++ post))
+read_within n k old part post within bound = omega (arith, length-append (take n old) (part ++ post), length-append part post, length-take-le n old within)
+
+-- a read of k bytes, after the first n
+pub Consumes-more : (a b c : Option (List ℕ)) (n k : ℕ) (old part post : List ℕ) → n ≤ length old → k ≤ length part → Consumes a b (take n old) → Consumes b c (take k part) → Consumes a c (take (n + k) (take n old ++ (part ++ post)))
+Consumes-more a b c n k old part post within bound before read = subst (Consumes a c) (sym (read_part n k old part post within bound)) (Consumes-trans a b c _ _ before read)
 
 -- part of the bytes is no longer than it was asked to be
 pub taken_within : (k m : ℕ) (bytes : List ℕ) → k ≤ length (take m bytes) → k ≤ m

@@ -1,110 +1,68 @@
 // Standard input and output of the programs, and any other reader and writer: a read that fails is told from the end of the input, and a write that fails from one that does not.
 #![tactic(auto)]
 
-ghost use Rattle.std.specs.Prelude.{◌≡◌, true, false, ℕ, ◌+◌, ◌≤◌, ◌<◌, length, take, drop};
+ghost use Rattle.std.specs.Prelude.{◌≡◌, ℕ, ◌+◌, ◌≤◌, ◌<◌, length, take, MatchResult, IfOk, OnOk};
 ghost use Rattle.std.specs.Io.KnownBytes.{Appends, Consumes, IsAtEnd, Keeps};
+ghost use Rattle.stream.specs.Input.{read_length};
 
-use std::io::{Read, Write};
+use std::io;
+use std::io::{ErrorKind, Read, Write};
 
-// What one read gave: so many bytes, none at the end of the input; or it failed.
+// A read failed: so many bytes were read before it.
 #[derive(Clone, Copy)]
-struct Part {
-    more: usize,
-    failed: bool,
-}
-
-// The bytes of standard input: so many. Not whole where a read failed.
-#[derive(Clone, Copy)]
-pub struct Input {
+pub struct Cut {
     pub length: usize,
-    pub whole: bool,
 }
 
-// One read into the job, from place `at` on.
-fn read_part<R: Read>(input: &mut R, job: &mut [u8], at: usize) -> Part
-    requires { at ≤ length job.old }
-    ensures fits { at + result.more ≤ length job.old }
-    ensures front { take at job.new ≡ take at job.old }
+// Reads until the job is full, the input ends or a read fails, and tells how many bytes were read. Which bytes there are, and whether a read fails, is the system's to say.
+pub fn read_all<R: Read>(input: &mut R, job: &mut [u8]) -> Result<usize, Cut>
+    ensures fits { read_length result ≤ length job.new }
+    ensures prefix { read_length result ≡ length (take (read_length result) job.new) }
     ensures bytes { Consumes (R.remaining input.old) (R.remaining input.new)
-        (take result.more (drop at job.new)) }
-    ensures end { result.failed ≡ false → result.more ≡ 0 → at < length job.old
-        → IsAtEnd (R.remaining input.new) }
-{
-    match input.read(&mut job[at..]) {
-        Ok(more) => Part {
-            more,
-            failed: false,
-        },
-        Err(_) => Part {
-            more: 0,
-            failed: true,
-        },
-    }
-}
-
-// Reads until the job is full, the input ends or a read fails. Which bytes there are, and whether a read fails, is the system's to say.
-pub fn read_all<R: Read>(input: &mut R, job: &mut [u8]) -> Input
-    ensures fits { result.length ≤ length job.new }
-    ensures prefix { result.length ≡ length (take result.length job.new) }
-    ensures bytes { Consumes (R.remaining input.old) (R.remaining input.new)
-        (take result.length job.new) }
-    ensures end { result.whole ≡ true → result.length < length job.new
-        → IsAtEnd (R.remaining input.new) }
+        (take (read_length result) job.new) }
+    ensures end { IfOk result (λ n. n < length job.new → IsAtEnd (R.remaining input.new)) }
 {
     let mut n: usize = 0;
     while n < job.len() {
-        let part = read_part(input, job, n);
-        if part.more == 0 {
-            return Input {
-                length: n,
-                whole: !part.failed,
-            };
+        match input.read(&mut job[n..]) {
+            Ok(0) => return Ok(n),
+            Ok(more) => n += more,
+            Err(_) => return Err(Cut { length: n }),
         }
-        n = n + part.more;
     }
-    Input {
-        length: n,
-        whole: true,
-    }
-}
-
-// Whether the output takes a write of no bytes: one that is closed does not.
-fn is_open<W: Write>(output: &mut W) -> bool
-    ensures { Keeps (W.contents output.old) (W.contents output.new) }
-{
-    output.write(&[]).is_ok()
+    Ok(n)
 }
 
 // The first n of the bytes go to the output. Whether they are all written is the system's to say, but more than there are is never said to be written.
-// Where false is returned, a first part of them may have been written, and nothing else. An output that is closed is told from one that is not, also by no bytes.
-pub fn write<W: Write>(output: &mut W, bytes: &[u8], n: usize) -> bool
-    ensures fits { result ≡ true → n ≤ length bytes.now }
-    ensures written { result ≡ true
-        → Appends (W.contents output.old) (W.contents output.new) (take n bytes.now) }
+// Where an error is returned, a first part of them may have been written, and nothing else. An output that is closed is told from one that is not, also by no bytes: it takes no write of none.
+pub fn write<W: Write>(output: &mut W, bytes: &[u8], n: usize) -> io::Result<()>
+    ensures fits { OnOk result (n ≤ length bytes.now) }
+    ensures written { OnOk result
+        (Appends (W.contents output.old) (W.contents output.new) (take n bytes.now)) }
     ensures part { (k : ℕ) × (k ≤ n)
         × Appends (W.contents output.old) (W.contents output.new) (take k bytes.now) }
     ensures kept { length bytes.now < n → Keeps (W.contents output.old) (W.contents output.new) }
 {
     if n > bytes.len() {
-        return false;
+        return Err(io::Error::from(ErrorKind::InvalidInput));
     }
-    if n == 0 && !is_open(output) {
-        return false;
+    if n == 0 {
+        output.write(&[])?;
     }
+    // `write_all` says nothing of what an error leaves (the clause `part`), and tries again where a write was interrupted.
     let mut done: usize = 0;
     while done < n {
-        match output.write(&bytes[done..n]) {
-            Ok(0) | Err(_) => return false,
-            Ok(more) => done = done + more,
+        match output.write(&bytes[done..n])? {
+            0 => return Err(io::Error::from(ErrorKind::WriteZero)),
+            more => done += more,
         }
     }
-    output.flush().is_ok()
+    output.flush()
 }
 
 #[cfg(test)]
 mod tests {
     use super::*;
-    use std::io;
     use std::test::Fail;
 
     // Gives three bytes a read at most. The read of number `fails` fails, and takes nothing.
@@ -160,14 +118,12 @@ mod tests {
             fails: 100,
         };
         let input = read_all(&mut reader, &mut job);
-        assert!(rt; input.whole);
-        assert_eq!(rt; input.length, 9);
+        assert!(rt; matches!(input, Ok(9)));
         assert_eq!(rt; job, *b"nine more\0");
         let mut short = [0u8; 4];
         let mut bytes: &[u8] = b"nine more";
         let input = read_all(&mut bytes, &mut short);
-        assert!(rt; input.whole);
-        assert_eq!(rt; input.length, 4);
+        assert!(rt; matches!(input, Ok(4)));
         assert_eq!(rt; short, *b"nine");
         assert_eq!(rt; bytes.len(), 5);
     }
@@ -182,12 +138,10 @@ mod tests {
             fails: 1,
         };
         let input = read_all(&mut reader, &mut job);
-        assert!(rt; !input.whole);
-        assert_eq!(rt; input.length, 3);
+        assert!(rt; matches!(input, Err(Cut { length: 3 })));
         assert_eq!(rt; &job[..3], b"nin".as_slice());
         let rest = read_all(&mut reader, &mut job);
-        assert!(rt; rest.whole);
-        assert_eq!(rt; rest.length, 6);
+        assert!(rt; matches!(rest, Ok(6)));
         assert_eq!(rt; &job[..6], b"e more".as_slice());
     }
 
@@ -198,10 +152,10 @@ mod tests {
             writes: 0,
             fails: 100,
         };
-        assert!(rt; write(&mut writer, b"ten bytes and more", 10));
+        assert!(rt; write(&mut writer, b"ten bytes and more", 10).is_ok());
         assert_eq!(rt; writer.held.as_slice(), b"ten bytes ".as_slice());
-        assert!(rt; !write(&mut writer, b"four", 5));
-        assert!(rt; write(&mut writer, b"four", 0));
+        assert!(rt; write(&mut writer, b"four", 5).is_err());
+        assert!(rt; write(&mut writer, b"four", 0).is_ok());
         assert_eq!(rt; writer.held.as_slice(), b"ten bytes ".as_slice());
         Ok(())
     }
@@ -214,9 +168,9 @@ mod tests {
             writes: 0,
             fails: 2,
         };
-        assert!(rt; !write(&mut writer, b"ten bytes ", 10));
+        assert!(rt; write(&mut writer, b"ten bytes ", 10).is_err());
         assert_eq!(rt; writer.held.as_slice(), b"ten by".as_slice());
-        assert!(rt; write(&mut writer, b"more", 4));
+        assert!(rt; write(&mut writer, b"more", 4).is_ok());
         assert_eq!(rt; writer.held.as_slice(), b"ten bymore".as_slice());
         Ok(())
     }
@@ -229,10 +183,10 @@ mod tests {
             writes: 0,
             fails: 0,
         };
-        assert!(rt; !write(&mut closed, b"", 0));
+        assert!(rt; write(&mut closed, b"", 0).is_err());
         let mut room = [0u8; 4];
         let mut full: &mut [u8] = &mut room;
-        assert!(rt; !write(&mut full, b"six by", 6));
+        assert!(rt; write(&mut full, b"six by", 6).is_err());
         assert_eq!(rt; room, *b"six ");
         Ok(())
     }

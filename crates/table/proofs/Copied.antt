@@ -1,5 +1,5 @@
 -- Bytes copied to the start of a lent buffer.
-use Rattle.std.specs.Prelude.{◌≡◌, ℕ, ◌≤◌, ◌<◌, cond, List, ◌++◌, length, drop, ltb}
+use Rattle.std.specs.Prelude.{◌≡◌, ℕ, ◌≤◌, ◌<◌, List, ◌++◌, length, drop}
 use Rattle.std.proofs.Common.{lt-ltb, le-ltb}
 use Rattle.table.specs.Copied.{copied}
 

@@ -1,3 +1,1 @@
-pub mod Filling
-pub mod Copying
 pub mod Copied

@@ -1,6 +1,5 @@
 -- Bytes copied to the start of a lent buffer.
-use Rattle.std.specs.Prelude.{◌≡◌, ℕ, ◌≤◌, ◌<◌, cond, List, ◌++◌, length, drop, ltb}
-use Rattle.std.proofs.Common.{lt-ltb, le-ltb}
+use Rattle.std.specs.Prelude.{ℕ, cond, List, ◌++◌, length, drop, ltb}
 
 -- s at the start of b, and b as it was past it; b as it was where it is too short
 unfoldable pub copied : List ℕ → List ℕ → List ℕ

@@ -1,7 +1,7 @@
 // The ground floor of the code: limits, numbers of names, keys and expressions, refusals and how they are told, total reads and writes of tables, and the fields of their words.
 #![tactic(auto)]
 
-ghost use Rattle.std.specs.Prelude.{◌≡◌, ◌*◌, ◌/◌, ◌%◌, ◌<◌, length, get_or, set, replicate};
+ghost use Rattle.std.specs.Prelude.{◌≡◌, ◌*◌, ◌/◌, ◌%◌, ◌<◌, length, set, slice_index_or};
 ghost use Rattle.syntax.specs.Tree.{predecessor};
 ghost use Rattle.syntax.specs.Words.{type_bits};
 ghost use Rattle.table.specs.Copied.{copied};
@@ -42,49 +42,22 @@ pub struct Key(pub u8);
 pub struct Expr(pub u16);
 
 // A refusal's number and place.
+// Stays a number: `reading`, `verdict_of` and `refused_line` have it as one, it is printed and handed to C as it is, and `tell` and `format::refused` take any.
 #[derive(Clone, Copy)]
 pub struct Refusal {
     pub number: u8,
     pub place: usize,
 }
 
-// Entry i of a table, and 0 past its end.
-pub fn at8(s: &[u8], i: usize) -> u8
-    ensures { result ≡ get_or s.now i 0 }
+// Entry i of a table, and `none` past its end.
+pub fn get_or<T: Copy>(s: &[T], i: usize, none: T) -> T
+    ensures { result ≡ slice_index_or s.now i none }
 {
-    if i < s.len() { s[i] } else { 0 }
-}
-
-pub fn at16(s: &[u16], i: usize) -> u16
-    ensures { result ≡ get_or s.now i 0 }
-{
-    if i < s.len() { s[i] } else { 0 }
-}
-
-pub fn at64(s: &[u64], i: usize) -> u64
-    ensures { result ≡ get_or s.now i 0 }
-{
-    if i < s.len() { s[i] } else { 0 }
+    if i < s.len() { s[i] } else { none }
 }
 
 // x as entry i, and nothing past the end.
-pub fn put8(s: &mut [u8], i: usize, x: u8)
-    ensures { s.new ≡ set s.old i x }
-{
-    if i < s.len() {
-        s[i] = x;
-    }
-}
-
-pub fn put16(s: &mut [u16], i: usize, x: u16)
-    ensures { s.new ≡ set s.old i x }
-{
-    if i < s.len() {
-        s[i] = x;
-    }
-}
-
-pub fn put64(s: &mut [u64], i: usize, x: u64)
+pub fn set_at<T: Copy>(s: &mut [T], i: usize, x: T)
     ensures { s.new ≡ set s.old i x }
 {
     if i < s.len() {
@@ -97,8 +70,8 @@ pub fn put_two(s: &mut [u64], at: usize, x: u64, y: u64)
     requires { at < 1024 }
     ensures { TwoPut s.old s.new at x y }
 {
-    put64(s, at, x);
-    put64(s, at + 1, y);
+    set_at(s, at, x);
+    set_at(s, at + 1, y);
 }
 
 // The bytes at the start of the buffer; what is past them stays. Nothing where the buffer is too short for them all.
@@ -108,69 +81,22 @@ pub fn copy(bytes: &[u8], buffer: &mut [u8])
     if buffer.len() < bytes.len() {
         return;
     }
-    let mut i: usize = 0;
-    while i < bytes.len() {
-        buffer[i] = bytes[i];
-        i = i + 1;
-    }
-}
-
-// Zero to the end.
-pub fn clear16(s: &mut [u16])
-    ensures { s.new ≡ replicate (length s.old) 0 }
-{
-    let mut i: usize = 0;
-    while i < s.len() {
-        s[i] = 0;
-        i += 1;
-    }
-}
-
-pub fn clear64(s: &mut [u64])
-    ensures { s.new ≡ replicate (length s.old) 0 }
-{
-    let mut i: usize = 0;
-    while i < s.len() {
-        s[i] = 0;
-        i += 1;
-    }
-}
-
-// A number in more bits.
-pub fn wide8(n: u8) -> u64
-    ensures { result ≡ n }
-{
-    n as u64
-}
-
-pub fn wide16(n: u16) -> u64
-    ensures { result ≡ n }
-{
-    n as u64
-}
-
-pub fn wide(n: usize) -> u64
-    ensures { result ≡ n }
-{
-    n as u64
+    buffer[..bytes.len()].copy_from_slice(bytes);
 }
 
 // What a caller is told: n is returned, and the word is written.
 pub fn tell(n: u8, word: usize, out: &mut [u64]) -> u64
     ensures { Tells n word result out.old out.new }
 {
-    put64(out, 0, wide(word));
-    wide8(n)
+    set_at(out, 0, word as u64);
+    u64::from(n)
 }
 
 // The last of so many, counted from 0; of none, 0.
 pub fn last(n: usize) -> usize
     ensures { result ≡ predecessor n }
 {
-    if n == 0 {
-        return 0;
-    }
-    n - 1
+    n.saturating_sub(1)
 }
 
 // The word of a type: command byte, key, first and second part.

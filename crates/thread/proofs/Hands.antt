@@ -23,12 +23,7 @@ use Rattle.store.specs.Frames.{head_at, held_in, hand_of, frame_in, hold_of, Hel
 use Rattle.store.specs.Tables.{Wrote, capped, stack_of}
 use Rattle.store.proofs.Laws.{stack_top, stack_none, stack_put, cap_below, cap_le}
 use Rattle.acts.specs.declared.State.{State}
-use types.Run.{OneOf, miss}
-use denote.Enum.Declared.{tag_of}
-use Rattle.acts.specs.declared.Control.{Control}
 use Rattle.acts.specs.declared.Control.TheVariants.{Enter, Hand}
-use Rattle.acts.specs.Meaning.{control_in}
-use Rattle.acts.specs.contracts.Control.{the_type as control_type}
 use Rattle.acts.specs.View.{Tables, view}
 use Rattle.acts.specs.Inner.{Stepped, settled, tried, go, resume_of, put_frames, Works}
 use Rattle.semantics.proofs.OthersUnseen.{spawning}
@@ -185,13 +180,9 @@ cap_some n most h l = at (ltb n most) refl
     at false e z = omega arith
 
 -- done: a value and no frame
-pub done_enter : (self : State) (w : Tables) → OneOf (0 ∷ []) (tag_of control_type self.now.control) → false ≡ is_done (view self w)
+pub done_enter : (self : State) (w : Tables) (e : Expr) → self.now.control ≡ Enter e → false ≡ is_done (view self w)
 unfolding view is_done done_at
-done_enter self w = at self.now.control
-  where
-    at : (c : Control) → OneOf (0 ∷ []) (tag_of control_type c) → false ≡ done_at (control_in c) (stack_of frame_in w.frames (capped self.frames 256))
-    at (Enter e) h = refl
-    at (Hand v) h = absurd (miss (0 ∷ []) 1 tt h)
+done_enter self w e h = rw h
 
 done_empty : (v : SValue) (t : List ℕ) (n : ℕ) → eqb n 0 ≡ done_at (hand v) (stack_of frame_in t (capped n 256))
 unfolding done_at
@@ -206,10 +197,6 @@ done_empty v t n = at (eqb n 0) refl
         let z : n ≡ 0 → ⊥ = eqb-false n 0 e in
         simp (stack_top frame_in t (capped n 256) (cap_some n 256 z (omega arith)))
 
-pub done_hand : (self : State) (w : Tables) → OneOf (1 ∷ []) (tag_of control_type self.now.control) → eqb self.frames 0 ≡ is_done (view self w)
+pub done_hand : (self : State) (w : Tables) (v : ℕ) → self.now.control ≡ Hand v → eqb self.frames 0 ≡ is_done (view self w)
 unfolding view is_done
-done_hand self w = at self.now.control
-  where
-    at : (c : Control) → OneOf (1 ∷ []) (tag_of control_type c) → eqb self.frames 0 ≡ done_at (control_in c) (stack_of frame_in w.frames (capped self.frames 256))
-    at (Enter e) h = absurd (miss (1 ∷ []) 0 tt h)
-    at (Hand v) h = done_empty (word_in v) w.frames self.frames
+done_hand self w v h = rw h (done_empty (word_in v) w.frames self.frames)

@@ -25,8 +25,8 @@ use Rattle.acts.specs.Meaning.{StepAnswer, s_taken, s_finished, s_noroom, s_stuc
 use Rattle.acts.specs.View.{Tables, view}
 use Rattle.acts.specs.Inner.{Stepped, acted, settled, give, go, go_of, give_of, put_frames, put_functions}
 use Rattle.acts.proofs.Acts.{gave, goes, is_stuck}
-use Rattle.thread.specs.declared.Found.{Found}
-use Rattle.thread.specs.declared.Found.TheVariants.{At}
+use Rattle.std.specs.Prelude.{Some, None}
+use Rattle.std.specs.Prelude as std
 use Rattle.thread.specs.declared.Thread.{Thread}
 use Rattle.thread.specs.declared.Ended.{Ended}
 use Rattle.thread.specs.Meaning.{found_in}
@@ -121,13 +121,13 @@ unfolding variable found settle touch_all room view
 var_none s w x h = simp h
 
 module _ (u : Used) (w : Tables) (a : List ℕ) {o : Thread} (ho : o ≡ own_in a) where
-  pub var_hands : (b : List ℕ) (x v : ℕ) {f : Found} → found_in f ≡ seek 1024 (list_of link_in w.bindings (capped u.bindings 1024)) o.now.env x → f ≡ At v
+  pub var_hands : (b : List ℕ) (x v : ℕ) {f : std.Option ℕ} → found_in f ≡ seek 1024 (list_of link_in w.bindings (capped u.bindings 1024)) o.now.env x → f ≡ Some v
       → Owned a b (with_control (own_in a) (Hand v)) → acted (record { state = own_state u b; answer = Taken }) (put_frames w b) ≡ tried_by u a (put_frames w a) (variable x)
   var_hands b x v {f} h q p =
       hands u w v p (view (own_state u a) (put_frames w a)) (settle (variable x (view (own_state u a) (put_frames w a))))
       (var_found (own_state u a) (put_frames w a) x (sym (h ∙ ap (λ (y : Thread). seek 1024 (list_of link_in w.bindings (capped u.bindings 1024)) y.now.env x) ho) ∙ ap found_in q))
 
-  pub var_stuck : (x : ℕ) (f : Found) → found_in f ≡ seek 1024 (list_of link_in w.bindings (capped u.bindings 1024)) o.now.env x → found_in f ≡ none
+  pub var_stuck : (x : ℕ) (f : std.Option ℕ) → found_in f ≡ seek 1024 (list_of link_in w.bindings (capped u.bindings 1024)) o.now.env x → found_in f ≡ none
       → acted (record { state = own_state u a; answer = Stuck }) (put_frames w a) ≡ tried_by u a (put_frames w a) (variable x)
   var_stuck x f h q =
       is_stuck (own_state u a) (put_frames w a) (settle (variable x (view (own_state u a) (put_frames w a)))) refl

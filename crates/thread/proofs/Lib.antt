@@ -1,4 +1,3 @@
-pub mod Sorts
 pub mod Hands
 pub mod Enters
 pub mod Owns

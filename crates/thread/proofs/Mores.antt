@@ -1,5 +1,6 @@
 -- Is an operand left?
-use Prim.Native.Nat.{ℕ, zero, suc, ◌+◌, ◌<◌, ◌≤◌}
+use Prim.Native.Nat.{ℕ, ◌+◌, ◌<◌, ◌≤◌}
+use Rattle.std.proofs.Common.{min}
 use mathlib.Core.Path.{◌≡◌, refl, sym, ◌∙◌}
 use mathlib.Core.Bool.{Bool, true, false}
 use native.Mathlib.Omega.{arith}
@@ -8,16 +9,16 @@ use lib.Dec.{ltb, eqb}
 use Rattle.syntax.specs.Operands.{evaluated}
 use Rattle.syntax.specs.Words.{decode}
 use Rattle.acts.specs.Inner.{Works}
-use Rattle.acts.proofs.Codes.{works_none}
+use Rattle.acts.proofs.Codes.{works_limit, works_limit_all, works_none}
 use Rattle.thread.specs.Inner.{More}
 
--- with none in hand one is left where two are evaluated
-pub two_left : (held n : ℕ) → held ≡ 0 → n ≤ 2 → eqb n 2 ≡ ltb (held + 1) n
-two_left (suc held) n h l = absurd (omega arith)
-two_left zero zero h l = refl
-two_left zero (suc zero) h l = refl
-two_left zero (suc (suc zero)) h l = refl
-two_left zero (suc (suc (suc n))) h l = absurd (omega arith)
+-- of a limit, four at most
+pub works_min : (op x n : ℕ) → op ≡ 0x3C → n ≡ min x 4 → Works op x n
+works_min op x n h e = at (ltb x 4) refl
+  where
+    at : (b : Bool) → ltb x 4 ≡ b → Works op x n
+    at true l = let k : x < 4 = ltb-true x 4 l in let d : n ≡ x = omega arith in rw d (works_limit op x h k)
+    at false l = let k : 4 ≤ x = ltb-false x 4 l in let d : n ≡ 4 = omega arith in rw d (works_limit_all op x h k)
 
 by : {A : Type 0} (op k : ℕ) → (op ≡ k → A) → ((op ≡ k → ⊥) → A) → A
 by {A} op k f g = at (eqb op k) refl

@@ -1,12 +1,11 @@
 -- A write to a thread's own words keeps its frames, and a write to its frames keeps its own words.
 use Prim.Native.Nat.{ℕ, ◌+◌, ◌*◌, ◌%◌, ◌<◌, ◌≤◌}
-use mathlib.Core.Path.{◌≡◌, refl, ap, subst, ◌∙◌}
-use mathlib.Core.List.{List, [], ◌∷◌}
+use mathlib.Core.Path.{◌≡◌, refl, ap, ◌∙◌}
+use mathlib.Core.List.{List}
 use native.Mathlib.Omega.{arith}
 use mir.Val.{Val}
-use types.Run.{OneOf, miss}
 use denote.Laws.{Is}
-use denote.Enum.Declared.{row, tag_of}
+use denote.Enum.Declared.{row}
 use denote.Enum.Laws.{owed}
 use lib.ListN.{length, get_or}
 use Rattle.semantics.specs.Machine.{most_frames}
@@ -19,14 +18,8 @@ use Rattle.acts.specs.declared.Control.{Control}
 use Rattle.acts.specs.declared.Control.TheVariants.{Enter, Hand}
 use Rattle.acts.specs.contracts.Control.{the_type as control_type}
 use Rattle.acts.proofs.Control.TheLaws.{the_laws as control_laws}
-use Rattle.acts.specs.declared.Answer.{Answer}
-use Rattle.acts.specs.declared.Answer.TheVariants.{Taken}
-use Rattle.acts.specs.declared.Acted.{Acted}
-use Rattle.acts.specs.contracts.Answer.{the_type as answer_type}
 use Rattle.thread.specs.declared.Thread.{Thread}
-use Rattle.thread.specs.declared.Ended.{Ended}
 use Rattle.thread.specs.Own.{control_at, flag_of, word_of, own_in, with_control, with_place, with_count, Frames_kept, Owned}
-use Rattle.thread.specs.Inner.{thread_of, used_of, Kept}
 
 pub owned_then : {a b d : List ℕ} {x y : Thread} → Owned a b x → Owned b d y → Owned a d y
 owned_then p q = record { is = q.is; frames = λ i h. q.frames i h ∙ p.frames i h; long = q.long ∙ p.long }
@@ -126,14 +119,3 @@ thread_owned x p q r =
       frames = λ i h. r.frames i h ∙ q.frames i h ∙ p.frames i h;
       long = r.long ∙ q.long ∙ p.long;
     }
-
--- a step that was taken writes its thread, and another writes nothing
-module _ {s : Acted} {r : Ended} {a b : List ℕ} (e : r.answer ≡ s.answer) (u : r.used ≡ used_of s.state) where
-  pub kept_taken : {d : List ℕ} {x : Thread} → s.answer ≡ Taken → x ≡ thread_of s.state → Owned a d x → b ≡ d → Kept s r a b
-  kept_taken h q o w = record { answer = e; used = u; taken = λ t. rw (w, ← q) o; other = λ n. absurd (n h) }
-
-  pub kept_other : OneOf (1 ∷ 2 ∷ 3 ∷ 4 ∷ 5 ∷ []) (tag_of answer_type s.answer) → b ≡ a → Kept s r a b
-  kept_other k w = record { answer = e; used = u; taken = λ t. absurd (not_taken t); other = λ n. w }
-    where
-      not_taken : s.answer ≡ Taken → ⊥
-      not_taken t = miss (1 ∷ 2 ∷ 3 ∷ 4 ∷ 5 ∷ []) 0 tt (subst (λ (x : Answer). OneOf (1 ∷ 2 ∷ 3 ∷ 4 ∷ 5 ∷ []) (tag_of answer_type x)) t k)

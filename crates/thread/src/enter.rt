@@ -15,8 +15,8 @@ ghost use Rattle.thread.specs.Inner.{or_else, own_state, ended_as, tried_by, ent
 ghost use Rattle.acts.specs.Lent.{lent_code};
 ghost use Rattle.thread.specs.Lent.{before_enter, after_enter};
 
+use crate::Ended;
 use crate::owned::{own, put_control, put_count, put_place};
-use crate::{Ended, Found};
 use acts::{Answer, Control, unkeyed};
 use store::{
     BINDING_WORDS, Bound, Closure, FUNCTION_WORDS, Keys, Kind, MOST_BINDINGS, MOST_FRAMES,
@@ -28,6 +28,7 @@ use table::Expr;
 const MOST_LINKS: u16 = MOST_BINDINGS as u16;
 
 // How many operands are evaluated before the act.
+#[tactic(auto, unfolding(syntax::specs::Words::decode, syntax::specs::Operands::evaluated))]
 pub(crate) fn need(op: u64, x: u64) -> u8
     ensures works { Works op x result }
     ensures two { (op ≡ 60 → ⊥) → result ≤ 2 }
@@ -41,7 +42,7 @@ pub(crate) fn need(op: u64, x: u64) -> u8
         0x39 => 1,
         0x3A => 2,
         0x3B => 1,
-        0x3C => { if x < 4 { x as u8 } else { 4 } }
+        0x3C => x.min(4) as u8,
         0x3D => 1,
         0x3E => 1,
         0x3F => 2,
@@ -57,50 +58,38 @@ pub(crate) fn more(op: u64, x: u64, held: u8) -> bool
     ensures { More op x held result }
 {
     if op == 0x3C {
-        return held + 1 < need(op, x);
+        held + 1 < need(op, x)
+    } else {
+        held == 0 && need(op, x) == 2
     }
-    if held == 0 {
-        return need(op, x) == 2;
-    }
-    false
 }
 
 // The value of variable x, if that is what is bound.
-fn bound_to(b: Bound, x: u8) -> Found
+fn bound_to(b: Bound, x: u8) -> Option<u64>
     ensures { (rest : Option SValue) → seek_in (bound_in b) x rest ≡ or_else (found_in result) rest }
 {
     match b {
-        Bound::Variable(y, w) => { if x == y { Found::At(w) } else { Found::Nothing } }
-        Bound::Name(_, _) => Found::Nothing,
+        Bound::Variable(y, w) if x == y => Some(w),
+        _ => None,
     }
 }
 
 // The newest binding of x from binding `from` on, of n.
-fn lookup(bindings: &[u64; BINDING_WORDS], n: u64, x: u8, from: u16) -> Found
+fn lookup(bindings: &[u64; BINDING_WORDS], n: u64, x: u8, from: u16) -> Option<u64>
     ensures { found_in result ≡ seek most_bindings (list_of link_in bindings.now (capped n most_bindings)) from x }
 {
     let mut p = from;
-    let mut left: u16 = MOST_LINKS;
-    while 0 < left {
-        if p == 0 {
-            return Found::Nothing;
-        }
-        if n < p as u64 {
-            return Found::Nothing;
-        }
-        if MOST_LINKS < p {
-            return Found::Nothing;
+    for _ in 0..MOST_LINKS {
+        if p == 0 || n < p as u64 || MOST_LINKS < p {
+            return None;
         }
         let b = store::binding_at(bindings, p - 1);
-        let bound = b.bound;
-        let f = bound_to(bound, x);
-        if let Found::At(w) = f {
-            return Found::At(w);
+        if let Some(w) = bound_to(b.bound, x) {
+            return Some(w);
         }
         p = b.next;
-        left = left - 1;
     }
-    Found::Nothing
+    None
 }
 
 fn push(t: &mut [u64], used: Used, e: Expr, first: Expr) -> Ended
@@ -110,18 +99,16 @@ fn push(t: &mut [u64], used: Used, e: Expr, first: Expr) -> Ended
     let x = own(t);
     let n = x.frames;
     if n < MOST_FRAMES {
-        let now = x.now;
-        let on = now.on;
-        store::put_fresh(t, n as u16, e, now.env, on);
+        store::put_fresh(t, n as u16, e, x.now.env, x.now.on);
         put_control(t, Control::Enter(first));
         put_count(t, n + 1);
         Ended {
-            used: used,
+            used,
             answer: Answer::Taken,
         }
     } else {
         Ended {
-            used: used,
+            used,
             answer: Answer::NoRoom,
         }
     }
@@ -142,28 +129,29 @@ fn function(
     let n = used.functions;
     if n < MOST_FUNCTIONS {
         let o = own(t);
-        let now = o.now;
         store::put_closure(
             functions,
             n as u16,
             Closure {
                 var: x,
-                body: body,
-                env: now.env,
+                body,
+                env: o.now.env,
             },
         );
-        let mut next = used;
-        next.functions = n + 1;
-        let v = unkeyed(Kind::Function, n as u32);
-        let w = store::pack(v);
-        put_control(t, Control::Hand(w));
+        put_control(
+            t,
+            Control::Hand(store::pack(unkeyed(Kind::Function, n as u32))),
+        );
         Ended {
-            used: next,
+            used: Used {
+                functions: n + 1,
+                ..used
+            },
             answer: Answer::Taken,
         }
     } else {
         Ended {
-            used: used,
+            used,
             answer: Answer::NoRoom,
         }
     }
@@ -176,18 +164,16 @@ fn variable(t: &mut [u64], used: Used, x: u8, bindings: &[u64; BINDING_WORDS]) -
         tried_by used t.old (put_bindings (put_frames w t.old) bindings.now) (variable x) }
 {
     let o = own(t);
-    let now = o.now;
-    let found = lookup(bindings, used.bindings, x, now.env);
-    match found {
-        Found::At(w) => {
+    match lookup(bindings, used.bindings, x, o.now.env) {
+        Some(w) => {
             put_control(t, Control::Hand(w));
             Ended {
-                used: used,
+                used,
                 answer: Answer::Taken,
             }
         }
-        Found::Nothing => Ended {
-            used: used,
+        None => Ended {
+            used,
             answer: Answer::Stuck,
         },
     }
@@ -198,11 +184,9 @@ fn constant(t: &mut [u64], used: Used, k: Kind, n: u32) -> Ended
     requires { length t.old ≡ thread_words }
     ensures { (w : Tables) → acted (ended_as result t.new) (put_frames w t.new) ≡ settled (view (own_state used t.old) (put_frames w t.old)) (give (unkeyed (kind_in k n)) (view (own_state used t.old) (put_frames w t.old))) }
 {
-    let v = unkeyed(k, n);
-    let w = store::pack(v);
-    put_control(t, Control::Hand(w));
+    put_control(t, Control::Hand(store::pack(unkeyed(k, n))));
     Ended {
-        used: used,
+        used,
         answer: Answer::Taken,
     }
 }
@@ -213,11 +197,10 @@ fn closed(t: &mut [u64], used: Used, body: Expr) -> Ended
     ensures { (w : Tables) → acted (ended_as result t.new) (put_frames w t.new) ≡ settled (view (own_state used t.old) (put_frames w t.old)) (go body.0 (own_in t.old).now.env 0 (view (own_state used t.old) (put_frames w t.old))) }
 {
     let o = own(t);
-    let now = o.now;
     put_control(t, Control::Enter(body));
-    put_place(t, now.env, Keys(0, 0));
+    put_place(t, o.now.env, Keys(0, 0));
     Ended {
-        used: used,
+        used,
         answer: Answer::Taken,
     }
 }
@@ -237,26 +220,26 @@ pub(crate) fn enter(
         entered_by e.0 (lent_code heads slots e.0) (own_state used t.old) (before_enter w t functions bindings) }
 {
     let i = e.0 as usize;
-    let head = table::at64(heads, i);
+    let head = table::get_or(heads, i, 0);
     let op = head % 256;
     let x = head / 256 % 4294967296;
     if 0 < need(op, x) {
-        let first = Expr(table::at16(slots, i * 5));
+        let first = Expr(table::get_or(slots, i * 5, 0));
         return push(t, used, e, first);
     }
     match op {
         0x31 => constant(t, used, Kind::Limit, 1),
         0x32 => variable(t, used, (x % 256) as u8, bindings),
         0x35 => {
-            let body = Expr(table::at16(slots, i * 5));
+            let body = Expr(table::get_or(slots, i * 5, 0));
             function(t, used, (x % 256) as u8, body, functions)
         }
         0x3C => {
-            let body = Expr(table::at16(slots, i * 5 + 4));
+            let body = Expr(table::get_or(slots, i * 5 + 4, 0));
             closed(t, used, body)
         }
         0x42 => Ended {
-            used: used,
+            used,
             answer: Answer::Starts,
         },
         _ => constant(t, used, Kind::Number, x as u32),

@@ -11,13 +11,6 @@ pub use owned::{own, put_thread};
 pub use stepping::step;
 use store::Used;
 
-// The word of a value that was found, or nothing.
-#[derive(Clone, Copy)]
-pub enum Found {
-    At(u64),
-    Nothing,
-}
-
 // A thread: where it stands, and how many of its frames are used.
 #[derive(Clone, Copy)]
 pub struct Thread {

@@ -7,7 +7,7 @@ ghost use Rattle.thread.specs.Own.{control_at, flag_of, word_of, own_in, with_co
 use crate::Thread;
 use acts::{Control, Now};
 use store::{Keys, MOST_FRAMES};
-use table::{Expr, at64, put64};
+use table::{Expr, get_or, set_at};
 
 const FLAG: usize = MOST_FRAMES as usize * 6;
 
@@ -53,15 +53,13 @@ fn word_of(c: Control) -> u64
 pub fn own(t: &[u64]) -> Thread
     ensures { result ≡ own_in t.now }
 {
-    let c = control_of(at64(t, FLAG), at64(t, WORD));
-    let now = Now {
-        control: c,
-        env: (at64(t, ENV) % 65536) as u16,
-        on: Keys(at64(t, ON), at64(t, MORE)),
-    };
     Thread {
-        now: now,
-        frames: at64(t, COUNT),
+        now: Now {
+            control: control_of(get_or(t, FLAG, 0), get_or(t, WORD, 0)),
+            env: (get_or(t, ENV, 0) % 65536) as u16,
+            on: Keys(get_or(t, ON, 0), get_or(t, MORE, 0)),
+        },
+        frames: get_or(t, COUNT, 0),
     }
 }
 
@@ -69,36 +67,31 @@ pub(crate) fn put_control(t: &mut [u64], c: Control)
     requires { length t.old ≡ thread_words }
     ensures { Owned t.old t.new (with_control (own_in t.old) c) }
 {
-    let flag = flag_of(c);
-    let word = word_of(c);
-    put64(t, FLAG, flag);
-    put64(t, WORD, word);
+    set_at(t, FLAG, flag_of(c));
+    set_at(t, WORD, word_of(c));
 }
 
 pub(crate) fn put_place(t: &mut [u64], env: u16, on: Keys)
     requires { length t.old ≡ thread_words }
     ensures { Owned t.old t.new (with_place (own_in t.old) env on) }
 {
-    put64(t, ENV, env as u64);
-    put64(t, ON, on.0);
-    put64(t, MORE, on.1);
+    set_at(t, ENV, env as u64);
+    set_at(t, ON, on.0);
+    set_at(t, MORE, on.1);
 }
 
 pub(crate) fn put_count(t: &mut [u64], n: u64)
     requires { length t.old ≡ thread_words }
     ensures { Owned t.old t.new (with_count (own_in t.old) n) }
 {
-    put64(t, COUNT, n);
+    set_at(t, COUNT, n);
 }
 
 pub fn put_thread(t: &mut [u64], x: Thread)
     requires { length t.old ≡ thread_words }
     ensures { Owned t.old t.new x }
 {
-    let now = x.now;
-    let control = now.control;
-    let on = now.on;
-    put_control(t, control);
-    put_place(t, now.env, on);
+    put_control(t, x.now.control);
+    put_place(t, x.now.env, x.now.on);
     put_count(t, x.frames);
 }

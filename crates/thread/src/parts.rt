@@ -11,9 +11,8 @@ use store::Used;
 pub(crate) fn joined(thread: Thread, used: Used) -> State
     ensures { result ≡ state_of thread used }
 {
-    let now = thread.now;
     State {
-        now: now,
+        now: thread.now,
         frames: thread.frames,
         cells: used.cells,
         keys: used.keys,
@@ -27,9 +26,8 @@ pub(crate) fn joined(thread: Thread, used: Used) -> State
 pub(crate) fn thread_of(s: State) -> Thread
     ensures { result ≡ thread_of s }
 {
-    let now = s.now;
     Thread {
-        now: now,
+        now: s.now,
         frames: s.frames,
     }
 }

@@ -22,14 +22,12 @@ fn ended(t: &mut [u64], s: Acted) -> Ended
     requires { length t.old ≡ thread_words }
     ensures { Kept s result t.old t.new }
 {
-    let state = s.state;
-    let a = s.answer;
-    if let Answer::Taken = a {
-        put_thread(t, thread_of(state));
+    if s.answer == Answer::Taken {
+        put_thread(t, thread_of(s.state));
     }
     Ended {
-        used: used_of(state),
-        answer: a,
+        used: used_of(s.state),
+        answer: s.answer,
     }
 }
 
@@ -52,34 +50,31 @@ fn hand(
         tried_by used t.old (before ts t cells keys pairs functions bindings) (λ m. hand_to (lent_code heads slots) (word_in w) m.thread.frames m) }
 {
     let x = own(t);
-    let n = store::cap(x.frames, MOST_FRAMES) as u16;
+    let n = x.frames.min(MOST_FRAMES) as u16;
     if n == 0 {
         return Ended {
-            used: used,
+            used,
             answer: Answer::Finished,
         };
     }
     let top = n - 1;
     let h = store::head_at(t, top);
-    let at = h.at;
-    let on = h.on;
-    let held = h.held;
-    let i = at.0 as usize;
-    let head = table::at64(heads, i);
-    if more(head % 256, head / 256 % 4294967296, held) {
-        store::put_held(t, top, held, w);
-        let next = Expr(table::at16(slots, i * 5 + ((held + 1) as usize)));
+    let i = h.at.0 as usize;
+    let head = table::get_or(heads, i, 0);
+    if more(head % 256, head / 256 % 4294967296, h.held) {
+        store::put_held(t, top, h.held, w);
+        let next = Expr(table::get_or(slots, i * 5 + ((h.held + 1) as usize), 0));
         put_control(t, Control::Enter(next));
-        put_place(t, h.env, on);
+        put_place(t, h.env, h.on);
         return Ended {
-            used: used,
+            used,
             answer: Answer::Taken,
         };
     }
     let state = joined(x, used);
-    let back = state.resume(top, h.env, on);
+    let back = state.resume(top, h.env, h.on);
     let s = state.act(
-        back, at, top, held, w, heads, slots, t, cells, keys, pairs, functions, bindings,
+        back, h.at, top, h.held, w, heads, slots, t, cells, keys, pairs, functions, bindings,
     );
     ended(t, s)
 }
@@ -102,9 +97,7 @@ pub fn step(
         stepped_by (lent_code heads slots) (own_state used t.old) (before ts t cells keys pairs functions bindings) }
 {
     let x = own(t);
-    let now = x.now;
-    let control = now.control;
-    match control {
+    match x.now.control {
         Control::Enter(e) => enter(t, used, e, heads, slots, functions, bindings),
         Control::Hand(w) => hand(
             t, used, w, heads, slots, cells, keys, pairs, functions, bindings,

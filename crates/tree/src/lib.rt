@@ -16,33 +16,28 @@ ghost use Rattle.tree.specs.Places.{inherit_at, inherit_to, pass_at, pass_to};
 
 use names::{has, single};
 use table::{
-    Expr, MOST_DECLARED, MOST_EXPRESSIONS, MOST_TYPES, at16, at64, first_of, key_of, name_of,
+    MOST_DECLARED, MOST_EXPRESSIONS, MOST_TYPES, Refusal, first_of, get_or, key_of, name_of,
     second_of,
 };
-pub use uses::Answer;
 use uses::{
     bound_name, bound_var, count, ends_in_operand, first_operands, is_binder, is_body, misused,
     rebound,
 };
 
 // The host's variables: the first n.
+#[tactic(auto, unfolding(crate::specs::Passes::host_vars))]
 fn host_vars(n: usize) -> u64
     ensures { result ≡ host_vars n }
 {
-    if n < 64 {
-        return (1u64 << n) - 1;
-    }
-    0xFFFF_FFFF_FFFF_FFFF
+    if n < 64 { (1u64 << n) - 1 } else { u64::MAX }
 }
 
 // The set of name n where this word of the names table is a host name's.
+#[tactic(auto, unfolding(crate::specs::Passes::host_name))]
 fn host_name(word: u16, n: u8) -> u64
     ensures { result ≡ host_name word n }
 {
-    if word / 256 == 1 {
-        return single(n);
-    }
-    0
+    if word / 256 == 1 { single(n) } else { 0 }
 }
 
 // 0, 1 and the host's names.
@@ -51,11 +46,9 @@ fn host_names(names: &[u16], n: usize) -> u64
     ensures { result ≡ host_names names.now n }
 {
     let mut s: u64 = 3;
-    let mut i: usize = 0;
-    while i < n {
+    for i in 0..n {
         let a = i + 2;
-        s = s | host_name(at16(names, a), a as u8);
-        i = i + 1;
+        s |= host_name(get_or(names, a, 0), a as u8);
     }
     s
 }
@@ -66,8 +59,8 @@ fn names_of(word: u64, set: u64, masks: &[u64; MOST_TYPES]) -> u64
 {
     let byte = word % 256;
     let own = single(key_of(word));
-    let a = at64(masks, first_of(word) as usize);
-    let b = at64(masks, second_of(word) as usize);
+    let a = get_or(masks, first_of(word) as usize, 0);
+    let b = get_or(masks, second_of(word) as usize, 0);
     let r = single(name_of(word));
     match byte {
         0x11 => own | (a | b),
@@ -85,16 +78,14 @@ fn type_masks(types: &[u64], sets: &[u64], n: usize) -> [u64; MOST_TYPES]
     ensures { result ≡ masks_by types.now sets.now n }
 {
     let mut masks = [0u64; MOST_TYPES];
-    let mut i: usize = 0;
-    while i < n {
-        let m = names_of(at64(types, i), at64(sets, i), &masks);
-        masks[i] = m;
-        i = i + 1;
+    for i in 0..n {
+        masks[i] = names_of(get_or(types, i, 0), get_or(sets, i, 0), &masks);
     }
     masks
 }
 
 // Expression e passes its scopes to c, the operand in place i of the command with this head.
+#[tactic(auto, unfolding(crate::specs::Places::inherit_to, crate::specs::Passes::inherited_by, crate::specs::Passes::put_in, crate::specs::Places::pass_to, uses::specs::Passes::bound_of))]
 fn inherit(
     vars: &mut [u64; MOST_EXPRESSIONS],
     locals: &mut [u64; MOST_EXPRESSIONS],
@@ -106,18 +97,16 @@ fn inherit(
     requires { e < most_expressions }
     ensures { (vars.new ≡ inherit_to false vars.old head i e c) × (locals.new ≡ inherit_to true locals.old head i e c) }
 {
-    if c < MOST_EXPRESSIONS {
-        if is_body(head, i) {
-            vars[c] = vars[e] | single(bound_var(head));
-            locals[c] = locals[e] | single(bound_name(head));
-            return;
-        }
-        vars[c] = vars[e];
-        locals[c] = locals[e];
+    if c < MOST_EXPRESSIONS && is_body(head, i) {
+        vars[c] = vars[e] | single(bound_var(head));
+        locals[c] = locals[e] | single(bound_name(head));
+    } else {
+        pass(vars, locals, e, c);
     }
 }
 
 // Expression e passes its scopes to its last place, if it is an operand.
+#[tactic(auto, unfolding(uses::specs::Places::at_last, crate::specs::Places::inherit_at))]
 fn inherit_last(
     vars: &mut [u64; MOST_EXPRESSIONS],
     locals: &mut [u64; MOST_EXPRESSIONS],
@@ -130,7 +119,14 @@ fn inherit_last(
         × (locals.new ≡ at_last (inherit_at true slots.now head e) head locals.old) }
 {
     if ends_in_operand(head) {
-        inherit(vars, locals, head, 4, e, at16(slots, e * 5 + 4) as usize);
+        inherit(
+            vars,
+            locals,
+            head,
+            4,
+            e,
+            get_or(slots, e * 5 + 4, 0) as usize,
+        );
     }
 }
 
@@ -147,14 +143,20 @@ fn bind_first(
     ensures { (vars.new ≡ at_first (inherit_at false slots.now head e) n vars.old)
         × (locals.new ≡ at_first (inherit_at true slots.now head e) n locals.old) }
 {
-    let mut i = n;
-    while 0 < i {
-        i = i - 1;
-        inherit(vars, locals, head, i, e, at16(slots, e * 5 + i) as usize);
+    for i in (0..n).rev() {
+        inherit(
+            vars,
+            locals,
+            head,
+            i,
+            e,
+            get_or(slots, e * 5 + i, 0) as usize,
+        );
     }
 }
 
 // Expression e passes its scopes to c as they are.
+#[tactic(auto, unfolding(crate::specs::Places::pass_to, crate::specs::Passes::put_in))]
 fn pass(
     vars: &mut [u64; MOST_EXPRESSIONS],
     locals: &mut [u64; MOST_EXPRESSIONS],
@@ -170,7 +172,7 @@ fn pass(
     }
 }
 
-// Expression e passes its scopes as they are to its first n places, from the highest down.
+// Expression e passes its scopes as they are to its first n places, from the highest down. Stays beside `bind_first`: what binds nothing need not ask each place whether it is a body.
 fn pass_first(
     vars: &mut [u64; MOST_EXPRESSIONS],
     locals: &mut [u64; MOST_EXPRESSIONS],
@@ -182,10 +184,8 @@ fn pass_first(
     ensures { (vars.new ≡ at_first (pass_at slots.now e) n vars.old)
         × (locals.new ≡ at_first (pass_at slots.now e) n locals.old) }
 {
-    let mut i = n;
-    while 0 < i {
-        i = i - 1;
-        pass(vars, locals, e, at16(slots, e * 5 + i) as usize);
+    for i in (0..n).rev() {
+        pass(vars, locals, e, get_or(slots, e * 5 + i, 0) as usize);
     }
 }
 
@@ -204,9 +204,9 @@ fn inherit_first(
 {
     if is_binder(head) {
         bind_first(vars, locals, slots, head, e, n);
-        return;
+    } else {
+        pass_first(vars, locals, slots, e, n);
     }
-    pass_first(vars, locals, slots, e, n);
 }
 
 // The variables and the names in scope at each expression, from the last one down.
@@ -221,16 +221,15 @@ fn scopes(
     ensures { (vars.new ≡ inherited_down false heads.now slots.now (cmds * 5) vars.old)
         × (locals.new ≡ inherited_down true heads.now slots.now (cmds * 5) locals.old) }
 {
-    let mut e = cmds;
-    while 0 < e {
-        e = e - 1;
-        let head = at64(heads, e);
+    for e in (0..cmds).rev() {
+        let head = get_or(heads, e, 0);
         inherit_last(vars, locals, slots, head, e);
         inherit_first(vars, locals, slots, head, e, first_operands(head));
     }
 }
 
-// The place of a command's type operand; 5 for none.
+// The place of a command's type operand; 5 for none. Stays a number, no Option: 5 is past an expression's places, and the definition `type_place` has it.
+#[tactic(auto, unfolding(uses::specs::Passes::type_place))]
 fn type_place(byte: u64) -> usize
     ensures { result ≡ type_place byte }
 {
@@ -245,33 +244,32 @@ fn type_place(byte: u64) -> usize
 }
 
 // The names in the type operand of expression e.
+#[tactic(auto, unfolding(crate::specs::Passes::operand_names))]
 fn operand_names<'a>(masks: &'a [u64; MOST_TYPES], slots: &'a [u16], e: usize, head: u64) -> u64
     requires { e < most_expressions }
     ensures { result ≡ operand_names masks.now slots.now e head }
 {
     let place = type_place(head % 256);
     if place < 5 {
-        return at64(masks, at16(slots, e * 5 + place) as usize);
+        get_or(masks, get_or(slots, e * 5 + place, 0) as usize, 0)
+    } else {
+        0
     }
-    0
 }
 
 // Whether the variable that the command uses is in scope.
+#[tactic(auto, unfolding(crate::specs::Passes::var_fits))]
 fn var_fits(head: u64, vars: u64) -> bool
     ensures { result ≡ var_fits head vars }
 {
-    if head % 256 == 0x32 {
-        return has(vars, key_of(head));
-    }
-    true
+    head % 256 != 0x32 || has(vars, key_of(head))
 }
 
 // Whether all names of m are in s.
 fn within(m: u64, s: u64) -> bool
     ensures { result ≡ eqb (bit_or m s) s }
 {
-    let both = m | s;
-    both == s
+    m | s == s
 }
 
 // Refusal 10: the lowest expression with a variable, or a name in its type operand, out of scope.
@@ -282,24 +280,22 @@ fn unscoped<'a>(
     masks: &'a [u64; MOST_TYPES],
     vars: &'a [u64; MOST_EXPRESSIONS],
     locals: &'a [u64; MOST_EXPRESSIONS],
-) -> Answer
+) -> Result<(), Refusal>
     requires { cmds ≤ most_expressions }
     ensures { refusal_of result
         ≡ numbered 10
         (first_bad (is_scoped heads.now slots.now masks.now vars.now locals.now) 0 cmds) }
 {
-    let mut e: usize = 0;
-    while e < cmds {
-        let head = at64(heads, e);
-        if var_fits(head, vars[e]) {} else {
-            return Answer::Refused(10, Expr(e as u16));
+    for e in 0..cmds {
+        let head = get_or(heads, e, 0);
+        if !var_fits(head, vars[e]) || !within(operand_names(masks, slots, e, head), locals[e]) {
+            return Err(Refusal {
+                number: 10,
+                place: e,
+            });
         }
-        if within(operand_names(masks, slots, e, head), locals[e]) {} else {
-            return Answer::Refused(10, Expr(e as u16));
-        }
-        e = e + 1;
     }
-    Answer::Tree
+    Ok(())
 }
 
 // Refusal 10, with the scopes.
@@ -313,7 +309,7 @@ fn scope_check<'a>(
     sets: &'a [u64],
     ntypes: usize,
     nvalues: usize,
-) -> Answer
+) -> Result<(), Refusal>
     requires { (0 < cmds) × (cmds ≤ most_expressions) × (nnames ≤ most_declared) × (ntypes ≤ most_types) }
     ensures { refusal_of result
         ≡ scope_refusal heads.now slots.now cmds names.now nnames types.now sets.now ntypes nvalues }
@@ -328,22 +324,11 @@ fn scope_check<'a>(
 }
 
 // Whether there is an expression, and no more entries than the limits.
+#[tactic(auto, unfolding(crate::specs::Passes::in_limits))]
 fn in_limits(cmds: usize, nnames: usize, ntypes: usize) -> bool
     ensures { result ≡ in_limits cmds nnames ntypes }
 {
-    if cmds == 0 {
-        return false;
-    }
-    if MOST_EXPRESSIONS < cmds {
-        return false;
-    }
-    if MOST_DECLARED < nnames {
-        return false;
-    }
-    if MOST_TYPES < ntypes {
-        return false;
-    }
-    true
+    0 < cmds && cmds <= MOST_EXPRESSIONS && nnames <= MOST_DECLARED && ntypes <= MOST_TYPES
 }
 
 // Refusal 8 before 9 before 10.
@@ -357,22 +342,18 @@ fn table_check<'a>(
     sets: &'a [u64],
     ntypes: usize,
     nvalues: usize,
-) -> Answer
+) -> Result<(), Refusal>
     requires { (0 < cmds) × (cmds ≤ most_expressions) × (nnames ≤ most_declared) × (ntypes ≤ most_types) }
     ensures { refusal_of result
         ≡ table_refusal heads.now slots.now cmds names.now nnames types.now sets.now ntypes nvalues }
 {
     let mut counts = [0u8; MOST_EXPRESSIONS];
     count(heads, slots, cmds, &mut counts);
-    match misused(&counts, cmds) {
-        Answer::Refused(n, e) => Answer::Refused(n, e),
-        Answer::Tree => match rebound(heads, cmds) {
-            Answer::Refused(n, e) => Answer::Refused(n, e),
-            Answer::Tree => scope_check(
-                heads, slots, cmds, names, nnames, types, sets, ntypes, nvalues,
-            ),
-        },
-    }
+    misused(&counts, cmds)?;
+    rebound(heads, cmds)?;
+    scope_check(
+        heads, slots, cmds, names, nnames, types, sets, ntypes, nvalues,
+    )
 }
 
 // The first refusal of the job that the tables hold: cmds heads with five places each, nnames names from entry 2 on, ntypes types with
@@ -388,7 +369,7 @@ pub fn tree<'a>(
     sets: &'a [u64],
     ntypes: usize,
     nvalues: usize,
-) -> Answer
+) -> Result<(), Refusal>
     ensures job { (J : Job) → JobOk J
         → Holds J heads.now slots.now cmds names.now nnames types.now sets.now ntypes nvalues
         → refusal_of result ≡ tree_refusal (source_of J) }
@@ -396,9 +377,13 @@ pub fn tree<'a>(
         ≡ tree_by heads.now slots.now cmds names.now nnames types.now sets.now ntypes nvalues }
 {
     if in_limits(cmds, nnames, ntypes) {
-        return table_check(
+        table_check(
             heads, slots, cmds, names, nnames, types, sets, ntypes, nvalues,
-        );
+        )
+    } else {
+        Err(Refusal {
+            number: 8,
+            place: 0,
+        })
     }
-    Answer::Refused(8, Expr(0))
 }

@@ -1,17 +1,18 @@
 // Below and above of two types, by their entries.
 #![tactic(auto)]
 
-ghost use Rattle.std.specs.Prelude.{◌≡◌, true};
+ghost use Rattle.std.specs.Prelude.{◌≡◌};
 ghost use Rattle.syntax.specs.Words.{entry_in};
 ghost use Rattle.typing.specs.Entries.{sub_in, super_in};
 ghost use Rattle.names.specs.Ancestors.{below_by, effects_by};
 ghost use Rattle.equality.specs.Known.{Known};
 
 pub use equality::{Entry, MEMORY, entry_at, make_room};
-use equality::{effects, heads, leaves, packed, recalled, remember, same};
-use table::{MOST_NAMES, at64, byte_of, first_of, second_of};
+use equality::{Relation, effects, heads, leaves, packed, recalled, remember, same};
+use table::{MOST_NAMES, byte_of, first_of, get_or, second_of};
 
 // Whether type a is below type b: a cell's content is compared by equality, and a function's argument the other way round.
+// Stays a function of its own beside above and equality::same, since a rule of the project names this form (docs/DECISIONS.md, "Matching forms to places"): the equality calls itself on both parts, and below and above call each other at function arguments.
 #[cycle(above_below)]
 pub fn below<'a>(
     d: u8,
@@ -29,39 +30,42 @@ pub fn below<'a>(
     if d == 0 {
         return false;
     }
-    let x = at64(types, a as usize);
-    let y = at64(types, b as usize);
-    if heads(1, anc, x, y) {} else {
+    let x = get_or(types, a as usize, 0);
+    let y = get_or(types, b as usize, 0);
+    if !heads(Relation::Below, anc, x, y) {
         return false;
     }
     let e = d - 1;
+    let p = first_of(x);
+    let q = first_of(y);
     match byte_of(x) {
         0x11 => { // part by part
-            if recalled(known, packed(1, d, a, b)) {
+            if recalled(known, packed(Relation::Below, d, a, b)) {
                 return true;
             }
-            if below(e, anc, types, sets, first_of(x), first_of(y), known) {
-                if below(e, anc, types, sets, second_of(x), second_of(y), known) {
-                    return remember(known, packed(1, d, a, b));
-                }
+            if below(e, anc, types, sets, p, q, known)
+                && below(e, anc, types, sets, second_of(x), second_of(y), known)
+            {
+                return remember(known, packed(Relation::Below, d, a, b));
             }
-            return false;
+            false
         }
-        0x12 => return same(e, anc, types, sets, first_of(x), first_of(y), known), // by equality
+        0x12 => same(e, anc, types, sets, p, q, known), // by equality
         0x13 => {
-            if recalled(known, packed(1, d, a, b)) {
+            if recalled(known, packed(Relation::Below, d, a, b)) {
                 return true;
             }
-            if effects(1, anc, at64(sets, a as usize), at64(sets, b as usize)) {
-                if above(e, anc, types, sets, first_of(x), first_of(y), known) { // the other way round
-                    if below(e, anc, types, sets, second_of(x), second_of(y), known) {
-                        return remember(known, packed(1, d, a, b)); // this pair, this way round
-                    }
-                }
+            let s = get_or(sets, a as usize, 0);
+            let t = get_or(sets, b as usize, 0);
+            if effects(Relation::Below, anc, s, t)
+                && above(e, anc, types, sets, p, q, known) // the other way round
+                && below(e, anc, types, sets, second_of(x), second_of(y), known)
+            {
+                return remember(known, packed(Relation::Below, d, a, b)); // this pair, this way round
             }
-            return false;
+            false
         }
-        _ => return leaves(x, y),
+        _ => leaves(x, y),
     }
 }
 
@@ -83,38 +87,41 @@ fn above<'a>(
     if d == 0 {
         return false;
     }
-    let x = at64(types, a as usize);
-    let y = at64(types, b as usize);
-    if heads(2, anc, x, y) {} else {
+    let x = get_or(types, a as usize, 0);
+    let y = get_or(types, b as usize, 0);
+    if !heads(Relation::Above, anc, x, y) {
         return false;
     }
     let e = d - 1;
+    let p = first_of(x);
+    let q = first_of(y);
     match byte_of(x) {
         0x11 => {
-            if recalled(known, packed(2, d, a, b)) {
+            if recalled(known, packed(Relation::Above, d, a, b)) {
                 return true;
             }
-            if above(e, anc, types, sets, first_of(x), first_of(y), known) {
-                if above(e, anc, types, sets, second_of(x), second_of(y), known) {
-                    return remember(known, packed(2, d, a, b));
-                }
+            if above(e, anc, types, sets, p, q, known)
+                && above(e, anc, types, sets, second_of(x), second_of(y), known)
+            {
+                return remember(known, packed(Relation::Above, d, a, b));
             }
-            return false;
+            false
         }
-        0x12 => return same(e, anc, types, sets, first_of(x), first_of(y), known),
+        0x12 => same(e, anc, types, sets, p, q, known),
         0x13 => {
-            if recalled(known, packed(2, d, a, b)) {
+            if recalled(known, packed(Relation::Above, d, a, b)) {
                 return true;
             }
-            if effects(2, anc, at64(sets, a as usize), at64(sets, b as usize)) {
-                if below(e, anc, types, sets, first_of(x), first_of(y), known) {
-                    if above(e, anc, types, sets, second_of(x), second_of(y), known) {
-                        return remember(known, packed(2, d, a, b));
-                    }
-                }
+            let s = get_or(sets, a as usize, 0);
+            let t = get_or(sets, b as usize, 0);
+            if effects(Relation::Above, anc, s, t)
+                && below(e, anc, types, sets, p, q, known)
+                && above(e, anc, types, sets, second_of(x), second_of(y), known)
+            {
+                return remember(known, packed(Relation::Above, d, a, b));
             }
-            return false;
+            false
         }
-        _ => return leaves(x, y),
+        _ => leaves(x, y),
     }
 }

@@ -10,16 +10,10 @@ ghost use Rattle.uses.specs.Passes.{arity_of, bound_name, bound_var, counted, is
 ghost use Rattle.uses.specs.Places.{at_first, at_last, first_operands, is_binder, last_is_operand, tally_at};
 
 use names::{has, single};
-use table::{Expr, MOST_EXPRESSIONS, at16, at64, key_of, name_of};
-
-// The expressions are a tree in scope, or the first refusal: 8, 9 or 10, and its expression.
-#[derive(Clone, Copy)]
-pub enum Answer {
-    Tree,
-    Refused(u8, Expr),
-}
+use table::{MOST_EXPRESSIONS, Refusal, get_or, key_of, name_of};
 
 // How many of the first places of a command's operands are expressions; 0x3C has its own rule.
+#[tactic(auto, unfolding(crate::specs::Passes::arity_of))]
 fn arity(byte: u64) -> usize
     ensures { result ≡ arity_of byte }
 {
@@ -44,6 +38,7 @@ fn arity(byte: u64) -> usize
 }
 
 // Whether the last place of the command with this head is an expression: the body of 0x3C.
+#[tactic(auto, unfolding(crate::specs::Places::last_is_operand))]
 pub fn ends_in_operand(head: u64) -> bool
     ensures { result ≡ last_is_operand head }
 {
@@ -51,81 +46,68 @@ pub fn ends_in_operand(head: u64) -> bool
 }
 
 // How many of the first four places of the command with this head are expressions. Of 0x3C these are the keys that are used.
+#[tactic(auto, unfolding(crate::specs::Places::first_operands))]
 pub fn first_operands(head: u64) -> usize
     ensures { result ≡ first_operands head }
 {
     let byte = head % 256;
     if byte == 0x3C {
-        let keys = head / 256;
-        if keys < 4 {
-            return keys as usize;
-        }
-        return 4;
+        (head / 256).min(4) as usize
+    } else {
+        arity(byte)
     }
-    arity(byte)
 }
 
 // Whether place i is the body of a binder: of 0x35 and 0x3E.
+#[tactic(auto, unfolding(crate::specs::Passes::is_body))]
 pub fn is_body(head: u64, i: usize) -> bool
     ensures { result ≡ is_body head i }
 {
-    let byte = head % 256;
-    if byte == 0x35 {
-        return i == 0;
+    match head % 256 {
+        0x35 => i == 0,
+        0x3E => i == 1,
+        _ => false,
     }
-    if byte == 0x3E {
-        return i == 1;
-    }
-    false
 }
 
 // Whether the command is a binder: 0x35 or 0x3E.
+#[tactic(auto, unfolding(crate::specs::Places::is_binder))]
 pub fn is_binder(head: u64) -> bool
     ensures { result ≡ is_binder head }
 {
-    let byte = head % 256;
-    if byte == 0x35 {
-        return true;
-    }
-    byte == 0x3E
+    matches!(head % 256, 0x35 | 0x3E)
 }
 
-// The variable that the command binds; 64 for none.
+// The variable that the command binds; 64 for none. Stays a number, no Option: a set has no 64, so `has` and `single` need no test of their own, and the definition `bound_var` has it.
+#[tactic(auto, unfolding(crate::specs::Passes::bound_var, crate::specs::Places::is_binder))]
 pub fn bound_var(head: u64) -> u8
     ensures { result ≡ bound_var head }
 {
-    let byte = head % 256;
-    if byte == 0x35 {
-        return key_of(head);
-    }
-    if byte == 0x3E {
-        return key_of(head);
-    }
-    64
+    if is_binder(head) { key_of(head) } else { 64 }
 }
 
-// The local name that it binds; 64 for none.
+// The local name that it binds; 64 for none, as of the variable.
+#[tactic(auto, unfolding(crate::specs::Passes::bound_name))]
 pub fn bound_name(head: u64) -> u8
     ensures { result ≡ bound_name head }
 {
-    let byte = head % 256;
-    if byte == 0x3E {
-        return name_of(head);
+    if head % 256 == 0x3E {
+        name_of(head)
+    } else {
+        64
     }
-    64
 }
 
 // One use more; two and more are the same.
+#[tactic(auto, unfolding(crate::specs::Passes::one_more))]
 fn one_more(x: u8) -> u8
     ensures { result ≡ one_more x }
 {
-    if x < 2 {
-        return x + 1;
-    }
-    2
+    x.saturating_add(1).min(2)
 }
 
 // Counts a use of c.
+#[tactic(auto, unfolding(crate::specs::Passes::tallied))]
 fn tally(counts: &mut [u8; MOST_EXPRESSIONS], c: usize)
     ensures { counts.new ≡ tallied counts.old c }
 {
@@ -135,12 +117,13 @@ fn tally(counts: &mut [u8; MOST_EXPRESSIONS], c: usize)
 }
 
 // Counts the use in the last place of expression e, if it is an operand.
+#[tactic(auto, unfolding(crate::specs::Places::at_last, crate::specs::Places::tally_at))]
 fn tally_last(counts: &mut [u8; MOST_EXPRESSIONS], slots: &[u16], head: u64, e: usize)
     requires { e < most_expressions }
     ensures { counts.new ≡ at_last (tally_at slots.now e) head counts.old }
 {
     if ends_in_operand(head) {
-        tally(counts, at16(slots, e * 5 + 4) as usize);
+        tally(counts, get_or(slots, e * 5 + 4, 0) as usize);
     }
 }
 
@@ -149,10 +132,8 @@ fn tally_first(counts: &mut [u8; MOST_EXPRESSIONS], slots: &[u16], e: usize, n: 
     requires { (e < most_expressions) × (n ≤ 4) }
     ensures { counts.new ≡ at_first (tally_at slots.now e) n counts.old }
 {
-    let mut i = n;
-    while 0 < i {
-        i = i - 1;
-        tally(counts, at16(slots, e * 5 + i) as usize);
+    for i in (0..n).rev() {
+        tally(counts, get_or(slots, e * 5 + i, 0) as usize);
     }
 }
 
@@ -161,10 +142,8 @@ pub fn count(heads: &[u64], slots: &[u16], cmds: usize, counts: &mut [u8; MOST_E
     requires { cmds ≤ most_expressions }
     ensures { counts.new ≡ counted heads.now slots.now (cmds * 5) counts.old }
 {
-    let mut e = cmds;
-    while 0 < e {
-        e = e - 1;
-        let head = at64(heads, e);
+    for e in (0..cmds).rev() {
+        let head = get_or(heads, e, 0);
         tally_last(counts, slots, head, e);
         tally_first(counts, slots, e, first_operands(head));
     }
@@ -175,60 +154,52 @@ fn right_count(x: u8, e: usize, n: usize) -> bool
     requires { e < most_expressions }
     ensures { result ≡ eqb x (cond (eqb (e + 1) n) 0 1) }
 {
-    if e + 1 == n {
-        return x == 0;
-    }
-    x == 1
+    if e + 1 == n { x == 0 } else { x == 1 }
 }
 
 // Refusal 8: the lowest expression that is not used once; the last is not used at all.
-pub fn misused(counts: &[u8; MOST_EXPRESSIONS], cmds: usize) -> Answer
+pub fn misused(counts: &[u8; MOST_EXPRESSIONS], cmds: usize) -> Result<(), Refusal>
     requires { cmds ≤ most_expressions }
     ensures { refusal_of result ≡ numbered 8 (first_bad (right_count counts.now cmds) 0 cmds) }
 {
-    let mut e: usize = 0;
-    while e < cmds {
-        if right_count(counts[e], e, cmds) {} else {
-            return Answer::Refused(8, Expr(e as u16));
+    for e in 0..cmds {
+        if !right_count(counts[e], e, cmds) {
+            return Err(Refusal {
+                number: 8,
+                place: e,
+            });
         }
-        e = e + 1;
     }
-    Answer::Tree
+    Ok(())
 }
 
 // Whether the command binds nothing that is bound already.
 fn is_new(vars: u64, locals: u64, head: u64) -> bool
     ensures { result ≡ cond (bit vars (bound_var head)) false (not (bit locals (bound_name head))) }
 {
-    if has(vars, bound_var(head)) {
-        return false;
-    }
-    if has(locals, bound_name(head)) {
-        return false;
-    }
-    true
+    !has(vars, bound_var(head)) && !has(locals, bound_name(head))
 }
 
 // Refusal 9: the lowest expression that binds a variable or a name bound before.
-pub fn rebound(heads: &[u64], cmds: usize) -> Answer
+pub fn rebound(heads: &[u64], cmds: usize) -> Result<(), Refusal>
     requires { cmds ≤ most_expressions }
     ensures { refusal_of result ≡ numbered 9 (first_bad (is_new heads.now) 0 cmds) }
 {
     let mut vars: u64 = 0;
     let mut locals: u64 = 0;
-    let mut e: usize = 0;
-    while e < cmds {
-        let head = at64(heads, e);
-        if is_binder(head) {} else {
-            e = e + 1;
+    for e in 0..cmds {
+        let head = get_or(heads, e, 0);
+        if !is_binder(head) {
             continue;
         }
-        if is_new(vars, locals, head) {} else {
-            return Answer::Refused(9, Expr(e as u16));
+        if !is_new(vars, locals, head) {
+            return Err(Refusal {
+                number: 9,
+                place: e,
+            });
         }
-        vars = vars | single(bound_var(head));
-        locals = locals | single(bound_name(head));
-        e = e + 1;
+        vars |= single(bound_var(head));
+        locals |= single(bound_name(head));
     }
-    Answer::Tree
+    Ok(())
 }

@@ -10,7 +10,8 @@ use Rattle.syntax.specs.Job.{Job, source_of}
 use Rattle.syntax.specs.WordLaws.{Bytes}
 use Rattle.typing.specs.Tables.{Tables, short}
 use Rattle.typing.specs.Verdict.{Verdict, verdict_of}
-use Rattle.judge.specs.declared.Verdict.TheVariants as verdicts
+use Rattle.std.specs.Prelude.{Ok, Err}
+use Rattle.table.specs.declared.Refusal.{Refusal}
 use Rattle.checker.specs.declared.Checked.{Checked}
 use Rattle.checker.specs.Answer.{tree_of, CheckTo}
 use Rattle.start.specs.Starts.{Ready}
@@ -32,18 +33,18 @@ unfolding sheet_in
 by_verdict bytes t u r v h e n p l = let z = le-ltb (length t) sheet_bytes h in record { number = simp (z, e) n; place = simp (z, e) p; sheet = simp z l }
 
 pub sheet_refused :
-    (bytes : List ℕ) (r : Checked) (w x : Tables) (n p len : ℕ) (t u : List ℕ) → CheckTo bytes r w x → r.verdict ≡ verdicts.Refused n p → short w ≡ false → sheet_bytes ≤ length t
-    → Laid (refused_line (record { number = n; place = p })) len t u → SheetTo bytes (record { number = n; place = p; len = len }) t u
+    (bytes : List ℕ) (r : Refusal) (w x : Tables) (len : ℕ) (t u : List ℕ) → CheckTo bytes (Err r) w x → short w ≡ false → sheet_bytes ≤ length t
+    → Laid (refused_line (record { number = r.number; place = r.place })) len t u → SheetTo bytes (record { number = r.number; place = r.place; len = len }) t u
 unfolding number_of place_of sheet_of sheeted
-sheet_refused bytes r w x n p len t u c v l h y =
-    let e = refusing bytes r w x n p c v l in
-    by_verdict bytes t u (record { number = n; place = p; len = len }) _ h e refl refl (simp e y)
+sheet_refused bytes r w x len t u c l h y =
+    let e = refusing bytes r w x c l in
+    by_verdict bytes t u (record { number = r.number; place = r.place; len = len }) _ h e refl refl (simp e y)
 
 pub sheet_accepted :
-    (bytes : List ℕ) (r : Checked) (w x : Tables) (i s len : ℕ) (t u : List ℕ) → CheckTo bytes r w x → r.verdict ≡ verdicts.Accepted i s → Bytes bytes → sheet_bytes ≤ length t
-    → ((J : Job) → Ready J r.shape x.job.names x.job.types x.job.values → Laid (sheet_text (rows_of (source_of J) (of_word s))) len t u) → SheetTo bytes (record { number = 0; place = 0; len = len }) t u
+    (bytes : List ℕ) (r : Checked) (w x : Tables) (len : ℕ) (t u : List ℕ) → CheckTo bytes (Ok r) w x → Bytes bytes → sheet_bytes ≤ length t
+    → ((J : Job) → Ready J r.shape x.job.names x.job.types x.job.values → Laid (sheet_text (rows_of (source_of J) (of_word r.accepted.effect))) len t u) → SheetTo bytes (record { number = 0; place = 0; len = len }) t u
 unfolding number_of place_of sheet_of sheeted sheet_read
-sheet_accepted bytes r w x i s len t u c v by h f = go (accepting bytes by r w x i s c v)
+sheet_accepted bytes r w x len t u c by h f = go (accepting bytes by r w x c)
   where
-    go : Accepting bytes r.shape (tree_of x.job.types x.job.sets i) (of_word s) x → SheetTo bytes (record { number = 0; place = 0; len = len }) t u
+    go : Accepting bytes r.shape (tree_of x.job.types x.job.sets r.accepted.entry) (of_word r.accepted.effect) x → SheetTo bytes (record { number = 0; place = 0; len = len }) t u
     go y = by_verdict bytes t u (record { number = 0; place = 0; len = len }) _ h y.verdict refl refl (simp (y.verdict, y.is) (f y.job y.ready))

@@ -14,19 +14,19 @@ ghost use Rattle.output.specs.Sheet.{count_of, rows_from, rows_of, sheet_text, l
 ghost use Rattle.output.specs.ColumnLaws.{columns};
 ghost use Rattle.wall.specs.Listed.{sheet_bytes, row_by, Laid, NameLaid, SheetTo};
 
-use checker::Verdict;
 use columns::{LINE_BYTES, line};
 use job::Shape;
 use names::{ancestors, eff_below, single};
 use table::{
-    MOST_DECLARED, MOST_EXPRESSIONS, MOST_NAMES, MOST_VARIABLES, PLACES, TYPE_ENTRIES, at16, at64,
-    byte_of, copy, key_of, wide,
+    MOST_DECLARED, MOST_EXPRESSIONS, MOST_NAMES, MOST_VARIABLES, PLACES, TYPE_ENTRIES, byte_of,
+    copy, get_or, key_of,
 };
 
 // Room for a line of each host name that a job may declare.
 pub const SHEET_BYTES: usize = 868;
 
 // The number of the refusal, 0 for an accepted job, and its place; how many bytes the text has.
+// The number stays a plain one: C is handed it as a word, and the theorems of specs/SheetTold.antt speak of it, 0 and 1 too.
 #[derive(Clone, Copy)]
 pub struct Listing {
     pub number: u8,
@@ -38,10 +38,7 @@ pub struct Listing {
 fn carries(w: u64, n: u8) -> bool
     ensures { result ≡ sheets.carries n (head_of w) }
 {
-    if byte_of(w) == 0x12 {
-        return key_of(w) == n;
-    }
-    false
+    byte_of(w) == 0x12 && key_of(w) == n
 }
 
 // How many of m host values are cells that carry name n.
@@ -49,13 +46,11 @@ fn cells(types: &[u64], values: &[u64], m: usize, n: u8) -> usize
     ensures { result ≡ count_of (sheets.carries n) (values_from types.now values.now 0 m) }
 {
     let mut count: usize = 0;
-    let mut v: usize = 0;
-    while v < m {
-        let w = at64(values, v);
-        if carries(at64(types, (w / 256 % 65536) as usize), n) {
-            count = count + 1;
+    for v in 0..m {
+        let w = get_or(values, v, 0);
+        if carries(get_or(types, (w / 256 % 65536) as usize, 0), n) {
+            count += 1;
         }
-        v = v + 1;
     }
     count
 }
@@ -114,11 +109,9 @@ fn lines(
 {
     let anc = ancestors(names, n);
     let mut at: usize = 0;
-    let mut k: usize = 0;
-    while k < n {
-        let w = at16(names, k + 2);
+    for k in 0..n {
+        let w = get_or(names, k + 2, 0);
         at = put_name(&anc, w, (k + 2) as u8, types, values, m, effect, text, at);
-        k = k + 1;
     }
     at
 }
@@ -147,7 +140,7 @@ fn refused(n: u8, p: usize, text: &mut [u8]) -> usize
     requires { sheet_bytes ≤ length text.old }
     ensures { Laid (refused_line (record { number = n; place = p })) result text.old text.new }
 {
-    let said = format::refused(n, wide(p));
+    let said = format::refused(n, p as u64);
     let bytes = said.bytes;
     let k = said.len;
     copy(&bytes[..k], text);
@@ -174,7 +167,7 @@ pub fn sheet(job: &[u8], text: &mut [u8]) -> Listing
     let mut slots = [0u16; PLACES];
     let mut entries = [0u16; MOST_EXPRESSIONS];
     let mut effects = [0u64; MOST_EXPRESSIONS];
-    let c = checker::check(
+    match checker::check(
         job,
         &mut names,
         &mut types,
@@ -184,19 +177,16 @@ pub fn sheet(job: &[u8], text: &mut [u8]) -> Listing
         &mut slots,
         &mut entries,
         &mut effects,
-    );
-    let v = c.verdict;
-    let g = c.shape;
-    match v {
-        Verdict::Refused(n, p) => Listing {
-            number: n,
-            place: p,
-            len: refused(n, p, text),
-        },
-        Verdict::Accepted(_, s) => Listing {
+    ) {
+        Ok(c) => Listing {
             number: 0,
             place: 0,
-            len: accepted(s, g, &names, &types, &values, text),
+            len: accepted(c.accepted.effect, c.shape, &names, &types, &values, text),
+        },
+        Err(q) => Listing {
+            number: q.number,
+            place: q.place,
+            len: refused(q.number, q.place, text),
         },
     }
 }

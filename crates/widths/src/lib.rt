@@ -32,6 +32,7 @@ pub fn table() -> [u8; 256]
 }
 
 // How many bytes follow a command byte, by the table; 255 for a byte that is no command.
+// Stays a number: the table is of bytes, as `width_table` has it.
 pub fn width(widths: &[u8; 256], op: u8) -> u8
     requires { widths.now ≡ width_table }
     ensures { result ≡ width_byte op }

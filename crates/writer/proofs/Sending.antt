@@ -1,5 +1,5 @@
 -- The first fault decides, 15 comes last, and a refusal writes no byte.
-use mathlib.Core.Path.{◌≡◌, refl, sym, ap, ap₂, ◌∙◌}
+use mathlib.Core.Path.{◌≡◌, refl, sym, ap, ap₂, ◌∙◌, subst}
 use Prim.Native.Nat.{ℕ, zero, suc, ◌+◌, ◌≤◌, ◌<◌}
 use native.Mathlib.Omega.{arith}
 use mathlib.Core.Bool.{Bool, true, false, cond}
@@ -14,16 +14,13 @@ use Rattle.syntax.specs.Loading.{JobTables, short}
 use Rattle.syntax.specs.Writing as writing
 use Rattle.syntax.specs.Writing.{Counts, unsent_at, Script, script, items, judged, fitting, write_with, buffer_after}
 use Rattle.job.specs.Answer as jobs
-use Rattle.job.specs.declared.Answer.{Answer}
-use Rattle.job.specs.declared.Answer.TheVariants as told
+use Rattle.job.specs.Answer.{Answer}
+use Rattle.std.specs.Prelude.{Ok, Err, IfErr}
 use Rattle.table.specs.declared.Refusal.{Refusal}
 use Rattle.entry.specs.declared.Shape.{Shape}
-use Rattle.encode.specs.declared.Pen.{Pen}
 use Rattle.encode.specs.Laid.{most_scratch}
-use Rattle.encode.specs.Penned.{Encoded}
-use Rattle.writer.specs.declared.Sent.{Sent}
-use Rattle.writer.specs.declared.Sent.TheVariants as answers
-use Rattle.writer.specs.Sends.{refused_by, answer_of, Delivered, WriteTo}
+use Rattle.encode.specs.Penned.{Pen, reach_of, fault_in, Encoded}
+use Rattle.writer.specs.Sends.{Sent, refused_by, answer_of, Delivered, WriteTo}
 
 -- what is refused before the buffer is looked at
 unsent_delivered : {s : writing.Sent} {r : Sent} {n p : ℕ} {b : List ℕ} → s ≡ unsent_at n p → r ≡ refused_by n p → Delivered s r b b
@@ -32,7 +29,7 @@ unsent_delivered {b = b} e z =
     record { answer = z ∙ ap (λ (x : writing.Sent). answer_of (fitting (length b) x)) (sym e); buffer = ap (λ (x : writing.Sent). buffer_after (fitting (length b) x) b) (sym e) }
 
 -- what is sent, where the buffer is long enough and where it is not
-sent_delivered : {s : writing.Sent} {r : Sent} {t b b' : List ℕ} → s ≡ writing.sent t → length t ≤ length b → r ≡ answers.Bytes (length t) → b' ≡ t ++ drop (length t) b → Delivered s r b b'
+sent_delivered : {s : writing.Sent} {r : Sent} {t b b' : List ℕ} → s ≡ writing.sent t → length t ≤ length b → r ≡ Ok (length t) → b' ≡ t ++ drop (length t) b → Delivered s r b b'
 unfolding fitting buffer_after answer_of
 sent_delivered {s} {r} {t} {b} {b'} e h z y =
     let f : fitting (length b) s ≡ writing.sent t = ap (fitting (length b)) e ∙ ap (λ (c : Bool). cond c (unsent_at 15 0) (writing.sent t)) (le-ltb (length b) (length t) h) in
@@ -46,8 +43,8 @@ short_delivered {s} {r} {t} {b} e h z =
 
 -- what reading told
 data Tells (R : Read) : Answer → Type 0 where
-  tells_job : {g : Shape} {J : Job} → R ≡ read J → Tells R (told.Job g)
-  tells_refusal : {q : asked.Refusal} {u : Refusal} → R ≡ refused q → q.number ≡ u.number → q.place ≡ u.place → Tells R (told.Refused u)
+  tells_job : {g : Shape} {J : Job} → R ≡ read J → Tells R (Ok g)
+  tells_refusal : {q : asked.Refusal} {u : Refusal} → R ≡ refused q → q.number ≡ u.number → q.place ≡ u.place → Tells R (Err u)
 
 tells : (R : Read) → Tells R (jobs.answer_of R)
 unfolding jobs.answer_of
@@ -55,17 +52,17 @@ tells (read J) = tells_job refl
 tells (refused q) = tells_refusal refl refl refl
 
 module _ (R : Read) {a : Answer} (e : a ≡ jobs.answer_of R) where
-  by_job : {g : Shape} → a ≡ told.Job g → (K : Job) × (R ≡ read K)
+  by_job : {g : Shape} → a ≡ Ok g → (K : Job) × (R ≡ read K)
   by_job {g} z = at (jobs.answer_of R) (tells R) (sym e ∙ z)
     where
-      at : (x : Answer) → Tells R x → x ≡ told.Job g → (K : Job) × (R ≡ read K)
+      at : (x : Answer) → Tells R x → x ≡ Ok g → (K : Job) × (R ≡ read K)
       at x (tells_job {J = K} h) y = (K, h)
       at x (tells_refusal h k l) y = absurd (let c : ◌≡◌ {A = ℕ} 0 1 = cc in omega arith)
 
-  by_refusal : {u : Refusal} → a ≡ told.Refused u → R ≡ refused (record { number = u.number; place = u.place })
+  by_refusal : {u : Refusal} → a ≡ Err u → R ≡ refused (record { number = u.number; place = u.place })
   by_refusal {u} z = at (jobs.answer_of R) (tells R) (sym e ∙ z)
     where
-      at : (x : Answer) → Tells R x → x ≡ told.Refused u → R ≡ refused (record { number = u.number; place = u.place })
+      at : (x : Answer) → Tells R x → x ≡ Err u → R ≡ refused (record { number = u.number; place = u.place })
       at x (tells_job h) y = absurd (let c : ◌≡◌ {A = ℕ} 0 1 = cc in omega arith)
       at x (tells_refusal {u = v} h k l) y =
           let w : v ≡ u = cc in h ∙ ap₂ (λ (m n : ℕ). refused (record { number = m; place = n })) (k ∙ ap (λ (t : Refusal). t.number) w) (l ∙ ap (λ (t : Refusal). t.place) w)
@@ -75,23 +72,23 @@ module _ (R : Read) {a : Answer} (e : a ≡ jobs.answer_of R) where
     zero_is : f ≡ 0
     zero_is = omega arith
 
-    whole : {g : Shape} → a ≡ told.Job g → judged f s R ≡ writing.sent s
+    whole : {g : Shape} → a ≡ Ok g → judged f s R ≡ writing.sent s
     unfolding judged
     whole z = ap₂ (λ (n : ℕ) (r : Read). judged n s r) zero_is (by_job z).1
 
-    pub whole_refused : {u : Refusal} {r : Sent} {b : List ℕ} → a ≡ told.Refused u → r ≡ answers.Refused u → Delivered (judged f s R) r b b
+    pub whole_refused : {u : Refusal} {r : Sent} {b : List ℕ} → a ≡ Err u → r ≡ Err u → Delivered (judged f s R) r b b
     unfolding judged
     whole_refused {u} z y = unsent_delivered (ap₂ (λ (n : ℕ) (r : Read). judged n s r) zero_is (by_refusal z)) y
 
-    pub whole_short : {g : Shape} {r : Sent} {b : List ℕ} → a ≡ told.Job g → length b < length s → r ≡ refused_by 15 0 → Delivered (judged f s R) r b b
+    pub whole_short : {g : Shape} {r : Sent} {b : List ℕ} → a ≡ Ok g → length b < length s → r ≡ refused_by 15 0 → Delivered (judged f s R) r b b
     whole_short z h y = short_delivered (whole z) h y
 
-    pub whole_sent : {g : Shape} {r : Sent} {b b' : List ℕ} → a ≡ told.Job g → length s ≤ length b → r ≡ answers.Bytes (length s) → b' ≡ s ++ drop (length s) b → Delivered (judged f s R) r b b'
+    pub whole_sent : {g : Shape} {r : Sent} {b b' : List ℕ} → a ≡ Ok g → length s ≤ length b → r ≡ Ok (length s) → b' ≡ s ++ drop (length s) b → Delivered (judged f s R) r b b'
     whole_sent z h y x = sent_delivered (whole z) h y x
 
   -- a fault of the tables
   module _ {f : ℕ} (some : 0 < f) (s : List ℕ) where
-    pub fault_job : {g : Shape} {r : Sent} {b : List ℕ} → a ≡ told.Job g → r ≡ refused_by f (length s) → Delivered (judged f s R) r b b
+    pub fault_job : {g : Shape} {r : Sent} {b : List ℕ} → a ≡ Ok g → r ≡ refused_by f (length s) → Delivered (judged f s R) r b b
     unfolding judged
     fault_job {g} z y = unsent_delivered (ap (judged f s) (by_job z).1 ∙ at f some (by_job z).0) y
       where
@@ -99,7 +96,7 @@ module _ (R : Read) {a : Answer} (e : a ≡ jobs.answer_of R) where
         at zero h K = absurd (omega arith)
         at (suc k) h K = refl
 
-    pub fault_later : {u : Refusal} {r : Sent} {b : List ℕ} → a ≡ told.Refused u → length s ≤ u.place → r ≡ refused_by f (length s) → Delivered (judged f s R) r b b
+    pub fault_later : {u : Refusal} {r : Sent} {b : List ℕ} → a ≡ Err u → length s ≤ u.place → r ≡ refused_by f (length s) → Delivered (judged f s R) r b b
     unfolding judged
     fault_later {u} z h y = unsent_delivered (ap (judged f s) (by_refusal z) ∙ at f some) y
       where
@@ -107,13 +104,35 @@ module _ (R : Read) {a : Answer} (e : a ≡ jobs.answer_of R) where
         at zero l = absurd (omega arith)
         at (suc k) l = rw (le-ltb u.place (length s) h)
 
-    pub fault_first : {u : Refusal} {r : Sent} {b : List ℕ} → a ≡ told.Refused u → u.place < length s → r ≡ answers.Refused u → Delivered (judged f s R) r b b
+    pub fault_first : {u : Refusal} {r : Sent} {b : List ℕ} → a ≡ Err u → u.place < length s → r ≡ Err u → Delivered (judged f s R) r b b
     unfolding judged
     fault_first {u} z h y = unsent_delivered (ap (judged f s) (by_refusal z) ∙ at f some) y
       where
         at : (k : ℕ) → 0 < k → judged k s (refused (record { number = u.number; place = u.place })) ≡ unsent_at u.number u.place
         at zero l = absurd (omega arith)
         at (suc k) l = rw (lt-ltb u.place (length s) h)
+
+-- The pen
+
+pub no_fault : (p : Pen) {n : ℕ} → p ≡ Ok n → fault_in p ≤ 0
+no_fault (Ok m) e = omega arith
+no_fault (Err q) e = absurd (let z : ◌≡◌ {A = ℕ} 0 1 = cc in omega arith)
+
+pub some_fault : (p : Pen) {k : Refusal} → p ≡ Err k → IfErr p (λ q. 0 < q.number) → 0 < fault_in p
+some_fault (Ok m) e h = absurd (let z : ◌≡◌ {A = ℕ} 0 1 = cc in omega arith)
+some_fault (Err q) e h = h
+
+pub reach_is : (p : Pen) {n l : ℕ} → p ≡ Ok n → reach_of p ≡ l → n ≡ l
+reach_is (Ok m) e h = cc
+reach_is (Err q) e h = absurd (let z : ◌≡◌ {A = ℕ} 0 1 = cc in omega arith)
+
+pub place_is : (p : Pen) {k : Refusal} {l : ℕ} → p ≡ Err k → reach_of p ≡ l → k.place ≡ l
+place_is (Ok m) e h = absurd (let z : ◌≡◌ {A = ℕ} 0 1 = cc in omega arith)
+place_is (Err q) {k} e h = let z : q ≡ k = cc in ap (λ (t : Refusal). t.place) (sym z) ∙ h
+
+pub fault_is : (p : Pen) {k : Refusal} {l : ℕ} → p ≡ Err k → reach_of p ≡ l → Err k ≡ refused_by (fault_in p) l
+fault_is (Ok m) e h = absurd (let z : ◌≡◌ {A = ℕ} 0 1 = cc in omega arith)
+fault_is (Err q) {k} e h = let z : q ≡ k = cc in ap Err (sym z) ∙ ap (λ (m : ℕ). refused_by q.number m) h
 
 -- The scratch
 
@@ -125,26 +144,30 @@ pub take_all : (n : ℕ) (l : List ℕ) → n ≤ length l → n ≡ length (tak
 take_all n l h = sym (length-take-le n l h)
 
 -- the bytes are within the scratch
-pub in_scratch : {w : JobTables} {c : Counts} {l m : List ℕ} {pen : Pen} → Encoded w c l m pen → length l ≡ most_scratch → pen.at ≤ length m
-in_scratch {w} {c} {l} {m} e h = omega (arith, e.room, h, ap (λ (t : List ℕ). length t) e.penned.bytes, length-sets l 0 (script (items w c)).bytes)
+pub in_scratch : {w : JobTables} {c : Counts} {l m : List ℕ} {pen : Pen} {n : ℕ} → n ≡ reach_of pen → Encoded w c l m pen → length l ≡ most_scratch → n ≤ length m
+in_scratch {w} {c} {l} {m} z e h = omega (arith, z, e.room, h, ap (λ (t : List ℕ). length t) e.penned.bytes, length-sets l 0 (script (items w c)).bytes)
 
 -- Writing
 
 module _ {w x : JobTables} {c : Counts} {b b' : List ℕ} {r : Sent} (same : x ≡ w) where
-  pub write_long : {l m : List ℕ} {pen : Pen} → short w ≡ false → Encoded w c l m pen → pen.at ≤ length m
-      → Delivered (judged pen.fault (take pen.at m) (reading (take pen.at m))) r b b' → WriteTo w x c r b b'
+  write_long : {l m : List ℕ} {pen : Pen} → short w ≡ false → Encoded w c l m pen → reach_of pen ≤ length m
+      → Delivered (judged (fault_in pen) (take (reach_of pen) m) (reading (take (reach_of pen) m))) r b b' → WriteTo w x c r b b'
   unfolding write_with writing.writing
   write_long {l} {m} {pen} h e k d =
       let s : Script = script (items w c) in
       let z = e.penned.reach in
       let whole_length : 0 + length s.bytes ≡ length s.bytes = omega arith in
       let long : length s.bytes ≤ length l = omega (arith, z, k, ap (λ (t : List ℕ). length t) e.penned.bytes, length-sets l 0 s.bytes) in
-      let bytes : take pen.at m ≡ s.bytes = ap₂ (λ (n : ℕ) t. take n t) (z ∙ whole_length) e.penned.bytes ∙ front l s.bytes long in
-      let is : judged pen.fault (take pen.at m) (reading (take pen.at m)) ≡ judged s.fault s.bytes (reading s.bytes) =
+      let bytes : take (reach_of pen) m ≡ s.bytes = ap₂ (λ (n : ℕ) t. take n t) (z ∙ whole_length) e.penned.bytes ∙ front l s.bytes long in
+      let is : judged (fault_in pen) (take (reach_of pen) m) (reading (take (reach_of pen) m)) ≡ judged s.fault s.bytes (reading s.bytes) =
       ap₂ (λ (n : ℕ) t. judged n t (reading t)) e.penned.fault_is bytes in
-      let all : write_with w c (length b) ≡ fitting (length b) (judged pen.fault (take pen.at m) (reading (take pen.at m))) =
+      let all : write_with w c (length b) ≡ fitting (length b) (judged (fault_in pen) (take (reach_of pen) m) (reading (take (reach_of pen) m))) =
       ap (λ (q : Bool). cond q (unsent_at 1 0) (fitting (length b) (judged s.fault s.bytes (reading s.bytes)))) h ∙ ap (fitting (length b)) (sym is) in
       record { answer = d.answer ∙ ap answer_of (sym all); buffer = d.buffer ∙ ap (λ t. buffer_after t b) (sym all); tables = same }
+
+  pub write_sent : {l m : List ℕ} {pen : Pen} {n : ℕ} → n ≡ reach_of pen → short w ≡ false → Encoded w c l m pen → n ≤ length m
+      → Delivered (judged (fault_in pen) (take n m) (reading (take n m))) r b b' → WriteTo w x c r b b'
+  write_sent {l} {m} {pen} {n} z h e k d = write_long h e (omega (arith, z, k)) (subst (λ (i : ℕ). Delivered (judged (fault_in pen) (take i m) (reading (take i m))) r b b') z d)
 
   pub write_short : short w ≡ true → r ≡ refused_by 1 0 → b' ≡ b → WriteTo w x c r b b'
   unfolding write_with answer_of buffer_after

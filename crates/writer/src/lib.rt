@@ -1,64 +1,57 @@
 // Writing a job from lent tables: its bytes go into a lent buffer. What the tables write is read, so that nothing is sent which the reader would not take.
 #![tactic(auto)]
 
-ghost use Rattle.std.specs.Prelude.{◌≡◌};
+ghost use Rattle.std.specs.Prelude.{◌≡◌, ◌<◌, length, IfErr};
 ghost use Rattle.syntax.specs.Reading.{reading};
 ghost use Rattle.syntax.specs.Writing.{judged};
 ghost use Rattle.table.specs.Lent.{job_shown};
 ghost use Rattle.writer.specs.Lent.{job_left};
+ghost use Rattle.encode.specs.Penned.{reach_of, fault_in};
 ghost use Rattle.entry.specs.Shapes.{counts_of};
-ghost use Rattle.writer.specs.Sends.{refused_by, Delivered, WriteTo};
+ghost use Rattle.writer.specs.Sends.{Delivered, WriteTo};
 
 use encode::{SCRATCH, encode};
 pub use entry::Shape;
-pub use job::Refusal;
-use job::{Answer, long_enough, would_read};
+use job::{long_enough, would_read};
+pub use table::Refusal;
 use table::copy;
 
-// How many bytes there are, or the refusal.
-#[derive(Clone, Copy)]
-pub enum Sent {
-    Bytes(usize),
-    Refused(Refusal),
-}
-
-fn refused(number: u8, place: usize) -> Sent
-    ensures { result ≡ refused_by number place }
+// How far the bytes of the entries reach, with a fault behind them or without.
+fn reach(pen: Result<usize, Refusal>) -> usize
+    ensures { result ≡ reach_of pen }
 {
-    Sent::Refused(Refusal {
-        number: number,
-        place: place,
-    })
-}
-
-// The bytes of the tables, after which they have this fault, 0 for none: where they are a job and the buffer is long enough, they go there. The first fault decides.
-fn deliver(bytes: &[u8], fault: u8, buffer: &mut [u8]) -> Sent
-    ensures { Delivered (judged fault bytes.now (reading bytes.now)) result buffer.old buffer.new }
-{
-    let n = bytes.len();
-    match would_read(bytes) {
-        Answer::Job(_) => {
-            if 0 < fault {
-                return refused(fault, n);
-            }
-            if buffer.len() < n {
-                return refused(15, 0);
-            }
-            copy(bytes, buffer);
-            Sent::Bytes(n)
-        }
-        Answer::Refused(q) => {
-            if 0 < fault {
-                if n <= q.place {
-                    return refused(fault, n);
-                }
-            }
-            Sent::Refused(q)
-        }
+    match pen {
+        Ok(n) => n,
+        Err(k) => k.place,
     }
 }
 
-// Writes the job that the tables hold, by their counts: its bytes stand at the start of the buffer, and bytes past them stay. A refusal writes no byte, and the tables are only read.
+// The bytes of the tables, and the fault behind them, if there is one: where they are a job and the buffer is long enough, they go there. The first fault decides.
+fn deliver(bytes: &[u8], pen: Result<usize, Refusal>, buffer: &mut [u8]) -> Result<usize, Refusal>
+    requires reach { reach_of pen ≡ length bytes.now }
+    requires told { IfErr pen (λ k. 0 < k.number) }
+    ensures { Delivered (judged (fault_in pen) bytes.now (reading bytes.now)) result buffer.old buffer.new }
+{
+    match pen {
+        Ok(n) => {
+            would_read(bytes)?;
+            if buffer.len() < n {
+                return Err(Refusal {
+                    number: 15,
+                    place: 0,
+                });
+            }
+            copy(bytes, buffer);
+            Ok(n)
+        }
+        Err(k) => match would_read(bytes) {
+            Err(q) => { if q.place < k.place { Err(q) } else { Err(k) } }
+            Ok(_) => Err(k),
+        },
+    }
+}
+
+// Writes the job that the tables hold, by their counts, and gives how many bytes it has: they stand at the start of the buffer, and bytes past them stay. A refusal writes no byte, and the tables are only read.
 pub fn write(
     names: &[u16],
     types: &[u64],
@@ -68,7 +61,7 @@ pub fn write(
     slots: &[u16],
     g: Shape,
     buffer: &mut [u8],
-) -> Sent
+) -> Result<usize, Refusal>
     ensures { WriteTo (job_shown names types sets values heads slots) (job_left names types sets values heads slots) (counts_of g) result
         buffer.old buffer.new }
 {
@@ -82,7 +75,12 @@ pub fn write(
     ) {
         let mut scratch = [0u8; SCRATCH];
         let pen = encode(names, types, sets, values, heads, slots, g, &mut scratch);
-        return deliver(&scratch[..pen.at], pen.fault, buffer);
+        let n = reach(pen);
+        deliver(&scratch[..n], pen, buffer)
+    } else {
+        Err(Refusal {
+            number: 1,
+            place: 0,
+        })
     }
-    refused(1, 0)
 }

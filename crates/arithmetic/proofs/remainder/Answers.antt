@@ -1,8 +1,6 @@
-use Rattle.arithmetic.proofs.Parts.{remainder_zero, remainder_above}
+use Rattle.std.proofs.Common.{◌∙◌}
+use Rattle.arithmetic.proofs.Parts.{remainder_or_all}
 use Rattle.arithmetic.proofs.remainder.Goals as goal
 
-pub returns-then-b-eq0 : goal.returns-then-b-eq0
-returns-then-b-eq0 c = remainder_zero _ _ c.if-b-eq0.true
-
 pub returns : goal.returns
-returns c = remainder_above _ _ c.if-b-eq0.false
+returns c = c.unwrap_or.ensures ∙ remainder_or_all _ _ _ c.checked_rem.ensures

@@ -1,7 +1,10 @@
+use Rattle.semantics.specs.Step.{sum_n}
 use Rattle.arithmetic.proofs.sum_of.Goals as goal
 
 pub returns-then-is_sum : goal.returns-then-is_sum
-returns-then-is_sum c = rw c.if-is_sum.true c.sum.ensures
+unfolding sum_n
+returns-then-is_sum c = rw c.if-is_sum.true c.saturating_add.ensures
 
-pub returns : goal.returns
-returns c = rw c.if-is_sum.false c.difference.ensures
+pub returns-else-is_sum : goal.returns-else-is_sum
+unfolding sum_n
+returns-else-is_sum c = rw c.if-is_sum.false c.saturating_sub.ensures

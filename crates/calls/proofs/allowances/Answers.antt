@@ -1,5 +1,6 @@
+use Rattle.std.proofs.Common.{◌≡◌, ◌+◌, ◌-◌, ◌∙◌, arith}
 use Rattle.calls.proofs.Going.{eight_are}
 use Rattle.calls.proofs.allowances.Goals as goal
 
 pub returns : goal.returns
-returns c = eight_are _ _ c.at64.ensures c.at64-2.ensures c.at64-3.ensures c.at64-4.ensures c.at64-5.ensures c.at64-6.ensures c.at64-7.ensures c.at64-8.ensures
+returns c = let e : c.args.at + 9 - (c.args.at + 1) ≡ 8 = omega arith in c.copy_from_slice.ensures.after ∙ rw e (eight_are _ _ c.requires)

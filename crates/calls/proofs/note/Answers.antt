@@ -4,5 +4,5 @@ use Rattle.calls.proofs.note.Goals as goal
 pub returns-then-at-answers : goal.returns-then-at-answers
 returns-then-at-answers c = noted_in _ _ _ c.if-at-answers.true
 
-pub returns : goal.returns
-returns c = noted_past _ _ _ c.if-at-answers.false
+pub returns-else-at-answers : goal.returns-else-at-answers
+returns-else-at-answers c = noted_past _ _ _ c.if-at-answers.false

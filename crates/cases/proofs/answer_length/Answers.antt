@@ -4,4 +4,4 @@ use Rattle.cases.proofs.answer_length.Goals as goal
 
 pub returns : goal.returns
 unfolding answer_length
-returns c = c.at8.ensures ∙ simp c.job_length-n.ensures
+returns c = c.get_or.ensures ∙ simp c.job_length-n.ensures

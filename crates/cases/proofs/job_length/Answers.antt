@@ -3,4 +3,4 @@ use Rattle.cases.proofs.job_length.Goals as goal
 
 pub returns : goal.returns
 unfolding job_length
-returns c = simp (c.at8-low.ensures, c.at8-high.ensures)
+returns c = simp (c.get_or-low.ensures, c.get_or-high.ensures)

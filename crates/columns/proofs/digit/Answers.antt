@@ -6,6 +6,6 @@ pub returns-then-n-p : goal.returns-then-n-p
 unfolding column
 returns-then-n-p c = simp (lt-ltb _ _ c.if-n-p.true)
 
-pub returns : goal.returns
+pub returns-else-n-p : goal.returns-else-n-p
 unfolding column
-returns c = simp (le-ltb _ _ c.if-n-p.false)
+returns-else-n-p c = simp (le-ltb _ _ c.if-n-p.false)

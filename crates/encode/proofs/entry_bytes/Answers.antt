@@ -1,21 +1,26 @@
 use native.Mathlib.Nat.{add-zero}
-use borrow.Author.Tests.{ne_eqb}
+use mathlib.Core.Logic.{inl, inr}
 use Rattle.encode.specs.Entries.{entry_item}
 use Rattle.encode.proofs.Pens.{penned_as}
 use Rattle.encode.proofs.entry_bytes.Goals as goal
 
-pub returns-in-0 : goal.returns-in-0
+pub returns-in-Names : goal.returns-in-Names
 unfolding entry_item
-returns-in-0 c = penned_as (simp (c.in-0.is, c.at16.ensures)) c.name_bytes.ensures
+returns-in-Names c = penned_as (simp (c.in-Names.is, c.get_or.ensures)) c.name_bytes.ensures
 
-pub returns-in-1 : goal.returns-in-1
+pub returns-in-Types : goal.returns-in-Types
 unfolding entry_item
-returns-in-1 c = penned_as (simp (c.in-1.is, c.at64.ensures, c.at64-in-1.ensures)) c.type_bytes.ensures
+returns-in-Types c = penned_as (simp (c.in-Types.is, c.get_or-in-Types.ensures, c.get_or-in-Types-2.ensures)) c.type_bytes.ensures
 
-pub returns-in-2 : goal.returns-in-2
+pub returns-in-Values : goal.returns-in-Values
 unfolding entry_item
-returns-in-2 c = penned_as (simp (c.in-2.is, c.at64-in-2.ensures)) c.value_bytes.ensures
+returns-in-Values c = penned_as (simp (c.in-Values.is, c.get_or-in-Values.ensures)) c.value_bytes.ensures
 
-pub returns-in_default : goal.returns-in_default
+pub returns-in-Rights : goal.returns-in-Rights
 unfolding entry_item
-returns-in_default c = penned_as (simp (add-zero, ne_eqb _ _ c.in_default.in_default-own.rest.1, ne_eqb _ _ c.in_default.in_default-own.rest.0.1, ne_eqb _ _ c.in_default.in_default-own.rest.0.0.1, c.at64-in_default.ensures, c.at16-a.ensures, c.at16-b.ensures, c.at16-c.ensures, c.at16-d.ensures, c.at16-e.ensures)) c.expr_bytes.ensures
+returns-in-Rights c =
+    elim c.in-Rights.is [
+      | inl e ↦ penned_as (simp (add-zero, e, c.get_or-in-Rights.ensures, c.get_or-a.ensures, c.get_or-b.ensures, c.get_or-c.ensures, c.get_or-d.ensures, c.get_or-e.ensures)) c.expr_bytes.ensures
+      | inr (inl e) ↦ penned_as (simp (add-zero, e, c.get_or-in-Rights.ensures, c.get_or-a.ensures, c.get_or-b.ensures, c.get_or-c.ensures, c.get_or-d.ensures, c.get_or-e.ensures)) c.expr_bytes.ensures
+      | inr (inr e) ↦ penned_as (simp (add-zero, e, c.get_or-in-Rights.ensures, c.get_or-a.ensures, c.get_or-b.ensures, c.get_or-c.ensures, c.get_or-d.ensures, c.get_or-e.ensures)) c.expr_bytes.ensures
+    ]

@@ -1,77 +1,58 @@
-use mathlib.Core.Path.{sym, ◌∙◌}
+use mathlib.Core.Path.{refl, sym, ◌∙◌}
 use native.Mathlib.Omega.{arith}
+use Rattle.equality.specs.declared.Relation.TheVariants.{Same}
 use Rattle.equality.specs.Known.{compared_in, pick, turned_of}
-use Rattle.equality.proofs.Known.{known_found, known_kept, same_none, other_heads, leaves, cells, pairs_first, pairs, other_effects, functions_first, functions}
+use Rattle.equality.proofs.Known.{known_found, known_kept, no_levels, other_heads, leaves, cells, pairs_first, pairs, other_effects, functions_first, functions}
 use Rattle.equality.proofs.+same.Goals as goal
+use Rattle.equality.proofs.+same.Goals.{else-same-via-then-same+else-same-2, else-same-via-else-same, else-effects-via-then-effects+then-same-3+else-same-4, else-effects-via-then-effects+else-same-3, else-effects-via-else-effects}
 
 pub returns-then-d-eq0 : goal.returns-then-d-eq0
-unfolding compared_in pick turned_of
-returns-then-d-eq0 t c = (same_none c.args.anc.now c.args.types.now c.args.sets.now c.args.a c.args.b c.args.d c.if-d-eq0.true, c.requires)
+unfolding compared_in pick
+returns-then-d-eq0 t c = (no_levels c.args.anc.now c.args.types.now c.args.sets.now c.args.a c.args.b c.args.d c.if-d-eq0.true Same, c.requires)
 
-pub returns-else-heads : goal.returns-else-heads
-unfolding compared_in pick turned_of
-returns-else-heads t c = (other_heads c.args.anc.now c.args.types.now c.args.sets.now 0 c.args.d c.args.a c.args.b c.if-d-eq0.false c.at64-x.ensures c.at64-y.ensures c.heads.ensures c.if-heads.false, c.requires)
+pub returns-then-not-heads : goal.returns-then-not-heads
+unfolding compared_in pick
+returns-then-not-heads t c = (other_heads c.args.anc.now c.args.types.now c.args.sets.now Same c.args.d c.args.a c.args.b c.if-d-eq0.false c.get_or-x.ensures c.get_or-y.ensures c.if-not-heads.ensures refl, c.requires)
 
 pub returns-then-recalled : goal.returns-then-recalled
-unfolding compared_in pick turned_of
-returns-then-recalled t c = (sym (known_found c.args.anc.now c.args.types.now c.args.sets.now c.requires 0 c.args.d c.args.a c.args.b c.if-d-eq0.false c.ranges.d.fits c.ranges.a.fits c.ranges.b.fits _ _ c.packed.ensures (sym c.recalled.ensures ∙ c.if-recalled.true)), c.requires)
-
-pub same-requires : goal.same-requires
-unfolding compared_in pick turned_of
-same-requires t c = (omega (arith, c.if-d-eq0.false, c.decreases), c.requires)
-
-pub same-requires-then-same : goal.same-requires-then-same
-unfolding compared_in pick turned_of
-same-requires-then-same t c = (omega (arith, c.if-d-eq0.false, c.decreases), c.same.ensures.1)
+unfolding compared_in pick
+returns-then-recalled t c = (sym (known_found c.args.anc.now c.args.types.now c.args.sets.now c.requires Same c.args.d c.args.a c.args.b c.if-d-eq0.false c.ranges.d.fits c.ranges.a.fits c.ranges.b.fits _ _ c.packed.ensures (sym c.if-recalled.ensures)), c.requires)
 
 pub returns-then-same-2 : goal.returns-then-same-2
-unfolding compared_in pick turned_of
-returns-then-same-2 t c = (c.remember.ensures.0 ∙ sym c.if-same-2.true ∙ pairs c.args.anc.now c.args.types.now c.args.sets.now 0 c.args.d c.args.a c.args.b c.if-d-eq0.false c.at64-x.ensures c.at64-y.ensures c.heads.ensures c.if-heads.true c.byte_of.ensures c.first_of.ensures c.first_of-in-17.ensures c.in-17.is c.same.ensures.0 c.if-same.true c.second_of.ensures c.second_of-then-same.ensures c.same-then-same.ensures.0, rw c.remember.ensures.1 (known_kept c.args.anc.now c.args.types.now c.args.sets.now c.same-then-same.ensures.1 0 c.args.d c.args.a c.args.b c.if-d-eq0.false c.ranges.d.fits c.ranges.a.fits c.ranges.b.fits _ _ c.packed-then-same-2.ensures (sym (pairs c.args.anc.now c.args.types.now c.args.sets.now 0 c.args.d c.args.a c.args.b c.if-d-eq0.false c.at64-x.ensures c.at64-y.ensures c.heads.ensures c.if-heads.true c.byte_of.ensures c.first_of.ensures c.first_of-in-17.ensures c.in-17.is c.same.ensures.0 c.if-same.true c.second_of.ensures c.second_of-then-same.ensures c.same-then-same.ensures.0) ∙ c.if-same-2.true)))
-
-pub returns-else-same-2 : goal.returns-else-same-2
-unfolding compared_in pick turned_of
-returns-else-same-2 t c = (sym c.if-same-2.false ∙ pairs c.args.anc.now c.args.types.now c.args.sets.now 0 c.args.d c.args.a c.args.b c.if-d-eq0.false c.at64-x.ensures c.at64-y.ensures c.heads.ensures c.if-heads.true c.byte_of.ensures c.first_of.ensures c.first_of-in-17.ensures c.in-17.is c.same.ensures.0 c.if-same.true c.second_of.ensures c.second_of-then-same.ensures c.same-then-same.ensures.0, c.same-then-same.ensures.1)
+unfolding compared_in pick
+returns-then-same-2 t c =
+    let p = pairs c.args.anc.now c.args.types.now c.args.sets.now Same c.args.d c.args.a c.args.b c.if-d-eq0.false c.get_or-x.ensures c.get_or-y.ensures c.if-not-heads.ensures refl c.byte_of.ensures c.first_of-p.ensures c.first_of-q.ensures c.in-17.is c.if-same.ensures.0 refl c.second_of.ensures c.second_of-then-same.ensures c.if-same-2.ensures.0 in
+    (c.remember.ensures.0 ∙ p, rw c.remember.ensures.1 (known_kept c.args.anc.now c.args.types.now c.args.sets.now c.if-same-2.ensures.1 Same c.args.d c.args.a c.args.b c.if-d-eq0.false c.ranges.d.fits c.ranges.a.fits c.ranges.b.fits _ _ c.packed-then-same-2.ensures (sym p)))
 
 pub returns-else-same : goal.returns-else-same
-unfolding compared_in pick turned_of
-returns-else-same t c = (pairs_first c.args.anc.now c.args.types.now c.args.sets.now 0 c.args.d c.args.a c.args.b c.if-d-eq0.false c.at64-x.ensures c.at64-y.ensures c.heads.ensures c.if-heads.true c.byte_of.ensures c.first_of.ensures c.first_of-in-17.ensures c.in-17.is c.same.ensures.0 c.if-same.false, c.same.ensures.1)
-
-pub same-requires-in-18 : goal.same-requires-in-18
-unfolding compared_in pick turned_of
-same-requires-in-18 t c = (omega (arith, c.if-d-eq0.false, c.decreases), c.requires)
+unfolding compared_in pick
+returns-else-same t c = elim c.else-same.branch [
+  | else-same-via-then-same+else-same-2 w ↦ (pairs c.args.anc.now c.args.types.now c.args.sets.now Same c.args.d c.args.a c.args.b c.if-d-eq0.false c.get_or-x.ensures c.get_or-y.ensures c.if-not-heads.ensures refl c.byte_of.ensures c.first_of-p.ensures c.first_of-q.ensures c.in-17.is w.if-same.ensures.0 refl w.second_of.ensures w.second_of-then-same.ensures w.if-same-2.ensures.0, rw w.known-is w.if-same-2.ensures.1)
+  | else-same-via-else-same w ↦ (pairs_first c.args.anc.now c.args.types.now c.args.sets.now Same c.args.d c.args.a c.args.b c.if-d-eq0.false c.get_or-x.ensures c.get_or-y.ensures c.if-not-heads.ensures refl c.byte_of.ensures c.first_of-p.ensures c.first_of-q.ensures c.in-17.is w.if-same.ensures.0 refl, rw w.known-is w.if-same.ensures.1)
+]
 
 pub returns-in-18 : goal.returns-in-18
-unfolding compared_in pick turned_of
-returns-in-18 t c = (cells c.args.anc.now c.args.types.now c.args.sets.now 0 c.args.d c.args.a c.args.b c.if-d-eq0.false c.at64-x.ensures c.at64-y.ensures c.heads.ensures c.if-heads.true c.byte_of.ensures c.first_of-in-18.ensures c.first_of-in-18-2.ensures c.in-18.is c.same-in-18.ensures.0, c.same-in-18.ensures.1)
+unfolding compared_in pick
+returns-in-18 t c = (cells c.args.anc.now c.args.types.now c.args.sets.now Same c.args.d c.args.a c.args.b c.if-d-eq0.false c.get_or-x.ensures c.get_or-y.ensures c.if-not-heads.ensures refl c.byte_of.ensures c.first_of-p.ensures c.first_of-q.ensures c.in-18.is c.same-in-18.ensures.0, c.same-in-18.ensures.1)
 
 pub returns-then-recalled-2 : goal.returns-then-recalled-2
-unfolding compared_in pick turned_of
-returns-then-recalled-2 t c = (sym (known_found c.args.anc.now c.args.types.now c.args.sets.now c.requires 0 c.args.d c.args.a c.args.b c.if-d-eq0.false c.ranges.d.fits c.ranges.a.fits c.ranges.b.fits _ _ c.packed-in-19.ensures (sym c.recalled-in-19.ensures ∙ c.if-recalled-2.true)), c.requires)
-
-pub same-requires-then-effects : goal.same-requires-then-effects
-unfolding compared_in pick turned_of
-same-requires-then-effects t c = (omega (arith, c.if-d-eq0.false, c.decreases), c.requires)
-
-pub same-requires-then-same-3 : goal.same-requires-then-same-3
-unfolding compared_in pick turned_of
-same-requires-then-same-3 t c = (omega (arith, c.if-d-eq0.false, c.decreases), c.same-then-effects.ensures.1)
+unfolding compared_in pick
+returns-then-recalled-2 t c = (sym (known_found c.args.anc.now c.args.types.now c.args.sets.now c.requires Same c.args.d c.args.a c.args.b c.if-d-eq0.false c.ranges.d.fits c.ranges.a.fits c.ranges.b.fits _ _ c.packed-in-19.ensures (sym c.if-recalled-2.ensures)), c.requires)
 
 pub returns-then-same-4 : goal.returns-then-same-4
 unfolding compared_in pick turned_of
-returns-then-same-4 t c = (c.remember-then-same-4.ensures.0 ∙ sym c.if-same-4.true ∙ functions c.args.anc.now c.args.types.now c.args.sets.now 0 c.args.d c.args.a c.args.b c.if-d-eq0.false c.at64-x.ensures c.at64-y.ensures c.heads.ensures c.if-heads.true c.byte_of.ensures c.first_of-then-effects.ensures c.first_of-then-effects-2.ensures c.in-19.is c.at64.ensures c.at64-in-19.ensures c.effects.ensures c.if-effects.true c.same-then-effects.ensures.0 c.if-same-3.true c.second_of-then-same-3.ensures c.second_of-then-same-3-2.ensures c.same-then-same-3.ensures.0, rw c.remember-then-same-4.ensures.1 (known_kept c.args.anc.now c.args.types.now c.args.sets.now c.same-then-same-3.ensures.1 0 c.args.d c.args.a c.args.b c.if-d-eq0.false c.ranges.d.fits c.ranges.a.fits c.ranges.b.fits _ _ c.packed-then-same-4.ensures (sym (functions c.args.anc.now c.args.types.now c.args.sets.now 0 c.args.d c.args.a c.args.b c.if-d-eq0.false c.at64-x.ensures c.at64-y.ensures c.heads.ensures c.if-heads.true c.byte_of.ensures c.first_of-then-effects.ensures c.first_of-then-effects-2.ensures c.in-19.is c.at64.ensures c.at64-in-19.ensures c.effects.ensures c.if-effects.true c.same-then-effects.ensures.0 c.if-same-3.true c.second_of-then-same-3.ensures c.second_of-then-same-3-2.ensures c.same-then-same-3.ensures.0) ∙ c.if-same-4.true)))
-
-pub returns-else-same-4 : goal.returns-else-same-4
-unfolding compared_in pick turned_of
-returns-else-same-4 t c = (sym c.if-same-4.false ∙ functions c.args.anc.now c.args.types.now c.args.sets.now 0 c.args.d c.args.a c.args.b c.if-d-eq0.false c.at64-x.ensures c.at64-y.ensures c.heads.ensures c.if-heads.true c.byte_of.ensures c.first_of-then-effects.ensures c.first_of-then-effects-2.ensures c.in-19.is c.at64.ensures c.at64-in-19.ensures c.effects.ensures c.if-effects.true c.same-then-effects.ensures.0 c.if-same-3.true c.second_of-then-same-3.ensures c.second_of-then-same-3-2.ensures c.same-then-same-3.ensures.0, c.same-then-same-3.ensures.1)
-
-pub returns-else-same-3 : goal.returns-else-same-3
-unfolding compared_in pick turned_of
-returns-else-same-3 t c = (functions_first c.args.anc.now c.args.types.now c.args.sets.now 0 c.args.d c.args.a c.args.b c.if-d-eq0.false c.at64-x.ensures c.at64-y.ensures c.heads.ensures c.if-heads.true c.byte_of.ensures c.first_of-then-effects.ensures c.first_of-then-effects-2.ensures c.in-19.is c.at64.ensures c.at64-in-19.ensures c.effects.ensures c.if-effects.true c.same-then-effects.ensures.0 c.if-same-3.false, c.same-then-effects.ensures.1)
+returns-then-same-4 t c =
+    let p = functions c.args.anc.now c.args.types.now c.args.sets.now Same c.args.d c.args.a c.args.b c.if-d-eq0.false c.get_or-x.ensures c.get_or-y.ensures c.if-not-heads.ensures refl c.byte_of.ensures c.first_of-p.ensures c.first_of-q.ensures c.in-19.is c.get_or-s.ensures c.get_or-t.ensures c.if-effects.ensures refl c.if-same-3.ensures.0 refl c.second_of-then-same-3.ensures c.second_of-then-same-3-2.ensures c.if-same-4.ensures.0 in
+    (c.remember-then-same-4.ensures.0 ∙ p, rw c.remember-then-same-4.ensures.1 (known_kept c.args.anc.now c.args.types.now c.args.sets.now c.if-same-4.ensures.1 Same c.args.d c.args.a c.args.b c.if-d-eq0.false c.ranges.d.fits c.ranges.a.fits c.ranges.b.fits _ _ c.packed-then-same-4.ensures (sym p)))
 
 pub returns-else-effects : goal.returns-else-effects
 unfolding compared_in pick turned_of
-returns-else-effects t c = (other_effects c.args.anc.now c.args.types.now c.args.sets.now 0 c.args.d c.args.a c.args.b c.if-d-eq0.false c.at64-x.ensures c.at64-y.ensures c.heads.ensures c.if-heads.true c.byte_of.ensures c.in-19.is c.at64.ensures c.at64-in-19.ensures c.effects.ensures c.if-effects.false, c.requires)
+returns-else-effects t c = elim c.else-effects.branch [
+  | else-effects-via-then-effects+then-same-3+else-same-4 w ↦ (functions c.args.anc.now c.args.types.now c.args.sets.now Same c.args.d c.args.a c.args.b c.if-d-eq0.false c.get_or-x.ensures c.get_or-y.ensures c.if-not-heads.ensures refl c.byte_of.ensures c.first_of-p.ensures c.first_of-q.ensures c.in-19.is c.get_or-s.ensures c.get_or-t.ensures w.if-effects.ensures refl w.if-same-3.ensures.0 refl w.second_of-then-same-3.ensures w.second_of-then-same-3-2.ensures w.if-same-4.ensures.0, rw w.known-is w.if-same-4.ensures.1)
+  | else-effects-via-then-effects+else-same-3 w ↦ (functions_first c.args.anc.now c.args.types.now c.args.sets.now Same c.args.d c.args.a c.args.b c.if-d-eq0.false c.get_or-x.ensures c.get_or-y.ensures c.if-not-heads.ensures refl c.byte_of.ensures c.first_of-p.ensures c.first_of-q.ensures c.in-19.is c.get_or-s.ensures c.get_or-t.ensures w.if-effects.ensures refl w.if-same-3.ensures.0 refl, rw w.known-is w.if-same-3.ensures.1)
+  | else-effects-via-else-effects w ↦ (other_effects c.args.anc.now c.args.types.now c.args.sets.now Same c.args.d c.args.a c.args.b c.if-d-eq0.false c.get_or-x.ensures c.get_or-y.ensures c.if-not-heads.ensures refl c.byte_of.ensures c.in-19.is c.get_or-s.ensures c.get_or-t.ensures w.if-effects.ensures refl, rw w.known-is c.requires)
+]
 
 pub returns-in_default : goal.returns-in_default
-unfolding compared_in pick turned_of
-returns-in_default t c = (leaves c.args.anc.now c.args.types.now c.args.sets.now 0 c.args.d c.args.a c.args.b c.if-d-eq0.false c.at64-x.ensures c.at64-y.ensures c.heads.ensures c.if-heads.true c.byte_of.ensures c.in_default.in_default-own.rest.0.0.1 c.in_default.in_default-own.rest.0.1 c.in_default.in_default-own.rest.1 c.leaves.ensures, c.requires)
+unfolding compared_in pick
+returns-in_default t c = (leaves c.args.anc.now c.args.types.now c.args.sets.now Same c.args.d c.args.a c.args.b c.if-d-eq0.false c.get_or-x.ensures c.get_or-y.ensures c.if-not-heads.ensures refl c.byte_of.ensures (omega arith) (omega arith) (omega arith) c.leaves.ensures, c.requires)

@@ -3,4 +3,4 @@ use Rattle.exchange.proofs.put_counts.Goals as goal
 
 pub returns : goal.returns
 unfolding laid_counts
-returns c = simp (c.put64-5.ensures, c.put64-4.ensures, c.wide-4.ensures, c.put64-3.ensures, c.wide-3.ensures, c.put64-2.ensures, c.wide-2.ensures, c.put64.ensures, c.wide.ensures)
+returns c = simp (c.set_at-5.ensures, c.set_at-4.ensures, c.set_at-3.ensures, c.set_at-2.ensures, c.set_at.ensures)

@@ -11,8 +11,8 @@ use Rattle.initial.proofs.enabled_keys.Goals as goal
 pub loop-rest-init : goal.loop-rest-init
 loop-rest-init c = (no_key _ _, search rules)
 
-pub overflow_cast-i : goal.overflow_cast-i
-overflow_cast-i c = record { fits = omega (arith, trailing_le 64 c.loop-rest.rest) }
+pub overflow_cast-rest : goal.overflow_cast-rest
+overflow_cast-rest c = record { fits = omega (arith, trailing_le 64 c.loop-rest.rest) }
 
 pub loop-rest-smaller : goal.loop-rest-smaller
 loop-rest-smaller c = down_lt _ c.loop-rest-test.true

@@ -1,14 +1,14 @@
-use Rattle.initial.proofs.Jobs.{job_names, job_values, job_none, job_cmds}
+use native.Mathlib.Omega.{arith}
+use Rattle.std.proofs.lemmas.Bool.Decides.{nat_tests}
+use Rattle.order.specs.Bools.{◌and◌}
+use Rattle.initial.specs.Begun.{is_job}
 use Rattle.initial.proofs.is_job.Goals as goal
+use Rattle.initial.proofs.is_job.Goals.{then-nnames-le-MOST_DECLARED, else-nnames-le-MOST_DECLARED, then-nvalues-le-MOST_VARIABLES, else-nvalues-le-MOST_VARIABLES}
 
-pub returns-then-nnames-gt-MOST_DECLARED : goal.returns-then-nnames-gt-MOST_DECLARED
-returns-then-nnames-gt-MOST_DECLARED c = job_names _ _ _ c.if-nnames-gt-MOST_DECLARED.true
+pub returns-then-cmds-gt0 : goal.returns-then-cmds-gt0
+unfolding is_job ◌and◌
+returns-then-cmds-gt0 c = grind (arith, nat_tests)
 
-pub returns-then-nvalues-gt-MOST_VARIABLES : goal.returns-then-nvalues-gt-MOST_VARIABLES
-returns-then-nvalues-gt-MOST_VARIABLES c = job_values _ _ _ c.if-nnames-gt-MOST_DECLARED.false c.if-nvalues-gt-MOST_VARIABLES.true
-
-pub returns-then-cmds-eq0 : goal.returns-then-cmds-eq0
-returns-then-cmds-eq0 c = job_none _ _ _ c.if-nnames-gt-MOST_DECLARED.false c.if-nvalues-gt-MOST_VARIABLES.false c.if-cmds-eq0.true
-
-pub returns : goal.returns
-returns c = job_cmds _ _ _ c.if-nnames-gt-MOST_DECLARED.false c.if-nvalues-gt-MOST_VARIABLES.false c.if-cmds-eq0.false
+pub returns-else-cmds-gt0 : goal.returns-else-cmds-gt0
+unfolding is_job ◌and◌
+returns-else-cmds-gt0 c = grind (arith, nat_tests)

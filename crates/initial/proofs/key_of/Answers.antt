@@ -3,7 +3,7 @@ use Rattle.initial.proofs.Names.{key_at, key_past}
 use Rattle.initial.proofs.key_of.Goals as goal
 
 pub returns-then-i-n : goal.returns-then-i-n
-returns-then-i-n c = c.at8.ensures ∙ key_at _ _ _ c.if-i-n.true
+returns-then-i-n c = c.get_or.ensures ∙ key_at _ _ _ c.if-i-n.true
 
-pub returns : goal.returns
-returns c = key_past _ _ _ c.if-i-n.false
+pub returns-else-i-n : goal.returns-else-i-n
+returns-else-i-n c = key_past _ _ _ c.if-i-n.false

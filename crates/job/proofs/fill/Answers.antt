@@ -1,72 +1,67 @@
 use native.Mathlib.Omega.{arith}
-use borrow.Author.Rules.{rules}
-use mathlib.Core.Path.{refl, sym}
+use mathlib.Core.Path.{◌≡◌, sym, ap, ◌∙◌}
+use Prim.Native.Nat.{◌<◌, ◌-◌}
+use lib.ListN.{length}
+use borrow.Author.Tests.{eqb-true, eqb-false}
+use Rattle.std.specs.Prelude.{ℕ, List, Result, Ok, Err, MatchResult}
+use Rattle.std.specs.Borrow.{Bor}
+use Rattle.std.proofs.Common.{subst}
+use Rattle.std.proofs.lemmas.Grind.{common_steps}
+use Rattle.std.proofs.lemmas.Result.{err_from_is_err_and}
+use Rattle.entry.specs.declared.Entry.{Entry}
+use Rattle.entry.specs.Entries.{Judged}
 use Rattle.job.proofs.Going.{loop_first, loop_short, small_counts, rest_less}
-use Rattle.job.proofs.Turn.{stop_long, stop_here, go_on}
+use Rattle.job.proofs.Turn.{goes_on, here_refused, here_ended, here_followed, go_on}
 use Rattle.job.proofs.fill.Goals as goal
 
+-- what a command is read to, by its answer
+was_read : (J : Judged) (rest : List ℕ) (r : Result (Entry × Bor (List ℕ)) ℕ) (e : Entry) (next : Bor (List ℕ))
+    → MatchResult r (λ p. (J ≡ Ok p.0) × (p.1.now ≡ rest)) (λ n. J ≡ Err n) → Ok (e, next) ≡ r → (J ≡ Ok e) × (next.now ≡ rest)
+was_read J rest r e next m z = subst (λ (y : Result (Entry × Bor (List ℕ)) ℕ). MatchResult y (λ p. (J ≡ Ok p.0) × (p.1.now ≡ rest)) (λ n. J ≡ Err n)) (sym z) m
+
+was_refused : (J : Judged) (rest : List ℕ) (r : Result (Entry × Bor (List ℕ)) ℕ) (n : ℕ)
+    → MatchResult r (λ p. (J ≡ Ok p.0) × (p.1.now ≡ rest)) (λ n. J ≡ Err n) → Err n ≡ r → J ≡ Err n
+was_refused J rest r n m z = subst (λ (y : Result (Entry × Bor (List ℕ)) ℕ). MatchResult y (λ p. (J ≡ Ok p.0) × (p.1.now ≡ rest)) (λ n. J ≡ Err n)) (sym z) m
+
 pub loop-left-init : goal.loop-left-init
-loop-left-init c = record { loop = loop_first _ _ _ _ _ _ _ _ c.no_shape-g.ensures c.requires.slots_value c.requires.cleared; ancestors = c.ancestors-anc.ensures; two = refl; one = refl }
+loop-left-init c = record { loop = loop_first _ _ _ _ _ _ _ _ c.no_shape-g.ensures c.requires.slots_value c.requires.cleared; ancestors = c.ancestors-anc.ensures }
 
-pub slice_bounds-command-end : goal.slice_bounds-command-end
-slice_bounds-command-end c = sym c.loop-left.invariant.loop.depths
+pub returns-in_err-e : goal.returns-in_err-e
+returns-in_err-e c =
+    let some : 0 < length c.loop-left.left.now = omega (arith, eqb-false _ _ (sym c.loop-left-test.ensures)) in
+    let number_is : ◌≡◌ {A = Result (Entry × Bor (List ℕ)) ℕ} (Err (c.in_err-e.field-0.0).number) c.command.result = grind (arith, common_steps) in
+    let place_is : (c.in_err-e.field-0.0).place ≡ length c.args.job.now - length c.loop-left.left.now = grind (arith, common_steps) in
+    let p = err_from_is_err_and c.from_residual.result c.from_residual.ensures.1 in
+    rw (p.1, p.2) (here_refused c.loop-left.invariant some (sym (was_refused _ _ c.command.result _ c.command.ensures number_is)) place_is)
 
-pub command-next-requires : goal.command-next-requires
-command-next-requires c = small_counts c.loop-left.invariant.loop.going
+pub returns-then-left-eq1 : goal.returns-then-left-eq1
+returns-then-left-eq1 c =
+    let is : ◌≡◌ {A = Result (Entry × Bor (List ℕ)) ℕ} (Ok (c.in_ok-e.e, c.in_ok-e.next)) c.command.result = grind (arith, common_steps) in
+    let read = was_read _ _ c.command.result c.in_ok-e.e c.in_ok-e.next c.command.ensures is in
+    here_ended c.loop-left.invariant (ap Ok (sym c.in-Last.is) ∙ sym read.0) c.if-left-eq1.true
 
-pub overflow_sub-job : goal.overflow_sub-job
-overflow_sub-job c = omega (arith, c.loop-left.invariant.loop.within)
+pub returns-in-Last : goal.returns-in-Last
+returns-in-Last c =
+    let some : 0 < length c.loop-left.left.now = omega (arith, eqb-false _ _ (sym c.loop-left-test.ensures)) in
+    let is : ◌≡◌ {A = Result (Entry × Bor (List ℕ)) ℕ} (Ok (c.in_ok-e.e, c.in_ok-e.next)) c.command.result = grind (arith, common_steps) in
+    let read = was_read _ _ c.command.result c.in_ok-e.e c.in_ok-e.next c.command.ensures is in
+    here_followed c.loop-left.invariant some (ap Ok (sym c.in-Last.is) ∙ sym read.0) c.if-left-eq1.false
 
-pub stopped-requires : goal.stopped-requires
-stopped-requires c = search (rules, c.well_formed.0, c.loop-left.invariant.loop.within)
-
-pub shape_of-names-then-told-gt4 : goal.shape_of-names-then-told-gt4
-shape_of-names-then-told-gt4 c = (stop_long c.loop-left.invariant c.loop-left-test.true refl c.command-next.ensures.tables c.command-next.ensures.ancestors c.command-next.ensures.told_is c.command-next.ensures.rights_are c.if-told-gt4.true).names
-
-pub shape_of-types-then-told-gt4 : goal.shape_of-types-then-told-gt4
-shape_of-types-then-told-gt4 c = (stop_long c.loop-left.invariant c.loop-left-test.true refl c.command-next.ensures.tables c.command-next.ensures.ancestors c.command-next.ensures.told_is c.command-next.ensures.rights_are c.if-told-gt4.true).types
-
-pub shape_of-sets-then-told-gt4 : goal.shape_of-sets-then-told-gt4
-shape_of-sets-then-told-gt4 c = (stop_long c.loop-left.invariant c.loop-left-test.true refl c.command-next.ensures.tables c.command-next.ensures.ancestors c.command-next.ensures.told_is c.command-next.ensures.rights_are c.if-told-gt4.true).sets
-
-pub shape_of-values-then-told-gt4 : goal.shape_of-values-then-told-gt4
-shape_of-values-then-told-gt4 c = (stop_long c.loop-left.invariant c.loop-left-test.true refl c.command-next.ensures.tables c.command-next.ensures.ancestors c.command-next.ensures.told_is c.command-next.ensures.rights_are c.if-told-gt4.true).values
-
-pub shape_of-heads-then-told-gt4 : goal.shape_of-heads-then-told-gt4
-shape_of-heads-then-told-gt4 c = (stop_long c.loop-left.invariant c.loop-left-test.true refl c.command-next.ensures.tables c.command-next.ensures.ancestors c.command-next.ensures.told_is c.command-next.ensures.rights_are c.if-told-gt4.true).heads
-
-pub shape_of-slots-then-told-gt4 : goal.shape_of-slots-then-told-gt4
-shape_of-slots-then-told-gt4 c = (stop_long c.loop-left.invariant c.loop-left-test.true refl c.command-next.ensures.tables c.command-next.ensures.ancestors c.command-next.ensures.told_is c.command-next.ensures.rights_are c.if-told-gt4.true).slots
-
-pub returns-then-told-gt4 : goal.returns-then-told-gt4
-returns-then-told-gt4 c = stop_here c.loop-left.invariant c.loop-left-test.true refl c.command-next.ensures.tables c.command-next.ensures.ancestors c.command-next.ensures.told_is c.command-next.ensures.rights_are c.if-told-gt4.true _ c.stopped.ensures
-
-pub counted-more-requires : goal.counted-more-requires
-counted-more-requires c = small_counts c.loop-left.invariant.loop.going
+pub add-g-requires : goal.add-g-requires
+add-g-requires c = small_counts c.loop-left.invariant.loop.going
 
 pub loop-left-smaller : goal.loop-left-smaller
-loop-left-smaller c = rest_less _ _ c.command-next.ensures.rest_is c.loop-left-test.true
+loop-left-smaller c =
+    let some : 0 < length c.loop-left.left.now = omega (arith, eqb-false _ _ (sym c.loop-left-test.ensures)) in
+    let is : ◌≡◌ {A = Result (Entry × Bor (List ℕ)) ℕ} (Ok (c.in_ok-e.e, c.in_ok-e.next)) c.command.result = grind (arith, common_steps) in
+    rest_less _ _ (was_read _ _ c.command.result c.in_ok-e.e c.in_ok-e.next c.command.ensures is).1 some
 
 pub loop-left-preserved : goal.loop-left-preserved
-loop-left-preserved c = go_on c.loop-left.invariant c.loop-left-test.true refl c.command-next.ensures.tables c.command-next.ensures.ancestors c.command-next.ensures.told_is c.command-next.ensures.rights_are c.if-told-gt4.false c.counted-more.ensures refl c.command-next.ensures.rest_is
-
-pub shape_of-names : goal.shape_of-names
-shape_of-names c = c.loop-left.invariant.loop.names
-
-pub shape_of-types : goal.shape_of-types
-shape_of-types c = c.loop-left.invariant.loop.types
-
-pub shape_of-sets : goal.shape_of-sets
-shape_of-sets c = c.loop-left.invariant.loop.sets
-
-pub shape_of-values : goal.shape_of-values
-shape_of-values c = c.loop-left.invariant.loop.values
-
-pub shape_of-heads : goal.shape_of-heads
-shape_of-heads c = c.loop-left.invariant.loop.heads
-
-pub shape_of-slots : goal.shape_of-slots
-shape_of-slots c = c.loop-left.invariant.loop.slots
+loop-left-preserved c =
+    let some : 0 < length c.loop-left.left.now = omega (arith, eqb-false _ _ (sym c.loop-left-test.ensures)) in
+    let is : ◌≡◌ {A = Result (Entry × Bor (List ℕ)) ℕ} (Ok (c.in_ok-e.e, c.in_ok-e.next)) c.command.result = grind (arith, common_steps) in
+    let read = was_read _ _ c.command.result c.in_ok-e.e c.in_ok-e.next c.command.ensures is in
+    rw (read.1, c.of-cur.ensures) (go_on c.loop-left.invariant some (sym read.0) (goes_on _ c.in_default.not-Last) c.add-g.ensures.counts c.add-g.ensures.tables c.add-g.ensures.ancestors)
 
 pub returns : goal.returns
-returns c = loop_short _ _ _ _ _ _ _ _ _ _ _ _ _ _ _ _ _ c.loop-left.invariant.loop c.loop-left-test.false _ c.refused.ensures
+returns c = loop_short _ _ _ _ _ _ _ _ _ _ _ _ _ _ _ _ _ c.loop-left.invariant.loop (let none : length c.loop-left.left.now ≡ 0 = eqb-true _ _ (sym c.loop-left-test.ensures) in omega arith)

@@ -1,23 +1,20 @@
-use borrow.Author.Rules.{rules}
-use mathlib.Core.Path.{sym}
+use Rattle.std.proofs.Common.{rules, sym, ap, ◌∙◌, subst}
 use lib.Bits.{or_zero_l}
+use Rattle.order.specs.Sets.{members, set_of, keep}
+use Rattle.names.specs.declared.Members.{Members}
 use Rattle.names.specs.Ancestors.{reduce_by, maximal_by}
-use Rattle.names.proofs.Walk.{lowest_lt, down_lt, keep_turn, keep_end}
-use native.Mathlib.Omega.{arith}
+use Rattle.names.proofs.Walk.{Small, small_members, small_head, small_tail, keep_turn, keep_end}
 use Rattle.names.proofs.reduce.Goals as goal
 
-pub loop-rest-init : goal.loop-rest-init
+pub loop-n-init : goal.loop-n-init
 unfolding reduce_by
-loop-rest-init c = (sym (or_zero_l _), search rules)
+loop-n-init c = let e = ap (λ (m : Members). members m.0) (sym c.into_iter-n-iterator.ensures.into_iter_gives) in (ap (λ l. set_of (keep (maximal_by c.args.anc.now c.args.s) l)) e ∙ sym (or_zero_l _), subst Small e (small_members c.args.s (search rules)))
 
 pub maximal-requires : goal.maximal-requires
-maximal-requires c = omega (arith, c.low-n.ensures, lowest_lt _ c.loop-rest-test.true c.loop-rest.invariant.1)
+maximal-requires c = small_head c.in-Some.ensures.steps c.loop-n.invariant.1
 
-pub loop-rest-smaller : goal.loop-rest-smaller
-loop-rest-smaller c = down_lt _ c.loop-rest-test.true
-
-pub loop-rest-preserved : goal.loop-rest-preserved
-loop-rest-preserved c = (keep_turn (maximal_by c.args.anc.now c.args.s) c.loop-rest.acc c.loop-rest.rest c.loop-rest-test.true c.loop-rest.invariant.1 c.loop-rest.invariant.0 c.low-n.ensures c.maximal.ensures c.single_if-acc.ensures, omega (arith, down_lt c.loop-rest.rest c.loop-rest-test.true))
+pub loop-n-preserved : goal.loop-n-preserved
+loop-n-preserved c = (keep_turn (maximal_by c.args.anc.now c.args.s) _ c.loop-n.invariant.0 (small_head c.in-Some.ensures.steps c.loop-n.invariant.1) c.in-Some.ensures.steps c.maximal.ensures c.single_if-acc.ensures, small_tail c.in-Some.ensures.steps c.loop-n.invariant.1)
 
 pub returns : goal.returns
-returns c = keep_end _ _ _ c.loop-rest-test.false c.loop-rest.invariant.0
+returns c = keep_end _ _ c.loop-n.invariant.0 c.in-None.ensures.steps.0

@@ -1,12 +1,9 @@
-use Prim.Native.Nat.{◌<◌, ◌^◌}
-use mathlib.Core.Path.{◌≡◌}
+use Rattle.std.proofs.Common.{◌≡◌}
 use Rattle.order.specs.Sets.{members, set_of, keep}
-use lib.Bits.{bit_or}
+use Rattle.std.specs.Int.Bits.{bit_or}
 use Rattle.names.specs.Ancestors.{reduce_by, maximal_by}
+use Rattle.names.proofs.Walk.{Small}
 use Rattle.names.proofs.reduce.Given as goal
 
-abbrev pub invariant-loop-rest : goal.invariant-loop-rest
-invariant-loop-rest l = (reduce_by l.anc l.s ≡ bit_or l.acc (set_of (keep (maximal_by l.anc l.s) (members l.rest)))) × (l.rest < 2 ^ 64)
-
-abbrev pub decreases-loop-rest : goal.decreases-loop-rest
-decreases-loop-rest l = l.rest
+abbrev pub invariant-loop-n : goal.invariant-loop-n
+invariant-loop-n l = (reduce_by l.anc l.s ≡ bit_or l.acc (set_of (keep (maximal_by l.anc l.s) (members l.n-iterator.0)))) × Small (members l.n-iterator.0)

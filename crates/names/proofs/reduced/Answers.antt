@@ -1,25 +1,22 @@
-use borrow.Author.Rules.{rules}
-use mathlib.Core.Path.{refl}
-use Rattle.names.specs.Ancestors.{reduced_by}
-use Rattle.names.proofs.Walk.{lowest_lt, down_lt, all_on, all_off, all_end}
-use native.Mathlib.Omega.{arith}
+use Rattle.std.proofs.Common.{rules, sym, ap, subst}
+use Rattle.order.specs.Sets.{members, all_of}
+use Rattle.names.specs.declared.Members.{Members}
+use Rattle.names.specs.Ancestors.{reduced_by, maximal_by}
+use Rattle.names.proofs.Walk.{Small, small_members, small_head, small_tail, all_on, all_off, all_end}
 use Rattle.names.proofs.reduced.Goals as goal
 
-pub loop-rest-init : goal.loop-rest-init
+pub loop-n-init : goal.loop-n-init
 unfolding reduced_by
-loop-rest-init c = (refl, search rules)
+loop-n-init c = let e = ap (λ (m : Members). members m.0) (sym c.into_iter-n-iterator.ensures.into_iter_gives) in (ap (all_of (maximal_by c.args.anc.now c.args.s)) e, subst Small e (small_members c.args.s (search rules)))
 
 pub maximal-requires : goal.maximal-requires
-maximal-requires c = omega (arith, c.low.ensures, lowest_lt _ c.loop-rest-test.true c.loop-rest.invariant.1)
+maximal-requires c = small_head c.in-Some.ensures.steps c.loop-n.invariant.1
 
-pub returns-else-maximal : goal.returns-else-maximal
-returns-else-maximal c = all_off _ _ c.loop-rest-test.true c.loop-rest.invariant.1 c.loop-rest.invariant.0 c.low.ensures c.maximal.ensures c.if-maximal.false
+pub returns-then-not-maximal : goal.returns-then-not-maximal
+returns-then-not-maximal c = all_off _ c.loop-n.invariant.0 c.in-Some.ensures.steps c.maximal.ensures c.if-not-maximal.true
 
-pub loop-rest-smaller : goal.loop-rest-smaller
-loop-rest-smaller c = down_lt _ c.loop-rest-test.true
-
-pub loop-rest-preserved : goal.loop-rest-preserved
-loop-rest-preserved c = (all_on _ _ c.loop-rest-test.true c.loop-rest.invariant.1 c.loop-rest.invariant.0 c.low.ensures c.maximal.ensures c.if-maximal.true, omega (arith, down_lt c.loop-rest.rest c.loop-rest-test.true))
+pub loop-n-preserved : goal.loop-n-preserved
+loop-n-preserved c = (all_on _ c.loop-n.invariant.0 c.in-Some.ensures.steps c.maximal.ensures c.if-not-maximal.false, small_tail c.in-Some.ensures.steps c.loop-n.invariant.1)
 
 pub returns : goal.returns
-returns c = all_end _ _ c.loop-rest-test.false c.loop-rest.invariant.0
+returns c = all_end _ c.loop-n.invariant.0 c.in-None.ensures.steps.0

@@ -7,6 +7,6 @@ pub returns-then-set_ok : goal.returns-then-set_ok
 unfolding rights_ok_by ◌and◌
 returns-then-set_ok c = simp (names_in_length, ← c.set_ok.ensures, c.if-set_ok.true) c.all_host.ensures
 
-pub returns : goal.returns
+pub returns-else-set_ok : goal.returns-else-set_ok
 unfolding rights_ok_by ◌and◌
-returns c = simp (names_in_length, ← c.set_ok.ensures, c.if-set_ok.false)
+returns-else-set_ok c = simp (names_in_length, ← c.set_ok.ensures, c.if-set_ok.false)

@@ -6,6 +6,6 @@ pub returns-then-all_declared : goal.returns-then-all_declared
 unfolding set_ok_by ◌and◌
 returns-then-all_declared c = simp (← c.all_declared.ensures, c.if-all_declared.true) c.reduced.ensures
 
-pub returns : goal.returns
+pub returns-else-all_declared : goal.returns-else-all_declared
 unfolding set_ok_by ◌and◌
-returns c = simp (← c.all_declared.ensures, c.if-all_declared.false)
+returns-else-all_declared c = simp (← c.all_declared.ensures, c.if-all_declared.false)

@@ -13,6 +13,6 @@ returns c =
     let z = job_run J _ _ _ _ e (c.built-m.ensures _ ∙ ready_built y) in
     accepted_ran (tree_of c.args.types.now sets c.args.i) (of_word c.args.s)
     (c.ended.ensures (tree_of c.args.types.now sets c.args.i) (of_word c.args.s) _
-    (c.accepted-first.ensures ∙ ap (accepted_as (of_word c.args.s)) (sort_is c.args.types.now sets c.args.i _ _ c.type_sort-sort.ensures c.at64-w.ensures))
+    (c.accepted-first.ensures ∙ ap (accepted_as (of_word c.args.s)) (sort_is c.args.types.now sets c.args.i _ _ c.type_sort-sort.ensures c.get_or-w.ensures))
     z.some_thread z.ended)
     (ran_line_lem J _ _ _ _ e (c.built-m.ensures _ ∙ ready_built y) k)

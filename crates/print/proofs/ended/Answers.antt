@@ -1,7 +1,7 @@
 use mathlib.Core.Path.{ap, ◌∙◌}
 use Rattle.format.specs.Text.{no_room_as}
 use Rattle.machine.specs.View.{answer_in}
-use Rattle.print.proofs.Prints.{ended_with, with_spent, with_no_room, with_none, no_taken, no_stuck, no_denied}
+use Rattle.print.proofs.Prints.{ended_with, with_spent, with_no_room, quiet}
 use Rattle.print.proofs.ended.Goals as goal
 
 pub returns-in-Finished : goal.returns-in-Finished
@@ -11,13 +11,7 @@ pub returns-in-Spent : goal.returns-in-Spent
 returns-in-Spent c = λ T s fs f some_thread d. ended_with T s c.args.o fs _ _ c.in-Spent.is (with_spent T s _ _ _ _ _ _ f c.spent.ensures c.both.ensures)
 
 pub returns-in-NoRoom : goal.returns-in-NoRoom
-returns-in-NoRoom c = λ T s fs f some_thread d. ended_with T s c.args.o fs _ _ c.in-NoRoom.is (with_no_room T s _ _ _ _ _ _ f (c.no_room.ensures ∙ ap no_room_as c.at64.ensures) c.both-in-NoRoom.ensures)
+returns-in-NoRoom c = λ T s fs f some_thread d. ended_with T s c.args.o fs _ _ c.in-NoRoom.is (with_no_room T s _ _ _ _ _ _ f (c.no_room.ensures ∙ ap no_room_as c.get_or.ensures) c.both-in-NoRoom.ensures)
 
 pub returns-in-Taken : goal.returns-in-Taken
-returns-in-Taken c = λ T s fs f some_thread d. ended_with T s c.args.o fs _ _ c.in-Taken.is (with_none T s _ _ f (no_taken _ _ _))
-
-pub returns-in-Stuck : goal.returns-in-Stuck
-returns-in-Stuck c = λ T s fs f some_thread d. ended_with T s c.args.o fs _ _ c.in-Stuck.is (with_none T s _ _ f (no_stuck _ _ _))
-
-pub returns-in-Denied : goal.returns-in-Denied
-returns-in-Denied c = λ T s fs f some_thread d. ended_with T s c.args.o fs _ _ c.in-Denied.is (with_none T s _ _ f (no_denied _ _ _))
+returns-in-Taken c = λ T s fs f some_thread d. quiet T s c.args.o fs _ c.in-Taken.is f

@@ -5,4 +5,4 @@ use Rattle.results.proofs.hand_over.Goals as goal
 
 pub returns : goal.returns
 unfolding value_words value_of
-returns c = record { value = c.put_value.ensures; cells = cells_told c.args.m _ _ c.cap-used.ensures.0 c.put_cells.ensures }
+returns c = record { value = c.put_value.ensures; cells = cells_told c.args.m _ _ c.cap.ensures.0 c.put_cells.ensures }

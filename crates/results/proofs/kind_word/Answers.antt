@@ -1,26 +1,22 @@
+use Prim.Native.Nat.{ℕ, ◌+◌}
+use mathlib.Core.Path.{◌≡◌, refl}
+use denote.Enum.Declared.{tag_of}
+use Rattle.store.specs.contracts.Kind.{the_type}
+use Rattle.store.specs.declared.Kind.{Kind}
+use Rattle.store.specs.declared.Kind.TheVariants as kinds
+use Rattle.store.specs.Meaning.{kind_in}
 use Rattle.results.specs.Values.{kind_no}
 use Rattle.results.proofs.kind_word.Goals as goal
 
-pub returns-in-Number : goal.returns-in-Number
+-- the variants stand in the order of the numbers
+in_order : (k : Kind) (n : ℕ) → tag_of the_type k + 1 ≡ kind_no (kind_in k n)
 unfolding kind_no
-returns-in-Number c = λ n. simp c.in-Number.is
+in_order kinds.Number n = refl
+in_order kinds.Pair n = refl
+in_order kinds.Cell n = refl
+in_order kinds.Function n = refl
+in_order kinds.Limit n = refl
+in_order kinds.Grant n = refl
 
-pub returns-in-Pair : goal.returns-in-Pair
-unfolding kind_no
-returns-in-Pair c = λ n. simp c.in-Pair.is
-
-pub returns-in-Cell : goal.returns-in-Cell
-unfolding kind_no
-returns-in-Cell c = λ n. simp c.in-Cell.is
-
-pub returns-in-Function : goal.returns-in-Function
-unfolding kind_no
-returns-in-Function c = λ n. simp c.in-Function.is
-
-pub returns-in-Limit : goal.returns-in-Limit
-unfolding kind_no
-returns-in-Limit c = λ n. simp c.in-Limit.is
-
-pub returns-in-Grant : goal.returns-in-Grant
-unfolding kind_no
-returns-in-Grant c = λ n. simp c.in-Grant.is
+pub returns : goal.returns
+returns c = in_order c.args.k

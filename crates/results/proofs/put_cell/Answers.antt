@@ -7,8 +7,5 @@ shape_of-cells-then-i-used c = c.cells-1.given
 pub returns-then-i-used : goal.returns-then-i-used
 returns-then-i-used c = cell_there _ _ _ c.cell_at-v.result _ _ c.if-i-used.true c.cell_at-v.ensures (c.kind_word.ensures _) c.payload_word.ensures c.put_two.ensures
 
-pub shape_of-cells : goal.shape_of-cells
-shape_of-cells c = c.cells-2-1.given
-
-pub returns : goal.returns
-returns c = cell_none _ _ _ c.if-i-used.false c.put_two-2.ensures
+pub returns-else-i-used : goal.returns-else-i-used
+returns-else-i-used c = cell_none _ _ _ c.if-i-used.false c.put_two-else-i-used.ensures

@@ -1,18 +1,8 @@
-use native.Mathlib.Omega.{arith}
 use Rattle.results.proofs.Values.{writing_start, writing_on, writing_end}
 use Rattle.results.proofs.put_cells.Goals as goal
 
 pub loop-i-init : goal.loop-i-init
 loop-i-init c = writing_start _ _
-
-pub put_cell-requires : goal.put_cell-requires
-put_cell-requires c = c.loop-i-test.true
-
-pub overflow_add-i : goal.overflow_add-i
-overflow_add-i c = omega arith
-
-pub loop-i-smaller : goal.loop-i-smaller
-loop-i-smaller c = omega arith
 
 pub loop-i-preserved : goal.loop-i-preserved
 loop-i-preserved c = writing_on _ c.loop-i-test.true c.cells-1.given c.put_cell.ensures c.loop-i.invariant

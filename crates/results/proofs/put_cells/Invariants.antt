@@ -1,5 +1,3 @@
-use Prim.Native.Nat.{◌-◌}
-use Rattle.semantics.specs.Machine.{most_cells}
 use Rattle.store.specs.Words.{cell_in}
 use Rattle.store.specs.Tables.{list_of}
 use Rattle.results.proofs.Values.{Writing}
@@ -7,6 +5,3 @@ use Rattle.results.proofs.put_cells.Given as goal
 
 abbrev pub invariant-loop-i : goal.invariant-loop-i
 invariant-loop-i l = Writing (list_of cell_in l.table l.used) l.initial.cells l.cells l.i
-
-abbrev pub decreases-loop-i : goal.decreases-loop-i
-decreases-loop-i l = most_cells - l.i

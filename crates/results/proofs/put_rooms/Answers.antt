@@ -4,15 +4,15 @@ use Rattle.results.proofs.put_rooms.Goals as goal
 pub returns : goal.returns
 returns c =
     counted _ _ _ _
-    c.cap-cells.ensures.0
-    c.cap-keys.ensures.0
-    c.cap-pairs.ensures.0
-    c.cap-functions.ensures.0
-    c.cap-bindings.ensures.0
-    c.put64.ensures
-    c.put64-2.ensures
-    c.put64-3.ensures
-    c.put64-4.ensures
-    c.put64-5.ensures
-    c.put64-6.ensures
-    c.put64-7.ensures
+    c.cap.ensures.0
+    c.cap-2.ensures.0
+    c.cap-3.ensures.0
+    c.cap-4.ensures.0
+    c.cap-5.ensures.0
+    c.set_at.ensures
+    c.set_at-2.ensures
+    c.set_at-3.ensures
+    c.set_at-4.ensures
+    c.set_at-5.ensures
+    c.set_at-6.ensures
+    c.set_at-7.ensures

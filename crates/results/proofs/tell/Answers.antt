@@ -1,8 +1,12 @@
-use Rattle.results.proofs.Told.{tells_accepted, tells_refused}
+use mathlib.Core.Path.{refl, ◌∙◌}
+use Rattle.calls.proofs.Laws.{sets_over}
+use Rattle.results.specs.Told.{number_for, out_words}
 use Rattle.results.proofs.tell.Goals as goal
 
-pub returns-in-Accepted : goal.returns-in-Accepted
-returns-in-Accepted c = let asked = tells_accepted _ _ _ _ c.in-Accepted.is c.wide16.ensures c.put_two.ensures in record { number = asked.0; written = asked.1 }
+pub returns-in-Ok : goal.returns-in-Ok
+unfolding number_for out_words
+returns-in-Ok c = rw c.in-Ok.is (record { number = refl; written = c.put_two.ensures.same ∙ sets_over _ _ })
 
-pub returns-in-Refused : goal.returns-in-Refused
-returns-in-Refused c = let asked = tells_refused _ _ _ _ c.in-Refused.is c.wide8.ensures c.wide.ensures c.put_two-in-Refused.ensures in record { number = asked.0; written = asked.1 }
+pub returns-in-Err : goal.returns-in-Err
+unfolding number_for out_words
+returns-in-Err c = rw c.in-Err.is (record { number = refl; written = c.put_two-in-Err.ensures.same ∙ sets_over _ _ })

@@ -1,7 +1,7 @@
 use Rattle.sheet.proofs.Replies.{whole_sheet}
 use Rattle.sheet.proofs.reply.Goals as goal
 
-pub returns-then-whole : goal.returns-then-whole
-returns-then-whole c =
-    let told = whole_sheet _ _ _ _ _ c.if-whole.true c.requires c.sheet-told.ensures in
+pub returns-in-Ok : goal.returns-in-Ok
+returns-in-Ok c =
+    let told = whole_sheet _ _ _ _ _ _ c.in-Ok.is c.requires.room c.sheet-listing.ensures in
     record { len = told.0; sheet = told.1 }

@@ -3,4 +3,4 @@ use Rattle.start.proofs.built.Goals as goal
 
 pub returns : goal.returns
 unfolding built_from
-returns c = λ fs. c.machine_of.ensures _ fs c.tables-b.ensures
+returns c = λ fs. c.machine_of.ensures _ fs c.tables.ensures

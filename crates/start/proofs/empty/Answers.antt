@@ -5,4 +5,4 @@ use Rattle.start.proofs.Tables.{none_built}
 use Rattle.start.proofs.empty.Goals as goal
 
 pub returns : goal.returns
-returns c = λ fs. c.built.ensures fs ∙ ap (λ (g : Shape). built_from g _ _ _) c.no_shape-g.ensures ∙ none_built _ _ _
+returns c = λ fs. c.built.ensures fs ∙ ap (λ (g : Shape). built_from g _ _ _) c.no_shape.ensures ∙ none_built _ _ _

@@ -3,4 +3,4 @@ use Rattle.store.proofs.cell_at.Goals as goal
 
 pub returns : goal.returns
 unfolding cell_in
-returns c = simp (← c.at64.ensures) c.unpack.ensures
+returns c = simp (← c.get_or.ensures) c.unpack.ensures

@@ -3,4 +3,4 @@ use Rattle.store.proofs.closure_at.Goals as goal
 
 pub returns : goal.returns
 unfolding function_in
-returns c = simp (← c.at64-w.ensures)
+returns c = simp (← c.get_or-w.ensures)

@@ -1,13 +1,13 @@
-use mathlib.Core.Path.{sym}
+use Rattle.std.proofs.Common.{sym, ◌∙◌, rules}
+use borrow.Author.Tests.{le-ltb}
 use Rattle.store.proofs.Sets.{has_low, has_high, has_none}
-use borrow.Author.Rules.{rules}
 use Rattle.store.proofs.has.Goals as goal
 
-pub returns-then-i-lt-SECOND : goal.returns-then-i-lt-SECOND
-returns-then-i-lt-SECOND c = has_low c.args.on _ c.if-i-lt-SECOND.true
+pub returns-then-k-lt-SECOND : goal.returns-then-k-lt-SECOND
+returns-then-k-lt-SECOND c = has_low c.args.on _ c.if-k-lt-SECOND.true
 
-pub returns-then-i-lt-ALL_KEYS : goal.returns-then-i-lt-ALL_KEYS
-returns-then-i-lt-ALL_KEYS c = has_high c.args.on _ (search rules) c.if-i-lt-SECOND.false
+pub returns-then-k-lt-ALL_KEYS : goal.returns-then-k-lt-ALL_KEYS
+returns-then-k-lt-ALL_KEYS c = has_high c.args.on _ (search rules) c.if-k-lt-SECOND.false
 
-pub returns : goal.returns
-returns c = sym (has_none c.args.on _ (search rules) (search rules) c.if-i-lt-ALL_KEYS.false)
+pub returns-else-k-lt-ALL_KEYS : goal.returns-else-k-lt-ALL_KEYS
+returns-else-k-lt-ALL_KEYS c = le-ltb _ _ c.if-k-lt-ALL_KEYS.false ∙ sym (has_none c.args.on _ (search rules) (search rules) c.if-k-lt-ALL_KEYS.false)

@@ -3,4 +3,4 @@ use Rattle.store.proofs.head_at.Goals as goal
 
 pub returns : goal.returns
 unfolding head_at
-returns c = simp (c.at64-2.ensures, c.at64.ensures, c.at64-w.ensures)
+returns c = simp (c.get_or-2.ensures, c.get_or.ensures, c.get_or-w.ensures)

@@ -5,4 +5,4 @@ use Rattle.store.proofs.held_at.Goals as goal
 
 pub returns : goal.returns
 unfolding held_in
-returns c = ap word_in c.at64.ensures
+returns c = ap word_in c.get_or.ensures

@@ -4,4 +4,4 @@ use borrow.Author.Rules.{rules}
 use Rattle.store.proofs.pack.Goals as goal
 
 pub returns : goal.returns
-returns c = packed c.args.v _ _ _ c.word.ensures (search rules) c.kind_number-tag.ensures.1 (search rules) refl (c.kind_number-tag.ensures.0 _)
+returns c = packed c.args.v _ _ _ c.word.ensures (search rules) c.kind_number.ensures.1 (search rules) refl (c.kind_number.ensures.0 _)

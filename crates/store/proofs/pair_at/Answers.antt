@@ -3,4 +3,4 @@ use Rattle.store.proofs.pair_at.Goals as goal
 
 pub returns : goal.returns
 unfolding pair_in
-returns c = simp (← c.unpack-b.ensures, ← c.at64-2.ensures, ← c.unpack-a.ensures, ← c.at64.ensures)
+returns c = simp (← c.unpack-2.ensures, ← c.get_or-2.ensures, ← c.unpack.ensures, ← c.get_or.ensures)

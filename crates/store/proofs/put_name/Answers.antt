@@ -4,4 +4,4 @@ use borrow.Author.Rules.{rules}
 use Rattle.store.proofs.put_name.Goals as goal
 
 pub returns : goal.returns
-returns c = name_put _ _ _ _ _ _ 1024 (search rules) (record { same = c.put64.ensures }) (record { same = c.put64-2.ensures }) _ _ _ c.triple-w.ensures (search rules) (search rules) refl (search rules)
+returns c = name_put _ _ _ _ _ _ 1024 (search rules) (record { same = c.set_at.ensures }) (record { same = c.set_at-2.ensures }) _ _ _ c.triple.ensures (search rules) (search rules) refl (search rules)

@@ -3,4 +3,4 @@ use borrow.Author.Rules.{rules}
 use Rattle.store.proofs.put_pair.Goals as goal
 
 pub returns : goal.returns
-returns c = pair_put _ _ _ _ _ _ 512 (search rules) (record { same = c.put64.ensures }) (record { same = c.put64-2.ensures }) _ c.pack-a.ensures c.pack-b.ensures
+returns c = pair_put _ _ _ _ _ _ 512 (search rules) (record { same = c.set_at.ensures }) (record { same = c.set_at-2.ensures }) _ c.pack.ensures c.pack-2.ensures

@@ -3,4 +3,4 @@ use borrow.Author.Rules.{rules}
 use Rattle.store.proofs.put_up.Goals as goal
 
 pub returns : goal.returns
-returns c = up_put _ _ _ _ 128 (search rules) (record { same = c.put8.ensures })
+returns c = up_put _ _ _ _ 128 (search rules) (record { same = c.set_at.ensures })

@@ -3,4 +3,4 @@ use Rattle.store.proofs.unpack.Goals as goal
 
 pub returns : goal.returns
 unfolding word_in
-returns c = simp c.kind_of-kind.ensures
+returns c = simp c.kind_of.ensures

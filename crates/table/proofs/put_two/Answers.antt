@@ -10,4 +10,4 @@ two_put : (s m k : List ℕ) (at x y : ℕ) → m ≡ set s at x → k ≡ set m
 two_put s m k at x y g h = let e : at + 1 ≡ suc at = omega arith in record { same = h ∙ ap (λ (z : List ℕ). set z (at + 1) y) g ∙ ap (λ (i : ℕ). set (set s at x) i y) e }
 
 pub returns : goal.returns
-returns c = two_put _ _ _ _ _ _ c.put64.ensures c.put64-2.ensures
+returns c = two_put _ _ _ _ _ _ c.set_at.ensures c.set_at-2.ensures

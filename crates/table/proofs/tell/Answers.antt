@@ -1,4 +1,4 @@
-use mathlib.Core.Path.{◌≡◌, ap, ◌∙◌}
+use mathlib.Core.Path.{◌≡◌, refl, ap, ◌∙◌}
 use Prim.Native.Nat.{ℕ}
 use mathlib.Core.List.{List}
 use lib.ListN.{set}
@@ -10,4 +10,4 @@ word_told : {n word r x : ℕ} {o o' : List ℕ} → r ≡ n → o' ≡ set o 0 
 word_told {o = o} e z y = record { number = e; told = z ∙ ap (set o 0) y }
 
 pub returns : goal.returns
-returns c = word_told c.wide8.ensures c.put64.ensures c.wide.ensures
+returns c = word_told c.from.ensures c.set_at.ensures refl

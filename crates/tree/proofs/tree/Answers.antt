@@ -1,6 +1,4 @@
-use mathlib.Core.Path.{sym, ◌∙◌}
-use mathlib.Core.Bool.{true≢false}
-use native.Mathlib.Omega.{arith}
+use Rattle.std.proofs.Common.{sym, ◌∙◌, true≢false, arith}
 use Rattle.tree.specs.Passes.{tree_by}
 use Rattle.syntax.specs.Tree.{numbered}
 use Rattle.tree.specs.Right.{table_right}
@@ -14,8 +12,8 @@ pub returns-then-in_limits : goal.returns-then-in_limits
 unfolding tree_by
 returns-then-in_limits c = record { job = (λ J ok h. c.table_check.ensures ∙ table_right J ok _ _ _ _ _ _ _ _ _ h); always = simp (sym c.in_limits.ensures ∙ c.if-in_limits.true) c.table_check.ensures }
 
-pub returns : goal.returns
+pub returns-else-in_limits : goal.returns-else-in_limits
 unfolding tree_by numbered
-returns c =
+returns-else-in_limits c =
     let left = sym c.in_limits.ensures ∙ c.if-in_limits.false in
     record { job = (λ J ok h. absurd (true≢false (sym (in_limits_lem _ _ _ (omega (arith, h.cmds_are, ok.some_cmds)) (omega (arith, h.cmds_are, ok.few_cmds)) (omega (arith, h.names_are, ok.few_names)) (omega (arith, h.types_are, ok.few_types))) ∙ left))); always = simp left }

@@ -1,12 +1,7 @@
-use Prim.Native.Nat.{◌≤◌, ◌-◌}
-use mathlib.Core.Path.{◌≡◌}
-use mathlib.Core.Bool.{true, false}
+use Rattle.std.proofs.Common.{◌≡◌, ◌-◌, true, false}
 use Rattle.syntax.specs.Tree.{first_bad}
 use Rattle.uses.specs.Passes.{before, is_new}
 use Rattle.uses.proofs.rebound.Given as goal
 
 abbrev pub invariant-loop-e : goal.invariant-loop-e
-invariant-loop-e l = (l.e ≤ l.cmds) × (l.vars ≡ before false l.heads l.e) × (l.locals ≡ before true l.heads l.e) × (first_bad (is_new l.heads) 0 l.cmds ≡ first_bad (is_new l.heads) l.e (l.cmds - l.e))
-
-abbrev pub decreases-loop-e : goal.decreases-loop-e
-decreases-loop-e l = l.cmds - l.e
+invariant-loop-e l = (l.vars ≡ before false l.heads l.e) × (l.locals ≡ before true l.heads l.e) × (first_bad (is_new l.heads) 0 l.cmds ≡ first_bad (is_new l.heads) l.e (l.cmds - l.e))

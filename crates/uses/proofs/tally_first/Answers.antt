@@ -1,25 +1,8 @@
-use mathlib.Core.Path.{refl}
-use native.Mathlib.Omega.{arith}
 use Rattle.uses.proofs.Places.{tally_next, first_end}
 use Rattle.uses.proofs.tally_first.Goals as goal
 
-pub loop-i-init : goal.loop-i-init
-loop-i-init c = (omega arith, refl)
-
-pub overflow_sub-i : goal.overflow_sub-i
-overflow_sub-i c = omega arith
-
-pub overflow_mul-e : goal.overflow_mul-e
-overflow_mul-e c = omega arith
-
-pub overflow_add-e : goal.overflow_add-e
-overflow_add-e c = omega arith
-
-pub loop-i-smaller : goal.loop-i-smaller
-loop-i-smaller c = omega arith
-
 pub loop-i-preserved : goal.loop-i-preserved
-loop-i-preserved c = (omega arith, tally_next _ _ _ _ c.loop-i-test.true c.at16.ensures c.tally.ensures c.loop-i.invariant.1)
+loop-i-preserved c = tally_next _ _ _ _ c.loop-i-test.true c.get_or.ensures c.tally.ensures c.loop-i.invariant
 
 pub returns : goal.returns
-returns c = first_end _ _ _ c.loop-i-test.false c.loop-i.invariant.1
+returns c = first_end _ _ _ c.loop-i-test.false c.loop-i.invariant

@@ -12,9 +12,9 @@ overflow_add-count c = omega (arith, c.loop-v.invariant.few, c.loop-v-test.true)
 pub loop-v-preserved : goal.loop-v-preserved
 loop-v-preserved c =
     elim c.if-carries.branch [
-      | then-carries w ↦ count_hit _ _ _ _ _ _ _ _ _ _ c.loop-v.invariant c.loop-v-test.true c.at64-w.ensures c.at64.ensures c.carries.ensures w.if-carries.true w.count-is
-      | else-carries w ↦ count_miss _ _ _ _ _ _ _ _ _ _ c.loop-v.invariant c.loop-v-test.true c.at64-w.ensures c.at64.ensures c.carries.ensures w.if-carries.false w.count-is
+      | then-carries w ↦ count_hit _ _ _ _ _ _ _ _ _ _ c.loop-v.invariant c.loop-v-test.true c.get_or-w.ensures c.get_or.ensures c.carries.ensures w.if-carries.true w.count-is
+      | else-carries w ↦ count_miss _ _ _ _ _ _ _ _ _ _ c.loop-v.invariant c.loop-v-test.true c.get_or-w.ensures c.get_or.ensures c.carries.ensures w.if-carries.false w.count-is
     ]
 
 pub returns : goal.returns
-returns c = count_end _ _ _ _ _ _ c.loop-v.invariant c.loop-v-test.false
+returns c = count_end _ _ _ _ _ _ c.loop-v.invariant (omega arith)

@@ -5,29 +5,14 @@ use Rattle.wall.proofs.lines.Goals as goal
 pub loop-k-init : goal.loop-k-init
 loop-k-init c = lines_first _ _ _ _
 
-pub overflow_add-k : goal.overflow_add-k
-overflow_add-k c = omega (arith, c.loop-k-test.true, c.requires.0)
-
-pub overflow_add-k-in-loop-k : goal.overflow_add-k-in-loop-k
-overflow_add-k-in-loop-k c = omega (arith, c.loop-k-test.true, c.requires.0)
-
-pub overflow_cast-k : goal.overflow_cast-k
-overflow_cast-k c = omega (arith, c.loop-k-test.true, c.requires.0)
-
 pub put_name-at-requires : goal.put_name-at-requires
 put_name-at-requires c = lines_room _ _ _ _ c.loop-k.invariant c.loop-k-test.true c.requires.0 c.requires.1
 
-pub overflow_add-k-in-loop-k-2 : goal.overflow_add-k-in-loop-k-2
-overflow_add-k-in-loop-k-2 c = omega (arith, c.loop-k-test.true, c.requires.0)
-
-pub loop-k-smaller : goal.loop-k-smaller
-loop-k-smaller c = omega (arith, c.loop-k-test.true)
-
 pub loop-k-preserved : goal.loop-k-preserved
-loop-k-preserved c = lines_next _ _ _ _ _ _ _ _ _ _ c.loop-k.invariant c.loop-k-test.true c.at16-w.ensures c.put_name-at.ensures
+loop-k-preserved c = lines_next _ _ _ _ _ _ _ _ _ _ c.loop-k.invariant c.loop-k-test.true c.get_or-w.ensures c.put_name-at.ensures
 
 pub shape_of-text : goal.shape_of-text
 shape_of-text c = lines_length _ _ _ _ c.loop-k.invariant c.requires.0 c.requires.1
 
 pub returns : goal.returns
-returns c = lines_all _ _ _ _ _ _ _ _ _ _ c.ancestors-anc.ensures c.loop-k.invariant c.loop-k-test.false
+returns c = lines_all _ _ _ _ _ _ _ _ _ _ c.ancestors-anc.ensures c.loop-k.invariant (omega arith)

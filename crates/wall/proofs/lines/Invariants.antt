@@ -1,4 +1,3 @@
-use Prim.Native.Nat.{◌-◌}
 use Rattle.initial.specs.Entries.{values_from}
 use Rattle.wall.specs.Listed.{row_by}
 use Rattle.wall.proofs.Texts.{Lining}
@@ -6,6 +5,3 @@ use Rattle.wall.proofs.lines.Given as goal
 
 abbrev pub invariant-loop-k : goal.invariant-loop-k
 invariant-loop-k l = Lining (row_by l.anc (values_from l.types l.values 0 l.m) l.effect) l.names l.initial.text l.text l.n l.at l.k
-
-abbrev pub decreases-loop-k : goal.decreases-loop-k
-decreases-loop-k l = l.n - l.k

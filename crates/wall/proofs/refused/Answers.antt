@@ -1,4 +1,4 @@
-use mathlib.Core.Path.{◌≡◌, sym}
+use mathlib.Core.Path.{◌≡◌, refl, sym}
 use lib.ListN.{length}
 use lib.Seq.{length-take-le}
 use Rattle.wall.proofs.Texts.{text_short, text_laid}
@@ -12,4 +12,4 @@ pub slice_bounds-copy-end : goal.slice_bounds-copy-end
 slice_bounds-copy-end c = let h : length c.refused-said.result.bytes ≡ 128 = search rules in sym (length-take-le _ _ (text_short _ _ h c.refused-said.ensures))
 
 pub returns : goal.returns
-returns c = let h : length c.refused-said.result.bytes ≡ 128 = search rules in text_laid _ _ _ _ _ _ h c.wide.ensures c.refused-said.ensures c.requires c.copy.ensures
+returns c = let h : length c.refused-said.result.bytes ≡ 128 = search rules in text_laid _ _ _ _ _ _ h refl c.refused-said.ensures c.requires c.copy.ensures

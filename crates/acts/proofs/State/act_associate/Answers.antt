@@ -11,11 +11,11 @@ pub returns-in_default : goal.returns-in_default
 unfolding act_assoc
 returns-in_default c = λ w. simp (c.stop.ensures, not_limit c.args.limit.kind (opened c.in_default.in_default-own.keys2))
 
-pub returns-else-touch : goal.returns-else-touch
-returns-else-touch c = λ w. is_denied _ _ _ c.stop-else-touch.ensures (assoc_first c.args.back (put_keys w c.args.keys.now) (value_in c.args.value) (value_in c.args.limit) (of_kind _ c.in-Limit.is) c.touch.ensures c.if-touch.false)
+pub returns-then-not-touch : goal.returns-then-not-touch
+returns-then-not-touch c = λ w. is_denied _ _ _ c.stop-then-not-touch.ensures (assoc_first c.args.back (put_keys w c.args.keys.now) (value_in c.args.value) (value_in c.args.limit) (of_kind _ c.in-Limit.is) c.touch.ensures c.if-not-touch.true)
 
-pub returns-else-touch-2 : goal.returns-else-touch-2
-returns-else-touch-2 c = λ w. is_denied _ _ _ c.stop-else-touch-2.ensures (assoc_second c.args.back (put_keys w c.args.keys.now) (value_in c.args.value) (value_in c.args.limit) (of_kind _ c.in-Limit.is) c.touch.ensures c.if-touch.true c.touch-2.ensures c.if-touch-2.false)
+pub returns-then-not-touch-2 : goal.returns-then-not-touch-2
+returns-then-not-touch-2 c = λ w. is_denied _ _ _ c.stop-then-not-touch-2.ensures (assoc_second c.args.back (put_keys w c.args.keys.now) (value_in c.args.value) (value_in c.args.limit) (of_kind _ c.in-Limit.is) c.touch.ensures c.if-not-touch.false c.touch-2.ensures c.if-not-touch-2.true)
 
 pub returns : goal.returns
-returns c = λ w. gave _ _ _ _ _ c.give.ensures (associated c.args.back (put_keys w c.args.keys.now) (value_in c.args.value) (value_in c.args.limit) (of_kind _ c.in-Limit.is) c.touch.ensures c.if-touch.true c.touch-2.ensures c.if-touch-2.true c.key_in-j.ensures)
+returns c = λ w. gave _ _ _ _ _ c.give.ensures (associated c.args.back (put_keys w c.args.keys.now) (value_in c.args.value) (value_in c.args.limit) (of_kind _ c.in-Limit.is) c.touch.ensures c.if-not-touch.false c.touch-2.ensures c.if-not-touch-2.false c.key_in.ensures)

@@ -11,8 +11,8 @@ pub returns-in_default : goal.returns-in_default
 unfolding act_grant
 returns-in_default c = λ w. simp (c.stop.ensures, not_grant c.args.x.kind (opened c.in_default.in_default-own.keys2))
 
-pub returns-else-touch : goal.returns-else-touch
-returns-else-touch c = λ w. is_denied _ _ _ c.stop-else-touch.ensures (grant_denied c.args.back (put_keys w c.args.keys.now) c.args.body.0 (value_in c.args.x) (of_kind _ c.in-Grant.is) c.touch.ensures c.if-touch.false)
+pub returns-then-not-touch : goal.returns-then-not-touch
+returns-then-not-touch c = λ w. is_denied _ _ _ c.stop-then-not-touch.ensures (grant_denied c.args.back (put_keys w c.args.keys.now) c.args.body.0 (value_in c.args.x) (of_kind _ c.in-Grant.is) c.touch.ensures c.if-not-touch.true)
 
 pub returns : goal.returns
-returns c = λ w. goes _ _ _ _ _ _ _ c.go.ensures (granted c.args.back (put_keys w c.args.keys.now) c.args.body.0 (value_in c.args.x) (of_kind _ c.in-Grant.is) c.touch.ensures _ c.if-touch.true c.key_in-j.ensures c.add-more.ensures)
+returns c = λ w. goes _ _ _ _ _ _ _ c.go.ensures (granted c.args.back (put_keys w c.args.keys.now) c.args.body.0 (value_in c.args.x) (of_kind _ c.in-Grant.is) c.touch.ensures _ c.if-not-touch.false c.key_in.ensures c.add-more.ensures)

@@ -1,6 +1,6 @@
-use native.Mathlib.Omega.{arith}
-use Rattle.encode.proofs.Laying.{push_two}
+use mathlib.Core.Path.{◌∙◌}
+use Rattle.encode.proofs.Laying.{pushed_as, bytes_two}
 use Rattle.encode.proofs.push.push16.Goals as goal
 
 pub returns : goal.returns
-returns c = push_two _ _ _ (omega (arith, c.ranges.x))
+returns c = pushed_as (c.to_le_bytes.ensures ∙ bytes_two _) c.push.ensures

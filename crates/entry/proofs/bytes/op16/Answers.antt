@@ -1,12 +1,7 @@
-use Rattle.entry.proofs.Leaves.{part_width}
-use Rattle.entry.specs.Bytes.{field_at}
-use borrow.Author.Tests.{le-leb, lt-leb}
+use mathlib.Core.Path.{◌∙◌}
+use Rattle.std.specs.Int.{from_le_bytes, w16}
+use Rattle.entry.proofs.Leaves.{little_two, field_read}
 use Rattle.entry.proofs.bytes.op16.Goals as goal
 
-pub returns-then-end-job : goal.returns-then-end-job
-unfolding field_at
-returns-then-end-job c = simp (part_width, le-leb _ _ c.if-end-job.true, c.low16.ensures)
-
-pub returns : goal.returns
-unfolding field_at
-returns c = simp (lt-leb _ _ c.if-end-job.false)
+pub returns-in-Some : goal.returns-in-Some
+returns-in-Some c = c.from_le_bytes.ensures ∙ field_read 2 _ _ _ (from_le_bytes w16) little_two c.in-Some.ensures

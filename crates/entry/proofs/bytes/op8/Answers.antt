@@ -1,12 +1,7 @@
-use Rattle.entry.proofs.Leaves.{part_width}
-use Rattle.entry.specs.Bytes.{field_at}
-use borrow.Author.Tests.{le-leb, lt-leb}
+use mathlib.Core.Path.{◌∙◌}
+use lib.ListN.{get_or}
+use Rattle.entry.proofs.Leaves.{little_one, field_read}
 use Rattle.entry.proofs.bytes.op8.Goals as goal
 
-pub returns-then-end-job : goal.returns-then-end-job
-unfolding field_at
-returns-then-end-job c = simp (part_width, le-leb _ _ c.if-end-job.true, c.low8.ensures)
-
-pub returns : goal.returns
-unfolding field_at
-returns c = simp (lt-leb _ _ c.if-end-job.false)
+pub returns-in-Some : goal.returns-in-Some
+returns-in-Some c = c.from_le_bytes.ensures ∙ field_read 1 _ _ _ (λ l. get_or l 0 0) little_one c.in-Some.ensures

@@ -3,10 +3,10 @@ use Rattle.format.proofs.Fit.{stored, full}
 use borrow.Author.Rules.{rules}
 use Rattle.format.proofs.Text.push.Goals as goal
 
-pub returns-then-at-lt-TEXT_BYTES : goal.returns-then-at-lt-TEXT_BYTES
+pub returns-then-self-lt-TEXT_BYTES : goal.returns-then-self-lt-TEXT_BYTES
 unfolding text_of
-returns-then-at-lt-TEXT_BYTES c = stored c.args.self.bytes c.args.self.len c.args.b (search rules) c.if-at-lt-TEXT_BYTES.true
+returns-then-self-lt-TEXT_BYTES c = stored c.args.self.bytes c.args.self.len c.args.b (search rules) c.if-self-lt-TEXT_BYTES.true
 
-pub returns : goal.returns
+pub returns-else-self-lt-TEXT_BYTES : goal.returns-else-self-lt-TEXT_BYTES
 unfolding text_of
-returns c = full c.args.self.bytes c.args.self.len c.args.b (search rules) c.if-at-lt-TEXT_BYTES.false
+returns-else-self-lt-TEXT_BYTES c = full c.args.self.bytes c.args.self.len c.args.b (search rules) c.if-self-lt-TEXT_BYTES.false

@@ -13,4 +13,4 @@ pub taken-requires : goal.taken-requires
 taken-requires c = λ j _. c.turns-s.ensures.few.left j
 
 pub returns : goal.returns
-returns c = call_told _ _ c.args.allow c.args.self _ _ _ _ c.turns-s.result _ _ _ _ _ _ _ _ c.taken.result _ c.told.result c.within-count.ensures c.within.ensures c.put_threads.ensures c.turns-s.ensures.turns c.turns-s.ensures.few c.threads_in-ts.ensures c.all_finished-done.ensures (search rules) (search (rules, c.well_formed)) c.taken.ensures c.thread_told.ensures c.told.ensures
+returns c = call_told _ _ c.args.allow c.args.self _ _ _ _ c.turns-s.result _ _ _ _ _ _ _ _ c.taken.result _ c.told.result c.within-count.ensures c.within.ensures c.put_threads.ensures c.turns-s.ensures.turns c.turns-s.ensures.few c.threads_in-threads.ensures c.all_finished-done.ensures (search rules) (search (rules, c.well_formed)) c.taken.ensures c.thread_told.ensures c.told.ensures

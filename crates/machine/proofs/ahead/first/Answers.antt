@@ -18,9 +18,6 @@ returns-then-live-j-eq1 c =
     ∙ first_here (marked c.args.live.now) c.loop-j.j c.args.e
     c.loop-j-test.true (eq-eqb _ _ c.if-live-j-eq1.true)
 
-pub overflow_add-j : goal.overflow_add-j
-overflow_add-j c = omega arith
-
 pub loop-j-smaller : goal.loop-j-smaller
 loop-j-smaller c = omega arith
 

@@ -6,6 +6,3 @@ use Rattle.machine.proofs.ahead.first.Given as goal
 
 abbrev pub invariant-loop-j : goal.invariant-loop-j
 invariant-loop-j l = first_from (marked l.live) l.i (l.e - l.i) ≡ first_from (marked l.live) l.j (l.e - l.j)
-
-abbrev pub decreases-loop-j : goal.decreases-loop-j
-decreases-loop-j l = l.e - l.j

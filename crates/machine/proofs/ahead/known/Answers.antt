@@ -1,8 +1,8 @@
 use Rattle.machine.proofs.Marks.{known_at, known_nobody}
 use Rattle.machine.proofs.ahead.known.Goals as goal
 
-pub returns-in-Thread : goal.returns-in-Thread
-returns-in-Thread c = known_at _ _ _ _ _ _ c.next_turn-whose.ensures c.in-Thread.is
+pub returns-in-Some : goal.returns-in-Some
+returns-in-Some c = known_at _ _ _ _ _ c.next_turn.ensures c.in-Some.is
 
-pub returns-in-Nobody : goal.returns-in-Nobody
-returns-in-Nobody c = known_nobody _ _ _ c.next_turn-whose.result c.next_turn-whose.ensures c.in-Nobody.in-Nobody-own.keys2
+pub returns-in-None : goal.returns-in-None
+returns-in-None c = known_nobody _ _ _ _ c.next_turn.ensures c.in-None.is

@@ -23,9 +23,6 @@ mark-requires c = tt
 pub bounds-live-i : goal.bounds-live-i
 bounds-live-i c = omega arith
 
-pub overflow_add-i : goal.overflow_add-i
-overflow_add-i c = omega arith
-
 pub loop-i-smaller : goal.loop-i-smaller
 loop-i-smaller c = omega arith
 

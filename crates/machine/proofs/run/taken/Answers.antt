@@ -1,31 +1,15 @@
-use native.Mathlib.Omega.{arith}
-use Rattle.machine.proofs.Lefts.{eight_split}
-use borrow.Author.Rules.{rules}
+use Rattle.std.proofs.Common.{arith, rules}
+use Rattle.machine.proofs.Lefts.{taken_none, taken_more, taken_all}
 use Rattle.machine.proofs.run.taken.Goals as goal
 
-pub overflow_sub-result : goal.overflow_sub-result
-overflow_sub-result c = let h = c.requires 0 (omega arith) in search (rules, h)
+pub loop-i-init : goal.loop-i-init
+loop-i-init c = taken_none _ _ (search rules)
 
-pub overflow_sub-result-2 : goal.overflow_sub-result-2
-overflow_sub-result-2 c = let h = c.requires 1 (omega arith) in search (rules, h)
+pub overflow_sub-counts : goal.overflow_sub-counts
+overflow_sub-counts c = let t = c.loop-i.invariant.todo c.loop-i.i (omega arith) in let h = c.requires c.loop-i.i (omega arith) in search (rules, t, h)
 
-pub overflow_sub-result-3 : goal.overflow_sub-result-3
-overflow_sub-result-3 c = let h = c.requires 2 (omega arith) in search (rules, h)
-
-pub overflow_sub-result-4 : goal.overflow_sub-result-4
-overflow_sub-result-4 c = let h = c.requires 3 (omega arith) in search (rules, h)
-
-pub overflow_sub-result-5 : goal.overflow_sub-result-5
-overflow_sub-result-5 c = let h = c.requires 4 (omega arith) in search (rules, h)
-
-pub overflow_sub-result-6 : goal.overflow_sub-result-6
-overflow_sub-result-6 c = let h = c.requires 5 (omega arith) in search (rules, h)
-
-pub overflow_sub-result-7 : goal.overflow_sub-result-7
-overflow_sub-result-7 c = let h = c.requires 6 (omega arith) in search (rules, h)
-
-pub overflow_sub-result-8 : goal.overflow_sub-result-8
-overflow_sub-result-8 c = let h = c.requires 7 (omega arith) in search (rules, h)
+pub loop-i-preserved : goal.loop-i-preserved
+loop-i-preserved c = taken_more c.loop-i.invariant c.loop-i-test.true (c.requires _ c.loop-i-test.true)
 
 pub returns : goal.returns
-returns c = eight_split _ _ (search rules) (search rules) c.requires
+returns c = taken_all (search rules) c.loop-i.invariant c.loop-i-test.false

@@ -7,31 +7,31 @@ use borrow.Enum.Refused.{opened}
 use Rattle.machine.proofs.turns.advance.Goals as goal
 
 pub returns-in_default : goal.returns-in_default
-returns-in_default c = nobody_left c.args.heads.now c.args.slots.now c.args.c (tables [] c.args.words.now c.args.cells.now c.args.keys.now c.args.pairs.now c.args.functions.now c.args.bindings.now) c.with_left-live.result c.requires.0 c.requires.1 c.with_left-live.ensures c.next_turn-whose.result c.next_turn-whose.ensures c.in_default.in_default-own.keys2
+returns-in_default c = nobody_left c.args.heads.now c.args.slots.now c.args.c (tables [] c.args.words.now c.args.cells.now c.args.keys.now c.args.pairs.now c.args.functions.now c.args.bindings.now) c.with_left-live.result c.requires.0 c.requires.1 c.with_left-live.ensures c.next_turn.result c.next_turn.ensures c.in_default.is
 
-pub offset_bounds-rest-first : goal.offset_bounds-rest-first
-offset_bounds-rest-first c = let h = first_few c.args.c (tables [] c.args.words.now c.args.cells.now c.args.keys.now c.args.pairs.now c.args.functions.now c.args.bindings.now) c.requires.1 c.with_left-live.result c.with_left-live.ensures c.next_turn-whose.result c.in-Thread.first c.in-Thread.r c.next_turn-whose.ensures c.in-Thread.is in search (rules, h)
+pub offset_bounds-rest-turn : goal.offset_bounds-rest-turn
+offset_bounds-rest-turn c = let h = first_few c.args.c (tables [] c.args.words.now c.args.cells.now c.args.keys.now c.args.pairs.now c.args.functions.now c.args.bindings.now) c.requires.1 c.with_left-live.result c.with_left-live.ensures c.next_turn.result c.in-Some.turn.at c.in-Some.turn.round c.next_turn.ensures c.in-Some.is in search (rules, h)
 
-pub bounds-rest-first : goal.bounds-rest-first
-bounds-rest-first c = let h = first_few c.args.c (tables [] c.args.words.now c.args.cells.now c.args.keys.now c.args.pairs.now c.args.functions.now c.args.bindings.now) c.requires.1 c.with_left-live.result c.with_left-live.ensures c.next_turn-whose.result c.in-Thread.first c.in-Thread.r c.next_turn-whose.ensures c.in-Thread.is in search (rules, h)
+pub bounds-rest-turn : goal.bounds-rest-turn
+bounds-rest-turn c = let h = first_few c.args.c (tables [] c.args.words.now c.args.cells.now c.args.keys.now c.args.pairs.now c.args.functions.now c.args.bindings.now) c.requires.1 c.with_left-live.result c.with_left-live.ensures c.next_turn.result c.in-Some.turn.at c.in-Some.turn.round c.next_turn.ensures c.in-Some.is in search (rules, h)
 
 pub rounds-s-requires : goal.rounds-s-requires
-rounds-s-requires c = (c.requires.0, first_few c.args.c (tables [] c.args.words.now c.args.cells.now c.args.keys.now c.args.pairs.now c.args.functions.now c.args.bindings.now) c.requires.1 c.with_left-live.result c.with_left-live.ensures c.next_turn-whose.result c.in-Thread.first c.in-Thread.r c.next_turn-whose.ensures c.in-Thread.is, first_enough c.args.c (tables [] c.args.words.now c.args.cells.now c.args.keys.now c.args.pairs.now c.args.functions.now c.args.bindings.now) c.requires.1 c.with_left-live.result c.with_left-live.ensures c.next_turn-whose.result c.in-Thread.first c.in-Thread.r c.next_turn-whose.ensures c.in-Thread.is c.ahead-known.result c.ahead-known.ensures c.least.result c.quota-n.result c.least.ensures c.quota-n.ensures, known_enough c.args.c (tables [] c.args.words.now c.args.cells.now c.args.keys.now c.args.pairs.now c.args.functions.now c.args.bindings.now) c.requires.1 c.with_left-live.result c.with_left-live.ensures c.next_turn-whose.result c.in-Thread.first c.in-Thread.r c.next_turn-whose.ensures c.in-Thread.is c.ahead-known.result c.ahead-known.ensures c.least.result c.quota-n.result c.least.ensures c.quota-n.ensures, known_most c.with_left-live.result c.ahead-known.result c.requires.1.count c.ahead-known.ensures)
+rounds-s-requires c = (c.requires.0, first_few c.args.c (tables [] c.args.words.now c.args.cells.now c.args.keys.now c.args.pairs.now c.args.functions.now c.args.bindings.now) c.requires.1 c.with_left-live.result c.with_left-live.ensures c.next_turn.result c.in-Some.turn.at c.in-Some.turn.round c.next_turn.ensures c.in-Some.is, first_enough c.args.c (tables [] c.args.words.now c.args.cells.now c.args.keys.now c.args.pairs.now c.args.functions.now c.args.bindings.now) c.requires.1 c.with_left-live.result c.with_left-live.ensures c.next_turn.result c.in-Some.turn.at c.in-Some.turn.round c.next_turn.ensures c.in-Some.is c.ahead-known.result c.ahead-known.ensures c.least.result c.quota-n.result c.least.ensures c.quota-n.ensures, known_enough c.args.c (tables [] c.args.words.now c.args.cells.now c.args.keys.now c.args.pairs.now c.args.functions.now c.args.bindings.now) c.requires.1 c.with_left-live.result c.with_left-live.ensures c.next_turn.result c.in-Some.turn.at c.in-Some.turn.round c.next_turn.ensures c.in-Some.is c.ahead-known.result c.ahead-known.ensures c.least.result c.quota-n.result c.least.ensures c.quota-n.ensures, known_most c.with_left-live.result c.ahead-known.result c.requires.1.count c.ahead-known.ensures)
 
 pub rounded-next-requires : goal.rounded-next-requires
-rounded-next-requires c = (c.rounds-s.ensures c.with_left-live.result c.args.c.count c.args.c.round c.args.c.from c.in-Thread.r (rounds_from c.args.c (tables [] c.args.words.now c.args.cells.now c.args.keys.now c.args.pairs.now c.args.functions.now c.args.bindings.now) c.requires.1 c.with_left-live.result c.with_left-live.ensures c.next_turn-whose.result c.in-Thread.first c.in-Thread.r c.next_turn-whose.ensures c.in-Thread.is c.ahead-known.result c.ahead-known.ensures c.least.result c.quota-n.result c.least.ensures c.quota-n.ensures)).last
+rounded-next-requires c = (c.rounds-s.ensures c.with_left-live.result c.args.c.count c.args.c.round c.args.c.from c.in-Some.turn.round (rounds_from c.args.c (tables [] c.args.words.now c.args.cells.now c.args.keys.now c.args.pairs.now c.args.functions.now c.args.bindings.now) c.requires.1 c.with_left-live.result c.with_left-live.ensures c.next_turn.result c.in-Some.turn.at c.in-Some.turn.round c.next_turn.ensures c.in-Some.is c.ahead-known.result c.ahead-known.ensures c.least.result c.quota-n.result c.least.ensures c.quota-n.ensures)).last
 
 pub passed-requires : goal.passed-requires
-passed-requires c = (c.rounds-s.ensures c.with_left-live.result c.args.c.count c.args.c.round c.args.c.from c.in-Thread.r (rounds_from c.args.c (tables [] c.args.words.now c.args.cells.now c.args.keys.now c.args.pairs.now c.args.functions.now c.args.bindings.now) c.requires.1 c.with_left-live.result c.with_left-live.ensures c.next_turn-whose.result c.in-Thread.first c.in-Thread.r c.next_turn-whose.ensures c.in-Thread.is c.ahead-known.result c.ahead-known.ensures c.least.result c.quota-n.result c.least.ensures c.quota-n.ensures)).at
+passed-requires c = (c.rounds-s.ensures c.with_left-live.result c.args.c.count c.args.c.round c.args.c.from c.in-Some.turn.round (rounds_from c.args.c (tables [] c.args.words.now c.args.cells.now c.args.keys.now c.args.pairs.now c.args.functions.now c.args.bindings.now) c.requires.1 c.with_left-live.result c.with_left-live.ensures c.next_turn.result c.in-Some.turn.at c.in-Some.turn.round c.next_turn.ensures c.in-Some.is c.ahead-known.result c.ahead-known.ensures c.least.result c.quota-n.result c.least.ensures c.quota-n.ensures)).at
 
 pub begin-requires : goal.begin-requires
-begin-requires c = begin_asks c.args.heads.now c.args.slots.now c.requires.1 c.with_left-live.ensures (quota_some c.args.c (tables [] c.args.words.now c.args.cells.now c.args.keys.now c.args.pairs.now c.args.functions.now c.args.bindings.now) c.requires.1 c.with_left-live.result c.with_left-live.ensures c.next_turn-whose.result c.in-Thread.first c.in-Thread.r c.next_turn-whose.ensures c.in-Thread.is c.ahead-known.result c.ahead-known.ensures c.least.result c.quota-n.result c.least.ensures c.quota-n.ensures) (c.rounds-s.ensures c.with_left-live.result c.args.c.count c.args.c.round c.args.c.from c.in-Thread.r (rounds_from c.args.c (tables [] c.args.words.now c.args.cells.now c.args.keys.now c.args.pairs.now c.args.functions.now c.args.bindings.now) c.requires.1 c.with_left-live.result c.with_left-live.ensures c.next_turn-whose.result c.in-Thread.first c.in-Thread.r c.next_turn-whose.ensures c.in-Thread.is c.ahead-known.result c.ahead-known.ensures c.least.result c.quota-n.result c.least.ensures c.quota-n.ensures)) c.rounded-next.result c.rounded-next.ensures c.in-Starts.in-Starts-own.keys2
+begin-requires c = begin_asks c.args.heads.now c.args.slots.now c.requires.1 c.with_left-live.ensures (quota_some c.args.c (tables [] c.args.words.now c.args.cells.now c.args.keys.now c.args.pairs.now c.args.functions.now c.args.bindings.now) c.requires.1 c.with_left-live.result c.with_left-live.ensures c.next_turn.result c.in-Some.turn.at c.in-Some.turn.round c.next_turn.ensures c.in-Some.is c.ahead-known.result c.ahead-known.ensures c.least.result c.quota-n.result c.least.ensures c.quota-n.ensures) (c.rounds-s.ensures c.with_left-live.result c.args.c.count c.args.c.round c.args.c.from c.in-Some.turn.round (rounds_from c.args.c (tables [] c.args.words.now c.args.cells.now c.args.keys.now c.args.pairs.now c.args.functions.now c.args.bindings.now) c.requires.1 c.with_left-live.result c.with_left-live.ensures c.next_turn.result c.in-Some.turn.at c.in-Some.turn.round c.next_turn.ensures c.in-Some.is c.ahead-known.result c.ahead-known.ensures c.least.result c.quota-n.result c.least.ensures c.quota-n.ensures)) c.rounded-next.result c.rounded-next.ensures c.in-Starts.in-Starts-own.keys2
 
 pub returns-in-Finished : goal.returns-in-Finished
-returns-in-Finished c = after_passed c.args.heads.now c.args.slots.now c.requires.1 c.with_left-live.ensures (quota_some c.args.c (tables [] c.args.words.now c.args.cells.now c.args.keys.now c.args.pairs.now c.args.functions.now c.args.bindings.now) c.requires.1 c.with_left-live.result c.with_left-live.ensures c.next_turn-whose.result c.in-Thread.first c.in-Thread.r c.next_turn-whose.ensures c.in-Thread.is c.ahead-known.result c.ahead-known.ensures c.least.result c.quota-n.result c.least.ensures c.quota-n.ensures) (c.rounds-s.ensures c.with_left-live.result c.args.c.count c.args.c.round c.args.c.from c.in-Thread.r (rounds_from c.args.c (tables [] c.args.words.now c.args.cells.now c.args.keys.now c.args.pairs.now c.args.functions.now c.args.bindings.now) c.requires.1 c.with_left-live.result c.with_left-live.ensures c.next_turn-whose.result c.in-Thread.first c.in-Thread.r c.next_turn-whose.ensures c.in-Thread.is c.ahead-known.result c.ahead-known.ensures c.least.result c.quota-n.result c.least.ensures c.quota-n.ensures)) c.rounded-next.result c.rounded-next.ensures c.in-Finished.in-Finished-own.keys1 _ c.passed.ensures
+returns-in-Finished c = after_passed c.args.heads.now c.args.slots.now c.requires.1 c.with_left-live.ensures (quota_some c.args.c (tables [] c.args.words.now c.args.cells.now c.args.keys.now c.args.pairs.now c.args.functions.now c.args.bindings.now) c.requires.1 c.with_left-live.result c.with_left-live.ensures c.next_turn.result c.in-Some.turn.at c.in-Some.turn.round c.next_turn.ensures c.in-Some.is c.ahead-known.result c.ahead-known.ensures c.least.result c.quota-n.result c.least.ensures c.quota-n.ensures) (c.rounds-s.ensures c.with_left-live.result c.args.c.count c.args.c.round c.args.c.from c.in-Some.turn.round (rounds_from c.args.c (tables [] c.args.words.now c.args.cells.now c.args.keys.now c.args.pairs.now c.args.functions.now c.args.bindings.now) c.requires.1 c.with_left-live.result c.with_left-live.ensures c.next_turn.result c.in-Some.turn.at c.in-Some.turn.round c.next_turn.ensures c.in-Some.is c.ahead-known.result c.ahead-known.ensures c.least.result c.quota-n.result c.least.ensures c.quota-n.ensures)) c.rounded-next.result c.rounded-next.ensures c.in-Finished.in-Finished-own.keys1 _ c.passed.ensures
 
 pub returns-in-Starts : goal.returns-in-Starts
-returns-in-Starts c = after_begun c.args.heads.now c.args.slots.now c.requires.1 c.with_left-live.ensures (quota_some c.args.c (tables [] c.args.words.now c.args.cells.now c.args.keys.now c.args.pairs.now c.args.functions.now c.args.bindings.now) c.requires.1 c.with_left-live.result c.with_left-live.ensures c.next_turn-whose.result c.in-Thread.first c.in-Thread.r c.next_turn-whose.ensures c.in-Thread.is c.ahead-known.result c.ahead-known.ensures c.least.result c.quota-n.result c.least.ensures c.quota-n.ensures) (c.rounds-s.ensures c.with_left-live.result c.args.c.count c.args.c.round c.args.c.from c.in-Thread.r (rounds_from c.args.c (tables [] c.args.words.now c.args.cells.now c.args.keys.now c.args.pairs.now c.args.functions.now c.args.bindings.now) c.requires.1 c.with_left-live.result c.with_left-live.ensures c.next_turn-whose.result c.in-Thread.first c.in-Thread.r c.next_turn-whose.ensures c.in-Thread.is c.ahead-known.result c.ahead-known.ensures c.least.result c.quota-n.result c.least.ensures c.quota-n.ensures)) c.rounded-next.result c.rounded-next.ensures c.in-Starts.in-Starts-own.keys2 _ _ c.begin.ensures
+returns-in-Starts c = after_begun c.args.heads.now c.args.slots.now c.requires.1 c.with_left-live.ensures (quota_some c.args.c (tables [] c.args.words.now c.args.cells.now c.args.keys.now c.args.pairs.now c.args.functions.now c.args.bindings.now) c.requires.1 c.with_left-live.result c.with_left-live.ensures c.next_turn.result c.in-Some.turn.at c.in-Some.turn.round c.next_turn.ensures c.in-Some.is c.ahead-known.result c.ahead-known.ensures c.least.result c.quota-n.result c.least.ensures c.quota-n.ensures) (c.rounds-s.ensures c.with_left-live.result c.args.c.count c.args.c.round c.args.c.from c.in-Some.turn.round (rounds_from c.args.c (tables [] c.args.words.now c.args.cells.now c.args.keys.now c.args.pairs.now c.args.functions.now c.args.bindings.now) c.requires.1 c.with_left-live.result c.with_left-live.ensures c.next_turn.result c.in-Some.turn.at c.in-Some.turn.round c.next_turn.ensures c.in-Some.is c.ahead-known.result c.ahead-known.ensures c.least.result c.quota-n.result c.least.ensures c.quota-n.ensures)) c.rounded-next.result c.rounded-next.ensures c.in-Starts.in-Starts-own.keys2 _ _ c.begin.ensures
 
-pub returns-in_default-a : goal.returns-in_default-a
-returns-in_default-a c = after_others c.args.heads.now c.args.slots.now c.requires.1 c.with_left-live.ensures (quota_some c.args.c (tables [] c.args.words.now c.args.cells.now c.args.keys.now c.args.pairs.now c.args.functions.now c.args.bindings.now) c.requires.1 c.with_left-live.result c.with_left-live.ensures c.next_turn-whose.result c.in-Thread.first c.in-Thread.r c.next_turn-whose.ensures c.in-Thread.is c.ahead-known.result c.ahead-known.ensures c.least.result c.quota-n.result c.least.ensures c.quota-n.ensures) (c.rounds-s.ensures c.with_left-live.result c.args.c.count c.args.c.round c.args.c.from c.in-Thread.r (rounds_from c.args.c (tables [] c.args.words.now c.args.cells.now c.args.keys.now c.args.pairs.now c.args.functions.now c.args.bindings.now) c.requires.1 c.with_left-live.result c.with_left-live.ensures c.next_turn-whose.result c.in-Thread.first c.in-Thread.r c.next_turn-whose.ensures c.in-Thread.is c.ahead-known.result c.ahead-known.ensures c.least.result c.quota-n.result c.least.ensures c.quota-n.ensures)) c.rounded-next.result c.rounded-next.ensures (opened c.in_default-a.in_default-a-own.keys3)
+pub returns-in_default-answer : goal.returns-in_default-answer
+returns-in_default-answer c = after_others c.args.heads.now c.args.slots.now c.requires.1 c.with_left-live.ensures (quota_some c.args.c (tables [] c.args.words.now c.args.cells.now c.args.keys.now c.args.pairs.now c.args.functions.now c.args.bindings.now) c.requires.1 c.with_left-live.result c.with_left-live.ensures c.next_turn.result c.in-Some.turn.at c.in-Some.turn.round c.next_turn.ensures c.in-Some.is c.ahead-known.result c.ahead-known.ensures c.least.result c.quota-n.result c.least.ensures c.quota-n.ensures) (c.rounds-s.ensures c.with_left-live.result c.args.c.count c.args.c.round c.args.c.from c.in-Some.turn.round (rounds_from c.args.c (tables [] c.args.words.now c.args.cells.now c.args.keys.now c.args.pairs.now c.args.functions.now c.args.bindings.now) c.requires.1 c.with_left-live.result c.with_left-live.ensures c.next_turn.result c.in-Some.turn.at c.in-Some.turn.round c.next_turn.ensures c.in-Some.is c.ahead-known.result c.ahead-known.ensures c.least.result c.quota-n.result c.least.ensures c.quota-n.ensures)) c.rounded-next.result c.rounded-next.ensures (opened c.in_default-answer.in_default-answer-own.keys3)

@@ -21,7 +21,7 @@ never k v e p q =
 
 pub returns-in-Enter : goal.returns-in-Enter
 returns-in-Enter c = λ e h.
-    c.at16.ensures
+    c.get_or.ensures
     ∙ ap (λ (i : ℕ). get_or c.args.slots.now (i * 5) 0)
     (entered _ _ e c.in-Enter.is h)
 

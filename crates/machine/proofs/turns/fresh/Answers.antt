@@ -7,4 +7,4 @@ use Rattle.machine.proofs.turns.fresh.Goals as goal
 
 pub returns : goal.returns
 unfolding keys_in stack_of
-returns c = λ e fs h. ap (λ (b : ℕ). semantics.fresh b c.args.t.now.env) (c.body_of-e.ensures e h)
+returns c = λ e fs h. ap (λ (b : ℕ). semantics.fresh b c.args.t.now.env) (c.body_of.ensures e h)

@@ -31,9 +31,6 @@ bounds-rest-i c = let h = i_small c.loop-left.invariant.to c.loop-left-test.true
 pub overflow_sub-rest : goal.overflow_sub-rest
 overflow_sub-rest c = let h = some_steps c.loop-left.invariant.to c.loop-left-test.true in search (rules, h)
 
-pub offset_bounds-rest-i-in-loop-left : goal.offset_bounds-rest-i-in-loop-left
-offset_bounds-rest-i-in-loop-left c = let h = i_small c.loop-left.invariant.to c.loop-left-test.true in search (rules, h)
-
 pub bounds-rest-i-in-loop-left : goal.bounds-rest-i-in-loop-left
 bounds-rest-i-in-loop-left c = let h = i_small c.loop-left.invariant.to c.loop-left-test.true in search (rules, h)
 

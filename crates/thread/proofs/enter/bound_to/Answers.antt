@@ -1,15 +1,15 @@
 use borrow.Author.Tests.{eq-eqb, ne_eqb}
-use Rattle.thread.proofs.Sorts.{not_variable}
 use Rattle.semantics.specs.Step.{seek_in}
 use Rattle.thread.proofs.enter.bound_to.Goals as goal
 
-pub returns-then-x-y : goal.returns-then-x-y
+pub returns-in-Variable : goal.returns-in-Variable
 unfolding seek_in
-returns-then-x-y c = λ rest. simp (c.in-Variable.is, eq-eqb _ _ c.if-x-y.true)
+returns-in-Variable c = λ rest. simp (c.in-Variable.is, eq-eqb _ _ c.if-x-y.true)
 
-pub returns-else-x-y : goal.returns-else-x-y
+pub returns-in_default : goal.returns-in_default
 unfolding seek_in
-returns-else-x-y c = λ rest. simp (c.in-Variable.is, ne_eqb _ _ c.if-x-y.false)
+returns-in_default c = λ rest. simp (c.in-Variable.is, ne_eqb _ _ c.if-x-y.false)
 
-pub returns-in-Name : goal.returns-in-Name
-returns-in-Name c = λ rest. not_variable c.args.b _ rest c.in-Name.in-Name-own.keys2
+pub returns-in_default-2 : goal.returns-in_default-2
+unfolding seek_in
+returns-in_default-2 c = λ rest. simp c.in_default.is

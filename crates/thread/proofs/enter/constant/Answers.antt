@@ -8,4 +8,4 @@ use Rattle.thread.proofs.InPlace.{hands}
 use Rattle.thread.proofs.enter.constant.Goals as goal
 
 pub returns : goal.returns
-returns c = λ w. hands c.args.used w _ c.put_control.ensures (view (own_state c.args.used c.args.t.now) (put_frames w c.args.t.now)) (give (unkeyed (kind_in c.args.k c.args.n)) (view (own_state c.args.used c.args.t.now) (put_frames w c.args.t.now))) (ap (λ (v : SValue). give v (view (own_state c.args.used c.args.t.now) (put_frames w c.args.t.now))) (sym (c.pack-w.ensures ∙ ap value_in c.unkeyed-v.ensures)))
+returns c = λ w. hands c.args.used w _ c.put_control.ensures (view (own_state c.args.used c.args.t.now) (put_frames w c.args.t.now)) (give (unkeyed (kind_in c.args.k c.args.n)) (view (own_state c.args.used c.args.t.now) (put_frames w c.args.t.now))) (ap (λ (v : SValue). give v (view (own_state c.args.used c.args.t.now) (put_frames w c.args.t.now))) (sym (c.pack.ensures ∙ ap value_in c.unkeyed.ensures)))

@@ -5,11 +5,11 @@ pub returns : goal.returns
 unfolding own_in
 returns c =
     simp (
-      c.at64-6.ensures,
-      c.at64-5.ensures,
-      c.at64-4.ensures,
-      c.at64-3.ensures,
-      c.control_of-c.ensures,
-      c.at64-2.ensures,
-      c.at64.ensures,
+      c.get_or-6.ensures,
+      c.get_or-5.ensures,
+      c.get_or-4.ensures,
+      c.get_or-3.ensures,
+      c.control_of.ensures,
+      c.get_or-2.ensures,
+      c.get_or.ensures,
     )

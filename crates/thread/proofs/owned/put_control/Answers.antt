@@ -5,5 +5,5 @@ use Rattle.thread.proofs.owned.put_control.Goals as goal
 
 pub returns : goal.returns
 returns c =
-    control_owned (search rules) (stored c.put64.ensures) (stored c.put64-2.ensures) _
-    (simp (c.flag_of-flag.ensures, c.word_of-word.ensures) (control_back c.args.c _ c.well_formed.1.0))
+    control_owned (search rules) (stored c.set_at.ensures) (stored c.set_at-2.ensures) _
+    (simp (c.flag_of.ensures, c.word_of.ensures) (control_back c.args.c _ c.well_formed.1.0))

@@ -4,4 +4,4 @@ use borrow.Author.Rules.{rules}
 use Rattle.thread.proofs.owned.put_count.Goals as goal
 
 pub returns : goal.returns
-returns c = count_owned (search rules) (stored c.put64.ensures)
+returns c = count_owned (search rules) (stored c.set_at.ensures)

@@ -1,7 +1,0 @@
-use Rattle.equality.specs.Entry.{entry_of}
-use Rattle.rules.specs.Answer.{result_in, made}
-use Rattle.rules.proofs.pair.Goals as goal
-
-pub returns : goal.returns
-unfolding result_in made entry_of
-returns c = simp (c.reduce.ensures, c.join.ensures)
