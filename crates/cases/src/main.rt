@@ -22,9 +22,7 @@ struct Tally {
 fn job_length(file: &[u8]) -> u16
     ensures { result ≡ job_length file.now }
 {
-    let low = table::get_or(file, 0, 0);
-    let high = table::get_or(file, 1, 0);
-    (low as u16) + (high as u16) * 256
+    u16::from_le_bytes([table::get_or(file, 0, 0), table::get_or(file, 1, 0)])
 }
 
 // The length of its answer.
@@ -48,10 +46,7 @@ fn case_length(file: &[u8]) -> usize
 fn at_end(file: &[u8]) -> bool
     ensures { result ≡ at_end file.now }
 {
-    if file.len() == 0 {
-        return true;
-    }
-    job_length(file) == 0xFFFF
+    file.len() == 0 || job_length(file) == 0xFFFF
 }
 
 // What follows the first case; nothing, where bytes of it are missing.
@@ -71,12 +66,7 @@ fn prints<'a>(job: &'a [u8], answer: &'a [u8]) -> bool
     ensures { result ≡ same (printed job.now) answer.now }
 {
     let text = print::print(job);
-    let bytes = text.bytes;
-    let n = text.len;
-    if n < TEXT_BYTES {
-        return check::same(&bytes[..n], answer);
-    }
-    check::same(&bytes, answer)
+    check::same(&text.bytes[..text.len.min(TEXT_BYTES)], answer)
 }
 
 // Whether the first case agrees. One with bytes missing does not.
@@ -99,14 +89,14 @@ fn count(file: &[u8]) -> Tally
     let mut left = file;
     let mut agree: usize = 0;
     let mut differ: usize = 0;
+    // Stays a `while`: each turn takes off one case, as long as it says.
     while !at_end(left) {
         if agrees(left) {
             agree += 1;
         } else {
             differ += 1;
         }
-        let next = after(left);
-        left = next;
+        left = after(left);
     }
     Tally { agree, differ }
 }

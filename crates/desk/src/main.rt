@@ -2,34 +2,29 @@
 // fails, is said on standard error, where nothing else is written. The exit status is 0 then too, but where nothing can be said: the command `desk` at the top makes one of what is said.
 #![tactic(auto)]
 
-ghost use Rattle.std.specs.Prelude.{◌≡◌, true, false, cond, [], ◌≤◌, length, take, is_ok, IfSome};
+ghost use Rattle.std.specs.Prelude.{◌≡◌, true, false, IfSome};
 ghost use Rattle.std.specs.Io.KnownBytes.{Appends, Keeps};
 ghost use Rattle.output.specs.Lines.{printed};
-ghost use Rattle.format.specs.Text.{text_of};
-ghost use Rattle.stream.specs.Input.{read_length};
 
-use format::Text;
+use format::TEXT_BYTES;
 use std::io;
 use std::io::{Read, Write};
-use stream::Cut;
+use stream::{Printer, Served};
 use table::MOST_BYTES;
 
-// The lines for a job that is read whole, and none for another.
-fn reply(job: &[u8], told: Result<usize, Cut>) -> Text
-    requires { read_length told ≤ length job.now }
-    ensures { text_of result ≡ cond (is_ok told) (printed (take (read_length told) job.now)) [] }
-{
-    match told {
-        Ok(n) => print::print(&job[..n]),
-        Err(_) => format::empty(),
-    }
-}
+// What the desk prints of a job: its lines.
+struct Lines;
 
-// Whether the job was read whole, and whether all of its lines were written.
-#[derive(Clone, Copy)]
-struct Served {
-    read: bool,
-    written: bool,
+impl Printer for Lines {
+    ghost text = { printed };
+
+    ghost room = { 128 };
+
+    fn print(job: &[u8], buffer: &mut [u8]) -> usize {
+        let text = print::print(job);
+        buffer[..TEXT_BYTES].copy_from_slice(&text.bytes);
+        text.len.min(TEXT_BYTES)
+    }
 }
 
 // Reads a job and writes its lines: those of the bytes that the input has. Of a job that cannot be read nothing is written.
@@ -39,13 +34,8 @@ fn serve<R: Read, W: Write>(input: &mut R, output: &mut W) -> Served
     ensures none { result.read ≡ false → Keeps (W.contents output.old) (W.contents output.new) }
 {
     let mut job = [0u8; MOST_BYTES];
-    let told = stream::read_all(input, &mut job);
-    let text = reply(&job, told);
-    let written = stream::write(output, &text.bytes, text.len);
-    Served {
-        read: told.is_ok(),
-        written: written.is_ok(),
-    }
+    let mut text = [0u8; TEXT_BYTES];
+    stream::serve::<Lines, R, W>(input, output, &mut job, &mut text)
 }
 
 fn main(rt: HostRuntime) -> io::Result<()> {

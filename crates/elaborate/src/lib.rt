@@ -15,7 +15,7 @@ use table::{
     Expr, MOST_NAMES, MOST_VARIABLES, Name, Refusal, byte_of, get_or, key_of, name_of, set_at,
     type_word,
 };
-use types::{Entry, MEMORY};
+use types::{Entry, MEMORY, TypeTable};
 
 // What an expression binds: a function's variable with the entry of its type, or a variable and a local name by 0x3E.
 #[derive(Clone, Copy)]
@@ -202,17 +202,16 @@ fn type_all<'a>(
     let mut count = n;
     for e in 0..cmds {
         let place = e as usize;
+        let table = TypeTable { anc, types, sets };
         match infer::result(
             Expr(e),
             heads,
             slots,
-            types,
-            sets,
             entries,
             effects,
             vars,
             names,
-            anc,
+            &table,
             short(count),
             known,
         ) {

@@ -1,3 +1,4 @@
 pub mod Laid
 pub mod Entries
 pub mod Penned
+pub mod Shows

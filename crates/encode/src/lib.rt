@@ -6,11 +6,11 @@ mod exprs;
 mod push;
 
 ghost use Rattle.std.specs.Prelude.{◌≡◌, ◌+◌, ◌*◌, ◌≤◌, ◌<◌, MatchResult};
-ghost use Rattle.table.specs.Lent.{job_shown};
 ghost use Rattle.entry.specs.Bytes.{section_no};
 ghost use Rattle.entry.specs.Shapes.{counts_of};
 ghost use Rattle.encode.specs.Laid.{most_scratch};
 ghost use Rattle.encode.specs.Entries.{foreign_by, limit_of, item_in, entry_item};
+ghost use Rattle.encode.specs.Shows.{shown_by};
 ghost use Rattle.encode.specs.Penned.{Penned, alone, Sectioned, Encoded};
 
 use declared::{name_bytes, type_bytes, value_bytes};
@@ -21,6 +21,17 @@ use table::{MOST_DECLARED, MOST_EXPRESSIONS, MOST_TYPES, MOST_VARIABLES, Refusal
 
 // Room for the bytes of every entry that there can be: 896 commands of 14 bytes at most.
 pub const SCRATCH: usize = 12544;
+
+// A job's tables, lent to be read.
+#[derive(Clone, Copy)]
+pub struct Shown<'a> {
+    pub names: &'a [u16],
+    pub types: &'a [u64],
+    pub sets: &'a [u64],
+    pub values: &'a [u64],
+    pub heads: &'a [u64],
+    pub slots: &'a [u16],
+}
 
 // What is wrong with a command byte in the table of section `sec`, at a place: 2 where it is no command, 3 where it is foreign to the table.
 #[tactic(auto, unfolding(crate::specs::Entries::foreign_by))]
@@ -61,31 +72,31 @@ fn limit(sec: Section) -> usize
 fn entry_bytes(
     sec: Section,
     i: usize,
-    names: &[u16],
-    types: &[u64],
-    sets: &[u64],
-    values: &[u64],
-    heads: &[u64],
-    slots: &[u16],
+    tables: Shown,
     out: &mut [u8; SCRATCH],
     at: usize,
 ) -> Result<usize, Refusal>
     requires at_bound { at + 14 ≤ most_scratch }
     requires i_bound { i < 512 }
-    ensures { Penned out.old out.new at result (alone (entry_item (job_shown names types sets values heads slots) (section_no sec) i)) }
+    ensures { Penned out.old out.new at result (alone (entry_item (shown_by tables.entry) (section_no sec) i)) }
 {
     match sec {
-        Section::Names => name_bytes(get_or(names, 2 + i, 0), out, at),
-        Section::Types => type_bytes(get_or(types, i, 0), get_or(sets, i, 0), out, at),
-        Section::Values => value_bytes(get_or(values, i, 0), out, at),
+        Section::Names => name_bytes(get_or(tables.names, 2 + i, 0), out, at),
+        Section::Types => type_bytes(
+            get_or(tables.types, i, 0),
+            get_or(tables.sets, i, 0),
+            out,
+            at,
+        ),
+        Section::Values => value_bytes(get_or(tables.values, i, 0), out, at),
         Section::Rights | Section::Expressions | Section::End => {
             let k = i * 5;
-            let a = get_or(slots, k, 0);
-            let b = get_or(slots, k + 1, 0);
-            let c = get_or(slots, k + 2, 0);
-            let d = get_or(slots, k + 3, 0);
-            let e = get_or(slots, k + 4, 0);
-            expr_bytes(get_or(heads, i, 0), a, b, c, d, e, out, at)
+            let a = get_or(tables.slots, k, 0);
+            let b = get_or(tables.slots, k + 1, 0);
+            let c = get_or(tables.slots, k + 2, 0);
+            let d = get_or(tables.slots, k + 3, 0);
+            let e = get_or(tables.slots, k + 4, 0);
+            expr_bytes(get_or(tables.heads, i, 0), a, b, c, d, e, out, at)
         }
     }
 }
@@ -94,17 +105,12 @@ fn entry_bytes(
 fn section_bytes(
     sec: Section,
     n: usize,
-    names: &[u16],
-    types: &[u64],
-    sets: &[u64],
-    values: &[u64],
-    heads: &[u64],
-    slots: &[u16],
+    tables: Shown,
     out: &mut [u8; SCRATCH],
     at: usize,
 ) -> Result<usize, Refusal>
     requires { at + 14 * limit_of (section_no sec) ≤ most_scratch }
-    ensures { Sectioned (item_in (job_shown names types sets values heads slots) (section_no sec)) (limit_of (section_no sec)) n out.old out.new at result }
+    ensures { Sectioned (item_in (shown_by tables.entry) (section_no sec)) (limit_of (section_no sec)) n out.old out.new at result }
 {
     let mut p = at;
     for i in 0..n {
@@ -114,73 +120,20 @@ fn section_bytes(
                 place: p,
             });
         }
-        p = entry_bytes(sec, i, names, types, sets, values, heads, slots, out, p)?;
+        p = entry_bytes(sec, i, tables, out, p)?;
     }
     Ok(p)
 }
 
 // All entries in the order of the job, by its counts: names, types, host values, the rights, expressions, the end.
-pub fn encode(
-    names: &[u16],
-    types: &[u64],
-    sets: &[u64],
-    values: &[u64],
-    heads: &[u64],
-    slots: &[u16],
-    g: Shape,
-    out: &mut [u8; SCRATCH],
-) -> Result<usize, Refusal>
-    ensures { Encoded (job_shown names types sets values heads slots) (counts_of g) out.old out.new result }
+pub fn encode(tables: Shown, g: Shape, out: &mut [u8; SCRATCH]) -> Result<usize, Refusal>
+    ensures { Encoded (shown_by tables.entry) (counts_of g) out.old out.new result }
 {
-    let a = section_bytes(
-        Section::Names,
-        g.names,
-        names,
-        types,
-        sets,
-        values,
-        heads,
-        slots,
-        out,
-        0,
-    )?;
-    let b = section_bytes(
-        Section::Types,
-        g.types,
-        names,
-        types,
-        sets,
-        values,
-        heads,
-        slots,
-        out,
-        a,
-    )?;
-    let c = section_bytes(
-        Section::Values,
-        g.values,
-        names,
-        types,
-        sets,
-        values,
-        heads,
-        slots,
-        out,
-        b,
-    )?;
+    let a = section_bytes(Section::Names, g.names, tables, out, 0)?;
+    let b = section_bytes(Section::Types, g.types, tables, out, a)?;
+    let c = section_bytes(Section::Values, g.values, tables, out, b)?;
     let p = push8(out, c, 0x21);
     let q = push64(out, p, g.rights);
-    let d = section_bytes(
-        Section::Expressions,
-        g.cmds,
-        names,
-        types,
-        sets,
-        values,
-        heads,
-        slots,
-        out,
-        q,
-    )?;
+    let d = section_bytes(Section::Expressions, g.cmds, tables, out, q)?;
     Ok(push8(out, d, 0xFF))
 }

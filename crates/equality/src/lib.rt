@@ -25,6 +25,14 @@ pub enum Entry {
     Nothing, // Stays a kind: with Option<Entry> each rule would match Some(Entry::Pair(..)), and those that take any kind would still say what stands for none.
 }
 
+// The type table, lent to be read, with the ancestors of the names in it.
+#[derive(Clone, Copy)]
+pub struct TypeTable<'a> {
+    pub anc: &'a [u64; MOST_NAMES],
+    pub types: &'a [u64],
+    pub sets: &'a [u64],
+}
+
 // Entry i of the tables.
 pub fn entry_at<'a>(types: &'a [u64], sets: &'a [u64], i: u16) -> Entry
     ensures { entry_of result ≡ entry_in types.now sets.now i }
@@ -132,25 +140,17 @@ pub fn leaves(x: u64, y: u64) -> bool
 
 // Whether types a and b are equal down to the leaves, of which d levels are looked at. What is found to hold is remembered.
 // Stays a function of its own beside below and above of crate types, since a rule of the project names this form (docs/DECISIONS.md, "Matching forms to places"): the equality calls itself on both parts, and below and above call each other at function arguments.
-pub fn same<'a>(
-    d: u8,
-    anc: &'a [u64; MOST_NAMES],
-    types: &'a [u64],
-    sets: &'a [u64],
-    a: u16,
-    b: u16,
-    known: &mut [u64],
-) -> bool
-    requires { Known anc.now types.now sets.now known.old }
-    ensures { (result ≡ same_in d (entry_in types.now sets.now) a b)
-        × Known anc.now types.now sets.now known.new }
+pub fn same(d: u8, table: &TypeTable<'_>, a: u16, b: u16, known: &mut [u64]) -> bool
+    requires { Known table.now.anc.now table.now.types.now table.now.sets.now known.old }
+    ensures { (result ≡ same_in d (entry_in table.now.types.now table.now.sets.now) a b)
+        × Known table.now.anc.now table.now.types.now table.now.sets.now known.new }
 {
     if d == 0 {
         return false;
     }
-    let x = get_or(types, a as usize, 0);
-    let y = get_or(types, b as usize, 0);
-    if !heads(Relation::Same, anc, x, y) {
+    let x = get_or(table.types, a as usize, 0);
+    let y = get_or(table.types, b as usize, 0);
+    if !heads(Relation::Same, table.anc, x, y) {
         return false;
     }
     let e = d - 1;
@@ -161,23 +161,21 @@ pub fn same<'a>(
             if recalled(known, packed(Relation::Same, d, a, b)) {
                 return true;
             }
-            if same(e, anc, types, sets, p, q, known)
-                && same(e, anc, types, sets, second_of(x), second_of(y), known)
-            {
+            if same(e, table, p, q, known) && same(e, table, second_of(x), second_of(y), known) {
                 return remember(known, packed(Relation::Same, d, a, b));
             }
             false
         }
-        0x12 => same(e, anc, types, sets, p, q, known),
+        0x12 => same(e, table, p, q, known),
         0x13 => {
             if recalled(known, packed(Relation::Same, d, a, b)) {
                 return true;
             }
-            let s = get_or(sets, a as usize, 0);
-            let t = get_or(sets, b as usize, 0);
-            if effects(Relation::Same, anc, s, t)
-                && same(e, anc, types, sets, p, q, known)
-                && same(e, anc, types, sets, second_of(x), second_of(y), known)
+            let s = get_or(table.sets, a as usize, 0);
+            let t = get_or(table.sets, b as usize, 0);
+            if effects(Relation::Same, table.anc, s, t)
+                && same(e, table, p, q, known)
+                && same(e, table, second_of(x), second_of(y), known)
             {
                 return remember(known, packed(Relation::Same, d, a, b));
             }

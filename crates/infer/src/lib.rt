@@ -15,7 +15,8 @@ use rules::{
     Operand, access, apply, assign, associate, cell, divide, function, grant, limit, new_key,
     number, operand_at, pair, part, read, spawn, sum, test, top, variable,
 };
-use table::{Expr, MOST_NAMES, MOST_VARIABLES, Name, get_or, key_of, name_of};
+use table::{Expr, MOST_VARIABLES, Name, get_or, key_of, name_of};
+use types::TypeTable;
 
 // The operand of one byte or four in a head.
 fn lead(w: u64) -> u32
@@ -30,42 +31,40 @@ fn two<'a>(
     at: usize,
     x: Operand,
     slots: &'a [u16],
-    types: &'a [u64],
-    sets: &'a [u64],
     entries: &'a [u16],
     effects: &'a [u64],
     names: &'a [u16],
-    anc: &'a [u64; MOST_NAMES],
+    table: &TypeTable<'_>,
     next: u16,
     known: &mut [u64],
 ) -> Result<Typing, u8>
-    requires { (at ≤ 327675) × (x ≡ by.operand_at slots.now entries.now effects.now at) × Known anc.now types.now sets.now known.old }
+    requires { (at ≤ 327675) × (x ≡ by.operand_at slots.now entries.now effects.now at) × Known table.now.anc.now table.now.types.now table.now.sets.now known.old }
     ensures { ((var : ℕ → ℕ) → result_in result
-        ≡ result_at (ops_by anc.now names.now) var (entry_in types.now sets.now)
+        ≡ result_at (ops_by table.now.anc.now names.now) var (entry_in table.now.types.now table.now.sets.now)
         (λ a. get_or entries.now a 0) (λ a. of_word (get_or effects.now a 0)) next (by.two_in slots.now w at))
-        × Known anc.now types.now sets.now known.new }
+        × Known table.now.anc.now table.now.types.now table.now.sets.now known.new }
 {
     let y = operand_at(slots, entries, effects, at + 1);
     match w % 256 {
-        0x33 => pair(anc, x, y),
-        0x36 => apply(anc, types, sets, x, y, known),
-        0x38 => assign(anc, types, sets, x, y, known),
-        0x3A => sum(anc, types, sets, x, y),
+        0x33 => pair(table.anc, x, y),
+        0x36 => apply(table, x, y, known),
+        0x38 => assign(table, x, y, known),
+        0x3A => sum(table, x, y),
         0x3B => {
             let z = operand_at(slots, entries, effects, at + 2);
-            test(anc, types, sets, x, y, z, get_or(slots, at + 3, 0), known)
+            test(table, x, y, z, get_or(slots, at + 3, 0), known)
         }
-        0x3D => grant(anc, types, sets, x, y),
+        0x3D => grant(table, x, y),
         0x3E => {
             let t = get_or(slots, at + 2, 0);
-            new_key(anc, types, sets, names, Name(name_of(w)), x, y, t, known)
+            new_key(table, names, Name(name_of(w)), x, y, t, known)
         }
-        0x3F => associate(anc, types, sets, x, y),
+        0x3F => associate(table, x, y),
         0x40 => {
             let z = operand_at(slots, entries, effects, at + 2);
-            access(anc, types, sets, x, y, z, get_or(slots, at + 3, 0), known)
+            access(table, x, y, z, get_or(slots, at + 3, 0), known)
         }
-        0x41 => divide(anc, types, sets, x, y, next),
+        0x41 => divide(table, x, y, next),
         _ => number(),
     }
 }
@@ -76,22 +75,20 @@ pub fn result<'a>(
     e: Expr,
     heads: &'a [u64],
     slots: &'a [u16],
-    types: &'a [u64],
-    sets: &'a [u64],
     entries: &'a [u16],
     effects: &'a [u64],
     vars: &'a [u16; MOST_VARIABLES],
     names: &'a [u16],
-    anc: &'a [u64; MOST_NAMES],
+    table: &TypeTable<'_>,
     next: u16,
     known: &mut [u64],
 ) -> Result<Typing, u8>
-    requires { Known anc.now types.now sets.now known.old }
+    requires { Known table.now.anc.now table.now.types.now table.now.sets.now known.old }
     ensures { (result_in result
-        ≡ result_at (ops_by anc.now names.now) (λ v. get_or vars.now v 0)
-        (entry_in types.now sets.now) (λ a. get_or entries.now a 0)
+        ≡ result_at (ops_by table.now.anc.now names.now) (λ v. get_or vars.now v 0)
+        (entry_in table.now.types.now table.now.sets.now) (λ a. get_or entries.now a 0)
         (λ a. of_word (get_or effects.now a 0)) next (code_in heads.now slots.now e.0))
-        × Known anc.now types.now sets.now known.new }
+        × Known table.now.anc.now table.now.types.now table.now.sets.now known.new }
 {
     let i = e.0 as usize;
     let w = get_or(heads, i, 0);
@@ -102,7 +99,7 @@ pub fn result<'a>(
         0x32 => variable(vars, key_of(w)),
         0x34 => {
             let x = operand_at(slots, entries, effects, at);
-            part(anc, types, sets, x, lead(w))
+            part(table, x, lead(w))
         }
         0x35 => {
             let x = operand_at(slots, entries, effects, at);
@@ -110,28 +107,26 @@ pub fn result<'a>(
         }
         0x37 => {
             let x = operand_at(slots, entries, effects, at);
-            cell(anc, types, sets, get_or(slots, at + 1, 0), x, known)
+            cell(table, get_or(slots, at + 1, 0), x, known)
         }
         0x39 => {
             let x = operand_at(slots, entries, effects, at);
-            read(anc, types, sets, x)
+            read(table, x)
         }
-        0x3C => limit(anc, types, sets, slots, entries, effects, at, lead(w)),
+        0x3C => limit(table, slots, entries, effects, at, lead(w)),
         0x42 => {
             let x = operand_at(slots, entries, effects, at);
-            spawn(anc, x)
+            spawn(table.anc, x)
         }
         _ => two(
             w,
             at,
             operand_at(slots, entries, effects, at),
             slots,
-            types,
-            sets,
             entries,
             effects,
             names,
-            anc,
+            table,
             next,
             known,
         ),

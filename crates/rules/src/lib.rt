@@ -12,7 +12,7 @@ ghost use Rattle.rules.specs.Commands as by;
 
 use names::{eff_below, join, touch};
 use table::{MOST_DEPTH, MOST_NAMES, MOST_VARIABLES, Name, get_or};
-use types::{Entry, entry_at};
+use types::{Entry, TypeTable, entry_at};
 
 // The type and effect of an expression: a new entry; two new ones, for a number, whose entry is given, and for a pair with both parts there; or one already there.
 // A rule gives that, or the number of a refusal: no more, since which expression it is of is not known here.
@@ -49,36 +49,21 @@ fn touched(anc: &[u64; MOST_NAMES], q: Name, s: u64) -> u64
 }
 
 // Whether type a is a subtype of type t. One of them is a declared type, which is no deeper than 16.
-fn fits<'a>(
-    anc: &'a [u64; MOST_NAMES],
-    types: &'a [u64],
-    sets: &'a [u64],
-    a: u16,
-    t: u16,
-    known: &mut [u64],
-) -> bool
-    requires { Known anc.now types.now sets.now known.old }
-    ensures { (result ≡ by.fits_by anc.now types.now sets.now a t)
-        × Known anc.now types.now sets.now known.new }
+fn fits(table: &TypeTable<'_>, a: u16, t: u16, known: &mut [u64]) -> bool
+    requires { Known table.now.anc.now table.now.types.now table.now.sets.now known.old }
+    ensures { (result ≡ by.fits_by table.now.anc.now table.now.types.now table.now.sets.now a t)
+        × Known table.now.anc.now table.now.types.now table.now.sets.now known.new }
 {
-    types::below(MOST_DEPTH, anc, types, sets, a, t, known)
+    types::below(MOST_DEPTH, table, a, t, known)
 }
 
 // Whether the types of two branches are subtypes of type t.
-fn branches_fit<'a>(
-    anc: &'a [u64; MOST_NAMES],
-    types: &'a [u64],
-    sets: &'a [u64],
-    a: u16,
-    b: u16,
-    t: u16,
-    known: &mut [u64],
-) -> bool
-    requires { Known anc.now types.now sets.now known.old }
-    ensures { (result ≡ by.branches_fit anc.now types.now sets.now a b t)
-        × Known anc.now types.now sets.now known.new }
+fn branches_fit(table: &TypeTable<'_>, a: u16, b: u16, t: u16, known: &mut [u64]) -> bool
+    requires { Known table.now.anc.now table.now.types.now table.now.sets.now known.old }
+    ensures { (result ≡ by.branches_fit table.now.anc.now table.now.types.now table.now.sets.now a b t)
+        × Known table.now.anc.now table.now.types.now table.now.sets.now known.new }
 {
-    fits(anc, types, sets, a, t, known) && fits(anc, types, sets, b, t, known)
+    fits(table, a, t, known) && fits(table, b, t, known)
 }
 
 // 0x30, 0x31, 0x32.
@@ -111,20 +96,14 @@ pub fn pair(anc: &[u64; MOST_NAMES], x: Operand, y: Operand) -> Result<Typing, u
 }
 
 // 0x34.
-pub fn part<'a>(
-    anc: &'a [u64; MOST_NAMES],
-    types: &'a [u64],
-    sets: &'a [u64],
-    x: Operand,
-    i: u32,
-) -> Result<Typing, u8>
-    ensures { result_in result ≡ by.part_by anc.now types.now sets.now x i }
+pub fn part(table: &TypeTable<'_>, x: Operand, i: u32) -> Result<Typing, u8>
+    ensures { result_in result ≡ by.part_by table.now.anc.now table.now.types.now table.now.sets.now x i }
 {
-    let Entry::Pair(q, a, b) = entry_at(types, sets, x.ty) else {
+    let Entry::Pair(q, a, b) = entry_at(table.types, table.sets, x.ty) else {
         return Err(11);
     };
     let j = if i == 1 { a } else { b };
-    Ok(Typing::Points(j, touched(anc, q, x.effect)))
+    Ok(Typing::Points(j, touched(table.anc, q, x.effect)))
 }
 
 // 0x35.
@@ -135,134 +114,103 @@ pub fn function(t: u16, x: Operand) -> Result<Typing, u8>
 }
 
 // 0x36.
-pub fn apply<'a>(
-    anc: &'a [u64; MOST_NAMES],
-    types: &'a [u64],
-    sets: &'a [u64],
-    x: Operand,
-    y: Operand,
-    known: &mut [u64],
-) -> Result<Typing, u8>
-    requires { Known anc.now types.now sets.now known.old }
-    ensures { (result_in result ≡ by.apply_by anc.now types.now sets.now x y)
-        × Known anc.now types.now sets.now known.new }
+pub fn apply(table: &TypeTable<'_>, x: Operand, y: Operand, known: &mut [u64]) -> Result<Typing, u8>
+    requires { Known table.now.anc.now table.now.types.now table.now.sets.now known.old }
+    ensures { (result_in result ≡ by.apply_by table.now.anc.now table.now.types.now table.now.sets.now x y)
+        × Known table.now.anc.now table.now.types.now table.now.sets.now known.new }
 {
-    let Entry::Function(q, t, u, l) = entry_at(types, sets, x.ty) else {
+    let Entry::Function(q, t, u, l) = entry_at(table.types, table.sets, x.ty) else {
         return Err(11);
     };
-    if !fits(anc, types, sets, y.ty, t, known) {
+    if !fits(table, y.ty, t, known) {
         return Err(12);
     }
     let s = join(l, join(x.effect, y.effect));
-    Ok(Typing::Points(u, touched(anc, q, s)))
+    Ok(Typing::Points(u, touched(table.anc, q, s)))
 }
 
 // 0x37.
-pub fn cell<'a>(
-    anc: &'a [u64; MOST_NAMES],
-    types: &'a [u64],
-    sets: &'a [u64],
-    t: u16,
-    x: Operand,
-    known: &mut [u64],
-) -> Result<Typing, u8>
-    requires { Known anc.now types.now sets.now known.old }
-    ensures { (result_in result ≡ by.cell_by anc.now types.now sets.now t x)
-        × Known anc.now types.now sets.now known.new }
+pub fn cell(table: &TypeTable<'_>, t: u16, x: Operand, known: &mut [u64]) -> Result<Typing, u8>
+    requires { Known table.now.anc.now table.now.types.now table.now.sets.now known.old }
+    ensures { (result_in result ≡ by.cell_by table.now.anc.now table.now.types.now table.now.sets.now t x)
+        × Known table.now.anc.now table.now.types.now table.now.sets.now known.new }
 {
-    if !fits(anc, types, sets, x.ty, t, known) {
+    if !fits(table, x.ty, t, known) {
         return Err(12);
     }
     Ok(Typing::Makes(Entry::Cell(Name(0), t), x.effect))
 }
 
 // 0x38.
-pub fn assign<'a>(
-    anc: &'a [u64; MOST_NAMES],
-    types: &'a [u64],
-    sets: &'a [u64],
+pub fn assign(
+    table: &TypeTable<'_>,
     x: Operand,
     y: Operand,
     known: &mut [u64],
 ) -> Result<Typing, u8>
-    requires { Known anc.now types.now sets.now known.old }
-    ensures { (result_in result ≡ by.assign_by anc.now types.now sets.now x y)
-        × Known anc.now types.now sets.now known.new }
+    requires { Known table.now.anc.now table.now.types.now table.now.sets.now known.old }
+    ensures { (result_in result ≡ by.assign_by table.now.anc.now table.now.types.now table.now.sets.now x y)
+        × Known table.now.anc.now table.now.types.now table.now.sets.now known.new }
 {
-    let Entry::Cell(q, t) = entry_at(types, sets, x.ty) else {
+    let Entry::Cell(q, t) = entry_at(table.types, table.sets, x.ty) else {
         return Err(11);
     };
-    if !fits(anc, types, sets, y.ty, t, known) {
+    if !fits(table, y.ty, t, known) {
         return Err(12);
     }
-    Ok(Typing::Points(t, touched(anc, q, join(x.effect, y.effect))))
+    Ok(Typing::Points(t, touched(table.anc, q, join(x.effect, y.effect))))
 }
 
 // 0x39.
-pub fn read<'a>(
-    anc: &'a [u64; MOST_NAMES],
-    types: &'a [u64],
-    sets: &'a [u64],
-    x: Operand,
-) -> Result<Typing, u8>
-    ensures { result_in result ≡ by.read_by anc.now types.now sets.now x }
+pub fn read(table: &TypeTable<'_>, x: Operand) -> Result<Typing, u8>
+    ensures { result_in result ≡ by.read_by table.now.anc.now table.now.types.now table.now.sets.now x }
 {
-    let Entry::Cell(q, t) = entry_at(types, sets, x.ty) else {
+    let Entry::Cell(q, t) = entry_at(table.types, table.sets, x.ty) else {
         return Err(11);
     };
-    Ok(Typing::Points(t, touched(anc, q, x.effect)))
+    Ok(Typing::Points(t, touched(table.anc, q, x.effect)))
 }
 
 // 0x3A.
-pub fn sum<'a>(
-    anc: &'a [u64; MOST_NAMES],
-    types: &'a [u64],
-    sets: &'a [u64],
-    x: Operand,
-    y: Operand,
-) -> Result<Typing, u8>
-    ensures { result_in result ≡ by.sum_by anc.now types.now sets.now x y }
+pub fn sum(table: &TypeTable<'_>, x: Operand, y: Operand) -> Result<Typing, u8>
+    ensures { result_in result ≡ by.sum_by table.now.anc.now table.now.types.now table.now.sets.now x y }
 {
-    let Entry::Number(p) = entry_at(types, sets, x.ty) else {
+    let Entry::Number(p) = entry_at(table.types, table.sets, x.ty) else {
         return Err(11);
     };
-    let Entry::Number(q) = entry_at(types, sets, y.ty) else {
+    let Entry::Number(q) = entry_at(table.types, table.sets, y.ty) else {
         return Err(11);
     };
     let s = touch(q, join(x.effect, y.effect));
-    Ok(Typing::Makes(Entry::Number(Name(0)), touched(anc, p, s)))
+    Ok(Typing::Makes(Entry::Number(Name(0)), touched(table.anc, p, s)))
 }
 
 // 0x3B.
-pub fn test<'a>(
-    anc: &'a [u64; MOST_NAMES],
-    types: &'a [u64],
-    sets: &'a [u64],
+pub fn test(
+    table: &TypeTable<'_>,
     x: Operand,
     y: Operand,
     z: Operand,
     t: u16,
     known: &mut [u64],
 ) -> Result<Typing, u8>
-    requires { Known anc.now types.now sets.now known.old }
-    ensures { (result_in result ≡ by.test_by anc.now types.now sets.now x y z t)
-        × Known anc.now types.now sets.now known.new }
+    requires { Known table.now.anc.now table.now.types.now table.now.sets.now known.old }
+    ensures { (result_in result ≡ by.test_by table.now.anc.now table.now.types.now table.now.sets.now x y z t)
+        × Known table.now.anc.now table.now.types.now table.now.sets.now known.new }
 {
-    let Entry::Number(q) = entry_at(types, sets, x.ty) else {
+    let Entry::Number(q) = entry_at(table.types, table.sets, x.ty) else {
         return Err(11);
     };
-    if !branches_fit(anc, types, sets, y.ty, z.ty, t, known) {
+    if !branches_fit(table, y.ty, z.ty, t, known) {
         return Err(12);
     }
     let s = join(x.effect, join(y.effect, z.effect));
-    Ok(Typing::Points(t, touched(anc, q, s)))
+    Ok(Typing::Points(t, touched(table.anc, q, s)))
 }
 
 // 0x3C: n keys at place `at` and after it, of which there are at most four, and the body at the fifth place.
 pub fn limit<'a>(
-    anc: &'a [u64; MOST_NAMES],
-    types: &'a [u64],
-    sets: &'a [u64],
+    table: &TypeTable<'_>,
     slots: &'a [u16],
     entries: &'a [u16],
     effects: &'a [u64],
@@ -271,40 +219,34 @@ pub fn limit<'a>(
 ) -> Result<Typing, u8>
     requires { at ≤ 327675 }
     ensures { result_in result
-        ≡ by.limit_by anc.now types.now sets.now slots.now entries.now effects.now at n }
+        ≡ by.limit_by table.now.anc.now table.now.types.now table.now.sets.now slots.now entries.now effects.now at n }
 {
     let mut rs: u64 = 0;
     let mut s: u64 = 0;
     for j in at..at + n.min(4) as usize {
         let x = operand_at(slots, entries, effects, j);
-        let Entry::Limit(q, r) = entry_at(types, sets, x.ty) else {
+        let Entry::Limit(q, r) = entry_at(table.types, table.sets, x.ty) else {
             return Err(11);
         };
         rs = touch(r, rs);
         s = touch(q, join(x.effect, s));
     }
     let body = operand_at(slots, entries, effects, at + 4);
-    if !eff_below(anc, body.effect, rs) {
+    if !eff_below(table.anc, body.effect, rs) {
         return Err(13);
     }
-    Ok(Typing::Points(body.ty, names::reduce(anc, join(s, body.effect))))
+    Ok(Typing::Points(body.ty, names::reduce(table.anc, join(s, body.effect))))
 }
 
 // 0x3D.
-pub fn grant<'a>(
-    anc: &'a [u64; MOST_NAMES],
-    types: &'a [u64],
-    sets: &'a [u64],
-    x: Operand,
-    y: Operand,
-) -> Result<Typing, u8>
-    ensures { result_in result ≡ by.grant_by anc.now types.now sets.now x y }
+pub fn grant(table: &TypeTable<'_>, x: Operand, y: Operand) -> Result<Typing, u8>
+    ensures { result_in result ≡ by.grant_by table.now.anc.now table.now.types.now table.now.sets.now x y }
 {
-    let Entry::Grant(q, r) = entry_at(types, sets, x.ty) else {
+    let Entry::Grant(q, r) = entry_at(table.types, table.sets, x.ty) else {
         return Err(11);
     };
-    let s = join(x.effect, names::drop_below(anc, r, y.effect));
-    Ok(Typing::Points(y.ty, touched(anc, q, s)))
+    let s = join(x.effect, names::drop_below(table.anc, r, y.effect));
+    Ok(Typing::Points(y.ty, touched(table.anc, q, s)))
 }
 
 // Whether u is the upper name of r.
@@ -316,9 +258,7 @@ fn is_upper(names: &[u16], r: Name, u: Name) -> bool
 
 // 0x3E.
 pub fn new_key<'a>(
-    anc: &'a [u64; MOST_NAMES],
-    types: &'a [u64],
-    sets: &'a [u64],
+    table: &TypeTable<'_>,
     names: &'a [u16],
     r: Name,
     x: Operand,
@@ -326,21 +266,21 @@ pub fn new_key<'a>(
     t: u16,
     known: &mut [u64],
 ) -> Result<Typing, u8>
-    requires { Known anc.now types.now sets.now known.old }
-    ensures { (result_in result ≡ by.new_key_by anc.now types.now sets.now names.now r.0 x y t)
-        × Known anc.now types.now sets.now known.new }
+    requires { Known table.now.anc.now table.now.types.now table.now.sets.now known.old }
+    ensures { (result_in result ≡ by.new_key_by table.now.anc.now table.now.types.now table.now.sets.now names.now r.0 x y t)
+        × Known table.now.anc.now table.now.types.now table.now.sets.now known.new }
 {
-    let Entry::Limit(q, u) = entry_at(types, sets, x.ty) else {
+    let Entry::Limit(q, u) = entry_at(table.types, table.sets, x.ty) else {
         return Err(11);
     };
     if !is_upper(names, r, u) {
         return Err(11);
     }
-    if !fits(anc, types, sets, y.ty, t, known) {
+    if !fits(table, y.ty, t, known) {
         return Err(12);
     }
     let s = join(x.effect, names::raise(r, u, y.effect));
-    Ok(Typing::Points(t, touched(anc, q, s)))
+    Ok(Typing::Points(t, touched(table.anc, q, s)))
 }
 
 // The key of an entry, and an entry with another key. These stay two matches: with the key in a struct beside the kind, each rule would match Entry { key: q, kind: Kind::Pair(a, b) }.
@@ -372,70 +312,55 @@ fn rekeyed(k: Name, e: Entry) -> Entry
 }
 
 // 0x3F.
-pub fn associate<'a>(
-    anc: &'a [u64; MOST_NAMES],
-    types: &'a [u64],
-    sets: &'a [u64],
-    x: Operand,
-    y: Operand,
-) -> Result<Typing, u8>
-    ensures { result_in result ≡ by.associate_by anc.now types.now sets.now x y }
+pub fn associate(table: &TypeTable<'_>, x: Operand, y: Operand) -> Result<Typing, u8>
+    ensures { result_in result ≡ by.associate_by table.now.anc.now table.now.types.now table.now.sets.now x y }
 {
-    let Entry::Limit(q, r) = entry_at(types, sets, y.ty) else {
+    let Entry::Limit(q, r) = entry_at(table.types, table.sets, y.ty) else {
         return Err(11);
     };
-    let e = entry_at(types, sets, x.ty);
+    let e = entry_at(table.types, table.sets, x.ty);
     let s = touch(q, join(x.effect, y.effect));
-    Ok(Typing::Makes(rekeyed(r, e), touched(anc, key(e), s)))
+    Ok(Typing::Makes(rekeyed(r, e), touched(table.anc, key(e), s)))
 }
 
 // 0x40: the first branch's effect without the names below the key's own name, the second's whole.
-pub fn access<'a>(
-    anc: &'a [u64; MOST_NAMES],
-    types: &'a [u64],
-    sets: &'a [u64],
+pub fn access(
+    table: &TypeTable<'_>,
     x: Operand,
     y: Operand,
     z: Operand,
     t: u16,
     known: &mut [u64],
 ) -> Result<Typing, u8>
-    requires { Known anc.now types.now sets.now known.old }
-    ensures { (result_in result ≡ by.access_by anc.now types.now sets.now x y z t)
-        × Known anc.now types.now sets.now known.new }
+    requires { Known table.now.anc.now table.now.types.now table.now.sets.now known.old }
+    ensures { (result_in result ≡ by.access_by table.now.anc.now table.now.types.now table.now.sets.now x y z t)
+        × Known table.now.anc.now table.now.types.now table.now.sets.now known.new }
 {
-    let Entry::Limit(q, r) = entry_at(types, sets, x.ty) else {
+    let Entry::Limit(q, r) = entry_at(table.types, table.sets, x.ty) else {
         return Err(11);
     };
-    if !branches_fit(anc, types, sets, y.ty, z.ty, t, known) {
+    if !branches_fit(table, y.ty, z.ty, t, known) {
         return Err(12);
     }
     let s = join(
         x.effect,
-        join(names::drop_below(anc, r, y.effect), z.effect),
+        join(names::drop_below(table.anc, r, y.effect), z.effect),
     );
-    Ok(Typing::Points(t, touched(anc, q, s)))
+    Ok(Typing::Points(t, touched(table.anc, q, s)))
 }
 
 // 0x41: entry `next` for the number, and then one for the pair, with both its parts there.
-pub fn divide<'a>(
-    anc: &'a [u64; MOST_NAMES],
-    types: &'a [u64],
-    sets: &'a [u64],
-    x: Operand,
-    y: Operand,
-    next: u16,
-) -> Result<Typing, u8>
-    ensures { result_in result ≡ by.divide_by anc.now types.now sets.now x y next }
+pub fn divide(table: &TypeTable<'_>, x: Operand, y: Operand, next: u16) -> Result<Typing, u8>
+    ensures { result_in result ≡ by.divide_by table.now.anc.now table.now.types.now table.now.sets.now x y next }
 {
-    let Entry::Number(p) = entry_at(types, sets, x.ty) else {
+    let Entry::Number(p) = entry_at(table.types, table.sets, x.ty) else {
         return Err(11);
     };
-    let Entry::Number(q) = entry_at(types, sets, y.ty) else {
+    let Entry::Number(q) = entry_at(table.types, table.sets, y.ty) else {
         return Err(11);
     };
     let s = touch(q, join(x.effect, y.effect));
-    Ok(Typing::Shares(next, touched(anc, p, s)))
+    Ok(Typing::Shares(next, touched(table.anc, p, s)))
 }
 
 // 0x42: a number, where the body's effect is empty, whatever its type.

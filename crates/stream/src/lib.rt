@@ -1,7 +1,7 @@
 // Standard input and output of the programs, and any other reader and writer: a read that fails is told from the end of the input, and a write that fails from one that does not.
 #![tactic(auto)]
 
-ghost use Rattle.std.specs.Prelude.{◌≡◌, ℕ, ◌+◌, ◌≤◌, ◌<◌, length, take, MatchResult, IfOk, OnOk};
+ghost use Rattle.std.specs.Prelude.{◌≡◌, ℕ, ◌+◌, ◌≤◌, ◌<◌, true, false, cond, List, [], length, take, MatchResult, IfOk, OnOk, IfSome, is_ok};
 ghost use Rattle.std.specs.Io.KnownBytes.{Appends, Consumes, IsAtEnd, Keeps};
 ghost use Rattle.stream.specs.Input.{read_length};
 
@@ -22,6 +22,7 @@ pub fn read_all<R: Read>(input: &mut R, job: &mut [u8]) -> Result<usize, Cut>
         (take (read_length result) job.new) }
     ensures end { IfOk result (λ n. n < length job.new → IsAtEnd (R.remaining input.new)) }
 {
+    // Stays a `while`: each turn goes on by as many bytes as the system gave.
     let mut n: usize = 0;
     while n < job.len() {
         match input.read(&mut job[n..]) {
@@ -58,6 +59,59 @@ pub fn write<W: Write>(output: &mut W, bytes: &[u8], n: usize) -> io::Result<()>
         }
     }
     output.flush()
+}
+
+// What a program prints of a job: a text, and how much room it takes at most.
+pub trait Printer {
+    ghost text: { List ℕ → List ℕ };
+
+    ghost room: { ℕ };
+
+    // Puts the text of the job at the start of a buffer with room for it, and returns how many bytes it has.
+    fn print(job: &[u8], buffer: &mut [u8]) -> usize
+        requires { room ≤ length buffer.old }
+        ensures { take result buffer.new ≡ text job.now };
+}
+
+// The text of a job that is read whole, and none of another. Returns how many bytes it has.
+fn reply<P: Printer>(job: &[u8], told: Result<usize, Cut>, buffer: &mut [u8]) -> usize
+    requires room { P.room ≤ length buffer.old }
+    requires fits { read_length told ≤ length job.now }
+    ensures { take result buffer.new ≡ cond (is_ok told) (P.text (take (read_length told) job.now)) [] }
+{
+    match told {
+        Ok(n) => P::print(&job[..n], buffer),
+        Err(_) => 0,
+    }
+}
+
+// Whether a job was read whole, and whether all of its text was written.
+#[derive(Clone, Copy)]
+pub struct Served {
+    pub read: bool,
+    pub written: bool,
+}
+
+// Reads a job and writes its text: that of the bytes that the input has, as far as the room for the job goes. Of a job that cannot be read nothing is written.
+pub fn serve<P: Printer, R: Read, W: Write>(
+    input: &mut R,
+    output: &mut W,
+    job: &mut [u8],
+    buffer: &mut [u8],
+) -> Served
+    requires { P.room ≤ length buffer.old }
+    ensures text { result.read ≡ true → result.written ≡ true → IfSome (R.remaining input.old)
+        (λ bytes. Appends (W.contents output.old) (W.contents output.new)
+        (P.text (take (length job.old) bytes))) }
+    ensures none { result.read ≡ false → Keeps (W.contents output.old) (W.contents output.new) }
+{
+    let told = read_all(input, job);
+    let len = reply::<P>(job, told, buffer);
+    let written = write(output, buffer, len);
+    Served {
+        read: told.is_ok(),
+        written: written.is_ok(),
+    }
 }
 
 #[cfg(test)]

@@ -7,32 +7,24 @@ ghost use Rattle.typing.specs.Entries.{sub_in, super_in};
 ghost use Rattle.names.specs.Ancestors.{below_by, effects_by};
 ghost use Rattle.equality.specs.Known.{Known};
 
-pub use equality::{Entry, MEMORY, entry_at, make_room};
+pub use equality::{Entry, MEMORY, TypeTable, entry_at, make_room};
 use equality::{Relation, effects, heads, leaves, packed, recalled, remember, same};
-use table::{MOST_NAMES, byte_of, first_of, get_or, second_of};
+use table::{byte_of, first_of, get_or, second_of};
 
 // Whether type a is below type b: a cell's content is compared by equality, and a function's argument the other way round.
 // Stays a function of its own beside above and equality::same, since a rule of the project names this form (docs/DECISIONS.md, "Matching forms to places"): the equality calls itself on both parts, and below and above call each other at function arguments.
 #[cycle(above_below)]
-pub fn below<'a>(
-    d: u8,
-    anc: &'a [u64; MOST_NAMES],
-    types: &'a [u64],
-    sets: &'a [u64],
-    a: u16,
-    b: u16,
-    known: &mut [u64],
-) -> bool
-    requires { Known anc.now types.now sets.now known.old }
-    ensures { (result ≡ sub_in (below_by anc.now) (effects_by anc.now) d (entry_in types.now sets.now) a b)
-        × Known anc.now types.now sets.now known.new }
+pub fn below(d: u8, table: &TypeTable<'_>, a: u16, b: u16, known: &mut [u64]) -> bool
+    requires { Known table.now.anc.now table.now.types.now table.now.sets.now known.old }
+    ensures { (result ≡ sub_in (below_by table.now.anc.now) (effects_by table.now.anc.now) d (entry_in table.now.types.now table.now.sets.now) a b)
+        × Known table.now.anc.now table.now.types.now table.now.sets.now known.new }
 {
     if d == 0 {
         return false;
     }
-    let x = get_or(types, a as usize, 0);
-    let y = get_or(types, b as usize, 0);
-    if !heads(Relation::Below, anc, x, y) {
+    let x = get_or(table.types, a as usize, 0);
+    let y = get_or(table.types, b as usize, 0);
+    if !heads(Relation::Below, table.anc, x, y) {
         return false;
     }
     let e = d - 1;
@@ -43,23 +35,21 @@ pub fn below<'a>(
             if recalled(known, packed(Relation::Below, d, a, b)) {
                 return true;
             }
-            if below(e, anc, types, sets, p, q, known)
-                && below(e, anc, types, sets, second_of(x), second_of(y), known)
-            {
+            if below(e, table, p, q, known) && below(e, table, second_of(x), second_of(y), known) {
                 return remember(known, packed(Relation::Below, d, a, b));
             }
             false
         }
-        0x12 => same(e, anc, types, sets, p, q, known), // by equality
+        0x12 => same(e, table, p, q, known), // by equality
         0x13 => {
             if recalled(known, packed(Relation::Below, d, a, b)) {
                 return true;
             }
-            let s = get_or(sets, a as usize, 0);
-            let t = get_or(sets, b as usize, 0);
-            if effects(Relation::Below, anc, s, t)
-                && above(e, anc, types, sets, p, q, known) // the other way round
-                && below(e, anc, types, sets, second_of(x), second_of(y), known)
+            let s = get_or(table.sets, a as usize, 0);
+            let t = get_or(table.sets, b as usize, 0);
+            if effects(Relation::Below, table.anc, s, t)
+                && above(e, table, p, q, known) // the other way round
+                && below(e, table, second_of(x), second_of(y), known)
             {
                 return remember(known, packed(Relation::Below, d, a, b)); // this pair, this way round
             }
@@ -71,25 +61,17 @@ pub fn below<'a>(
 
 // Whether type a is above type b.
 #[cycle(above_below)]
-fn above<'a>(
-    d: u8,
-    anc: &'a [u64; MOST_NAMES],
-    types: &'a [u64],
-    sets: &'a [u64],
-    a: u16,
-    b: u16,
-    known: &mut [u64],
-) -> bool
-    requires { Known anc.now types.now sets.now known.old }
-    ensures { (result ≡ super_in (below_by anc.now) (effects_by anc.now) d (entry_in types.now sets.now) a b)
-        × Known anc.now types.now sets.now known.new }
+fn above(d: u8, table: &TypeTable<'_>, a: u16, b: u16, known: &mut [u64]) -> bool
+    requires { Known table.now.anc.now table.now.types.now table.now.sets.now known.old }
+    ensures { (result ≡ super_in (below_by table.now.anc.now) (effects_by table.now.anc.now) d (entry_in table.now.types.now table.now.sets.now) a b)
+        × Known table.now.anc.now table.now.types.now table.now.sets.now known.new }
 {
     if d == 0 {
         return false;
     }
-    let x = get_or(types, a as usize, 0);
-    let y = get_or(types, b as usize, 0);
-    if !heads(Relation::Above, anc, x, y) {
+    let x = get_or(table.types, a as usize, 0);
+    let y = get_or(table.types, b as usize, 0);
+    if !heads(Relation::Above, table.anc, x, y) {
         return false;
     }
     let e = d - 1;
@@ -100,23 +82,21 @@ fn above<'a>(
             if recalled(known, packed(Relation::Above, d, a, b)) {
                 return true;
             }
-            if above(e, anc, types, sets, p, q, known)
-                && above(e, anc, types, sets, second_of(x), second_of(y), known)
-            {
+            if above(e, table, p, q, known) && above(e, table, second_of(x), second_of(y), known) {
                 return remember(known, packed(Relation::Above, d, a, b));
             }
             false
         }
-        0x12 => same(e, anc, types, sets, p, q, known),
+        0x12 => same(e, table, p, q, known),
         0x13 => {
             if recalled(known, packed(Relation::Above, d, a, b)) {
                 return true;
             }
-            let s = get_or(sets, a as usize, 0);
-            let t = get_or(sets, b as usize, 0);
-            if effects(Relation::Above, anc, s, t)
-                && below(e, anc, types, sets, p, q, known)
-                && above(e, anc, types, sets, second_of(x), second_of(y), known)
+            let s = get_or(table.sets, a as usize, 0);
+            let t = get_or(table.sets, b as usize, 0);
+            if effects(Relation::Above, table.anc, s, t)
+                && below(e, table, p, q, known)
+                && above(e, table, second_of(x), second_of(y), known)
             {
                 return remember(known, packed(Relation::Above, d, a, b));
             }

@@ -10,7 +10,7 @@ ghost use Rattle.encode.specs.Penned.{reach_of, fault_in};
 ghost use Rattle.entry.specs.Shapes.{counts_of};
 ghost use Rattle.writer.specs.Sends.{Delivered, WriteTo};
 
-use encode::{SCRATCH, encode};
+use encode::{SCRATCH, Shown, encode};
 pub use entry::Shape;
 use job::{long_enough, would_read};
 pub use table::Refusal;
@@ -52,6 +52,7 @@ fn deliver(bytes: &[u8], pen: Result<usize, Refusal>, buffer: &mut [u8]) -> Resu
 }
 
 // Writes the job that the tables hold, by their counts, and gives how many bytes it has: they stand at the start of the buffer, and bytes past them stay. A refusal writes no byte, and the tables are only read.
+// The six tables stay parameters of their own, as `job::read` has them: README names both calls.
 pub fn write(
     names: &[u16],
     types: &[u64],
@@ -74,7 +75,15 @@ pub fn write(
         slots.len(),
     ) {
         let mut scratch = [0u8; SCRATCH];
-        let pen = encode(names, types, sets, values, heads, slots, g, &mut scratch);
+        let tables = Shown {
+            names,
+            types,
+            sets,
+            values,
+            heads,
+            slots,
+        };
+        let pen = encode(tables, g, &mut scratch);
         let n = reach(pen);
         deliver(&scratch[..n], pen, buffer)
     } else {

@@ -6,6 +6,6 @@ pub returns-then-file-eq0 : goal.returns-then-file-eq0
 unfolding at_end
 returns-then-file-eq0 c = simp (eq-eqb _ _ c.if-file-eq0.true)
 
-pub returns : goal.returns
+pub returns-else-file-eq0 : goal.returns-else-file-eq0
 unfolding at_end
-returns c = simp (ne_eqb _ _ c.if-file-eq0.false, ← c.job_length.ensures)
+returns-else-file-eq0 c = simp (ne_eqb _ _ c.if-file-eq0.false, ← c.job_length.ensures)

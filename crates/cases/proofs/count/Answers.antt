@@ -6,14 +6,14 @@ use Rattle.cases.proofs.count.Goals as goal
 use Rattle.cases.proofs.count.Goals.{then-agrees, else-agrees}
 
 pub loop-left-smaller : goal.loop-left-smaller
-loop-left-smaller c = rw c.after-next.ensures (after_less _ (sym c.loop-left-test.ensures))
+loop-left-smaller c = rw c.after-left.ensures (after_less _ (sym c.loop-left-test.ensures))
 
 pub loop-left-preserved : goal.loop-left-preserved
 loop-left-preserved c =
     let goes : at_end c.loop-left.left.now ≡ false = sym c.loop-left-test.ensures in
     elim c.if-agrees.branch [
-      | then-agrees w ↦ loop_agree _ _ _ c.loop-left.invariant goes c.after-next.ensures (sym w.if-agrees.ensures) w.agree-is w.differ-is
-      | else-agrees w ↦ loop_differ _ _ _ c.loop-left.invariant goes c.after-next.ensures (sym w.if-agrees.ensures) w.agree-is w.differ-is
+      | then-agrees w ↦ loop_agree _ _ _ c.loop-left.invariant goes c.after-left.ensures (sym w.if-agrees.ensures) w.agree-is w.differ-is
+      | else-agrees w ↦ loop_differ _ _ _ c.loop-left.invariant goes c.after-left.ensures (sym w.if-agrees.ensures) w.agree-is w.differ-is
     ]
 
 pub returns : goal.returns

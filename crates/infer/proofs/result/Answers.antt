@@ -10,7 +10,7 @@ use Rattle.infer.proofs.result.Goals as goal
 
 pub returns-in-60 : goal.returns-in-60
 unfolding result_at code_in decode
-returns-in-60 c = (simp (← c.get_or-w.ensures, c.in-60.is, c.limit.ensures, c.lead-in-60.ensures) (keys_any c.args.anc.now c.args.names.now (λ v. get_or c.args.vars.now v 0) (entry_in c.args.types.now c.args.sets.now) (λ a. get_or c.args.entries.now a 0) (λ a. of_word (get_or c.args.effects.now a 0)) _ _ _ _), c.requires)
+returns-in-60 c = (simp (← c.get_or-w.ensures, c.in-60.is, c.limit.ensures, c.lead-in-60.ensures) (keys_any c.args.table.now.anc.now c.args.names.now (λ v. get_or c.args.vars.now v 0) (entry_in c.args.table.now.types.now c.args.table.now.sets.now) (λ a. get_or c.args.entries.now a 0) (λ a. of_word (get_or c.args.effects.now a 0)) _ _ _ _), c.requires)
 
 pub returns-in_default : goal.returns-in_default
 unfolding result_at code_in decode_by

@@ -1,0 +1,5 @@
+use Rattle.wall.specs.SheetTold.{long_says}
+use Rattle.sheet.proofs.SheetPrinter.print.Goals as goal
+
+pub returns : goal.returns
+returns c = (long_says _ _ _ _ c.sheet.ensures c.requires).1
