@@ -2,7 +2,7 @@
 use mathlib.Core.Path.{◌≡◌, refl, sym, ap, ap₂, ◌∙◌, subst}
 use Prim.Native.Nat.{ℕ, ◌+◌, ◌≤◌, ◌<◌}
 use native.Mathlib.Omega.{arith}
-use mathlib.Core.Bool.{Bool, true, false, cond, not}
+use mathlib.Core.Bool.{Bool, true, false, cond, not, true≢false}
 use mathlib.Core.List.{List, ◌∷◌}
 use mathlib.Core.Option.{Option, some}
 use lib.ListN.{length, length-append, length-replicate, length-take, get_or, get_elem?, take, drop}
@@ -25,8 +25,9 @@ use Rattle.names.specs.Ancestors.{names_in, declared_of, ancestors_by, set_ok_by
 use Rattle.names.proofs.Laws.{set_ok_by_lem, rights_ok_by_lem}
 use Rattle.names.proofs.Pass.{ancestors_by_lem}
 use Rattle.entry.specs.Bytes.{field_at, section_byte, misplaced_by, full_by}
-use Rattle.entry.specs.Entries.{Judged, named_of, name_entry, value_entry, rights_entry, form_entry, entry_of, in_room, judged_by, entry_in, judged_in}
+use Rattle.entry.specs.Entries.{Judged, named_of, name_entry, value_entry, rights_entry, form_entry, entry_of, in_room, judged_by, entry_in, judged_in, stops_of, sort_of}
 use Rattle.entry.specs.Shapes.{shape_of}
+use Rattle.entry.specs.declared.Entry.{Entry}
 use Rattle.entry.specs.declared.Entry.TheVariants.{Named, Rights, Last}
 use Rattle.entry.specs.OpBytes.{byte_of}
 use Rattle.entry.proofs.OpBytes.{op_byte, width_narrow, width_is}
@@ -183,22 +184,35 @@ pub data Adds : Written → Type 0 where
 pub data Agrees (J : Job) (sec w n : ℕ) : Step → Judged → Type 0 where
   ag_refuse : (m : ℕ) → Agrees J sec w n (refuse m) (Err m)
   ag_last : Agrees J sec w n (finish J) (Ok Last)
-  ag_on : (x : Written) → Adds x → ok_w x J ≡ true → w ≤ n → Agrees J sec w n (proceed (record { section = sec; job = extended x J })) (Ok (entry_w x J))
+  ag_on : (x : Written) → Adds x → sort_of (entry_w x J) ≡ sec → ok_w x J ≡ true → w ≤ n → Agrees J sec w n (proceed (record { section = sec; job = extended x J })) (Ok (entry_w x J))
 
-agree_on : (J : Job) (sec w n : ℕ) → sec < 5 → (x : Written) → Adds x → w ≤ n → (b : Bool) → ok_w x J ≡ b → Agrees J sec w n (settle sec (given b (extended x J))) (cond b (Ok (entry_w x J)) (Err 6))
+agree_on : (J : Job) (sec w n : ℕ) → sec < 5 → (x : Written) → Adds x → sort_of (entry_w x J) ≡ sec → w ≤ n → (b : Bool) → ok_w x J ≡ b → Agrees J sec w n (settle sec (given b (extended x J))) (cond b (Ok (entry_w x J)) (Err 6))
 unfolding settle given
-agree_on J sec w n h x a l false e = ag_refuse 6
-agree_on J sec w n h x a l true e = subst (λ (c : Bool). Agrees J sec w n (cond c (finish (extended x J)) (proceed (record { section = sec; job = extended x J }))) (Ok (entry_w x J))) (sym (ne_eqb sec 5 (λ z. omega arith))) (ag_on x a e l)
+agree_on J sec w n h x a q l false e = ag_refuse 6
+agree_on J sec w n h x a q l true e = subst (λ (c : Bool). Agrees J sec w n (cond c (finish (extended x J)) (proceed (record { section = sec; job = extended x J }))) (Ok (entry_w x J))) (sym (ne_eqb sec 5 (λ z. omega arith))) (ag_on x a q e l)
 
 agree_entered : (J : Job) (sec w n : ℕ) (x : Written) → Wrote sec x → places x ≡ 5 → w ≤ n → Agrees J sec w n (settle sec (given (ok_w x J) (extended x J))) (judged_w x J)
-unfolding judged_w ok_w extended entry_w settle given places
-agree_entered J sec w n x (wrote_name d) f l = agree_on J 0 w n (omega arith) (w_name d) (adds_name d) l (name_ok J.names d) refl
-agree_entered J sec w n x (wrote_type e) f l = agree_on J 1 w n (omega arith) (w_type e) (adds_type e) l (type_ok J.names J.types e) refl
-agree_entered J sec w n x (wrote_value h) f l = agree_on J 2 w n (omega arith) (w_value h) (adds_value h) l (host_value_ok J.names J.types h) refl
-agree_entered J sec w n x (wrote_rights s) f l = agree_on J 3 w n (omega arith) (w_rights s) (adds_rights s) l (rights_ok J.names s) refl
-agree_entered J sec w n x (wrote_cmd k) f l = agree_on J 4 w n (omega arith) (w_cmd k) (adds_cmd k f) l (cmd_ok J k) refl
+unfolding judged_w ok_w extended entry_w settle given places sort_of
+agree_entered J sec w n x (wrote_name d) f l = agree_on J 0 w n (omega arith) (w_name d) (adds_name d) refl l (name_ok J.names d) refl
+agree_entered J sec w n x (wrote_type e) f l = agree_on J 1 w n (omega arith) (w_type e) (adds_type e) refl l (type_ok J.names J.types e) refl
+agree_entered J sec w n x (wrote_value h) f l = agree_on J 2 w n (omega arith) (w_value h) (adds_value h) refl l (host_value_ok J.names J.types h) refl
+agree_entered J sec w n x (wrote_rights s) f l = agree_on J 3 w n (omega arith) (w_rights s) (adds_rights s) refl l (rights_ok J.names s) refl
+agree_entered J sec w n x (wrote_cmd k) f l = agree_on J 4 w n (omega arith) (w_cmd k) (adds_cmd k f) refl l (cmd_ok J k) refl
 agree_entered J sec w n x wrote_end f l = ag_last
 agree_entered J sec w n x (wrote_none m) f l = ag_refuse 6
+
+pub not_ok : (m : ℕ) (e : Entry) → ◌≡◌ {A = Judged} (Err m) (Ok e) → ⊥
+not_ok m e h = cc
+
+pub same_entry : (x e : Entry) → ◌≡◌ {A = Judged} (Ok x) (Ok e) → x ≡ e
+same_entry x e h = cc
+
+-- where reading goes on, the entry's sort is the section
+pub sort_on : {J : Job} {sec w n : ℕ} {x : Step} {r : Judged} {e : Entry} → Agrees J sec w n x r → r ≡ Ok e → stops_of e ≡ false → sort_of e ≡ sec
+unfolding stops_of
+sort_on {e = e} (ag_refuse m) er es = absurd (not_ok m e er)
+sort_on {e = e} ag_last er es = absurd (true≢false (ap stops_of (same_entry Last e er) ∙ es))
+sort_on {J = J} {e = e} (ag_on x a q okay l) er es = sym (ap sort_of (same_entry (entry_w x J) e er)) ∙ q
 
 -- one command
 pub agrees : (J : Job) (names types depths : List ℕ) → Kept J names types depths → (cur b : ℕ) (o : Op) (s : List ℕ) → op_of b ≡ some o

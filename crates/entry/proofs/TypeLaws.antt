@@ -30,11 +30,11 @@ use Rattle.entry.proofs.Entered.{ok_w, new_depth, entry_w, judged_w}
 
 -- Depths
 
-typed_is : (w s d : ℕ) → typed_of w s d ≡ cond (leb (suc d) 16) (Ok (Typed w s (suc d))) (Err 6)
+pub typed_is : (w s d : ℕ) → typed_of w s d ≡ cond (leb (suc d) 16) (Ok (Typed w s (suc d))) (Err 6)
 unfolding typed_of
 typed_is w s d = ap (λ (k : ℕ). cond (ltb d 16) (Ok (Typed w s k)) (Err 6)) (add-one d)
 
-typed_deep : (w s d : ℕ) → 16 ≤ d → typed_of w s d ≡ Err 6
+pub typed_deep : (w s d : ℕ) → 16 ≤ d → typed_of w s d ≡ Err 6
 unfolding typed_of
 typed_deep w s d h = ap (λ (b : Bool). cond b (Ok (Typed w s (d + 1))) (Err 6)) (le-ltb d 16 h)
 

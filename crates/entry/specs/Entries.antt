@@ -126,6 +126,15 @@ entry_in op s names types depths h = entry_of op s (ancestors_by (names_in names
 abbrev pub judged_in : ℕ → List ℕ → ℕ → Shape → List ℕ → List ℕ → List ℕ → Judged
 judged_in b s cur h names types depths = judged_by b s cur h (ancestors_by (names_in names h.names)) names types depths
 
+-- the section of an entry; 5 at the end of the job
+unfoldable pub sort_of : Entry → ℕ
+sort_of (Named w) = 0
+sort_of (Typed w s d) = 1
+sort_of (Valued w) = 2
+sort_of (Rights s) = 3
+sort_of (Formed f) = 4
+sort_of Last = 5
+
 -- reading stops at the end
 unfoldable pub stops_of : Entry → Bool
 stops_of (Named w) = false

@@ -6,9 +6,9 @@ mod declared;
 mod exprs;
 
 ghost use Rattle.std.specs.Prelude.{◌≡◌, get_or};
-ghost use Rattle.entry.specs.Bytes.{section_no, misplaced_by, full_by};
+ghost use Rattle.entry.specs.Bytes.{section_no, section_byte, misplaced_by, full_by};
 ghost use Rattle.entry.specs.Shapes.{no_shape};
-ghost use Rattle.entry.specs.Entries.{entry_of, judged_by};
+ghost use Rattle.entry.specs.Entries.{entry_of, judged_by, sort_of};
 
 use bytes::first;
 pub use bytes::{rest, width};
@@ -61,6 +61,23 @@ pub enum Entry {
     Last,
 }
 
+impl Entry {
+    // The section of its command.
+    #[tactic(auto, unfolding(crate::specs::Entries::sort_of))]
+    pub fn section(&self) -> Section
+        ensures { section_no result ≡ sort_of self.now }
+    {
+        match *self {
+            Entry::Named(_) => Section::Names,
+            Entry::Typed(_, _, _) => Section::Types,
+            Entry::Valued(_) => Section::Values,
+            Entry::Rights(_) => Section::Rights,
+            Entry::Formed(_) => Section::Expressions,
+            Entry::Last => Section::End,
+        }
+    }
+}
+
 // The sections of a job, in their order.
 #[derive(Clone, Copy, PartialEq, Eq, PartialOrd, Ord)]
 pub enum Section {
@@ -74,15 +91,16 @@ pub enum Section {
 
 // Whether a command of section `sec` is out of its place in section `cur`, after n expressions.
 #[tactic(auto, unfolding(crate::specs::Bytes::misplaced_by))]
-fn misplaced(cur: Section, sec: Section, n: usize) -> bool
-    ensures { result ≡ misplaced_by (section_no cur) (section_no sec) n }
+fn misplaced(cur: u8, sec: Section, n: usize) -> bool
+    ensures { result ≡ misplaced_by cur (section_no sec) n }
 {
-    sec < cur
+    let rights = Section::Rights as u8;
+    (sec as u8) < cur
         || match sec {
             Section::Names | Section::Types | Section::Values => false,
-            Section::Rights => cur == Section::Rights,
-            Section::Expressions => cur < Section::Rights,
-            Section::End => cur < Section::Rights || n == 0,
+            Section::Rights => cur == rights,
+            Section::Expressions => cur < rights,
+            Section::End => cur < rights || n == 0,
         }
 }
 
@@ -102,6 +120,7 @@ fn full(sec: Section, h: Shape) -> bool
 
 #[tactic(auto, unfolding(crate::specs::Entries::entry_of))]
 fn entry_of(
+    sec: Section,
     op: u8,
     job: &[u8],
     anc: &[u64; MOST_NAMES],
@@ -110,9 +129,10 @@ fn entry_of(
     depths: &[u8],
     h: Shape,
 ) -> Result<Entry, u8>
+    requires { section_no sec ≡ section_byte op }
     ensures { result ≡ entry_of op job.now anc.now names.now types.now depths.now h }
 {
-    match Section::of(op) {
+    match sec {
         Section::Names => name_entry(op, job, names, h.names),
         Section::Types => type_entry(op, job, anc, h.names, depths, h.types),
         Section::Values => value_entry(job, names, h.names, types, h.types),
@@ -122,18 +142,18 @@ fn entry_of(
     }
 }
 
-// What the first command comes to in section `cur`: an entry, or the number of a refusal, 2, 3, 4, 5 or 6, tested in this order.
+// What the first command comes to in section `cur`, a number, also one that no section has: an entry, or the number of a refusal, 2, 3, 4, 5 or 6, tested in this order.
 #[tactic(auto, unfolding(crate::specs::Entries::judged_by))]
 pub fn judged(
     job: &[u8],
-    cur: Section,
+    cur: u8,
     h: Shape,
     anc: &[u64; MOST_NAMES],
     names: &[u16],
     types: &[u64],
     depths: &[u8],
 ) -> Result<Entry, u8>
-    ensures { result ≡ judged_by (get_or job.now 0 0) job.now (section_no cur) h anc.now names.now types.now depths.now }
+    ensures { result ≡ judged_by (get_or job.now 0 0) job.now cur h anc.now names.now types.now depths.now }
 {
     let op = first(job);
     let w = width(op);
@@ -151,5 +171,5 @@ pub fn judged(
     if full(sec, h) {
         return Err(5);
     }
-    entry_of(op, job, anc, names, types, depths, h)
+    entry_of(sec, op, job, anc, names, types, depths, h)
 }

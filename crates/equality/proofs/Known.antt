@@ -1,5 +1,5 @@
 -- A memory of comparisons, and one level of a comparison.
-use mathlib.Core.Path.{◌≡◌, refl, ap, sym, ◌∙◌}
+use mathlib.Core.Path.{◌≡◌, refl, ap, sym, subst, ◌∙◌}
 use Prim.Native.Nat.{ℕ, zero, suc, ◌-◌, ◌%◌, ◌<◌}
 use native.Mathlib.Omega.{arith}
 use native.Mathlib.Numerals.{sub-one}
@@ -16,21 +16,15 @@ use Rattle.typing.specs.Entries.{same_in, sub_in}
 use Rattle.names.specs.Ancestors.{below_by, eff_below_by, effects_by}
 use Rattle.equality.specs.declared.Relation.{Relation}
 use Rattle.equality.specs.declared.Relation.TheVariants.{Same, Below, Above}
-use Rattle.equality.specs.Known.{Known, number_of, pick, turned_of, keys_by, heads_by, leaves_of, compared_in, pack_of}
+use Rattle.equality.specs.Known.{Known, number_of, relation_of, word_of, pick, turned_of, keys_by, heads_by, leaves_of, compared_in, pack_of}
 use Rattle.equality.proofs.Words.{by_kind, level_of, first_of, second_of, of_words}
 
--- no two relations have one number
-number_one : (r s : Relation) → number_of r ≡ number_of s → r ≡ s
-unfolding number_of
-number_one Same Same e = refl
-number_one Same Below e = absurd (omega arith)
-number_one Same Above e = absurd (omega arith)
-number_one Below Same e = absurd (omega arith)
-number_one Below Below e = refl
-number_one Below Above e = absurd (omega arith)
-number_one Above Same e = absurd (omega arith)
-number_one Above Below e = absurd (omega arith)
-number_one Above Above e = refl
+-- the number of a relation is its own
+relation_is : (r : Relation) → relation_of (number_of r) ≡ r
+unfolding relation_of number_of
+relation_is Same = refl
+relation_is Below = refl
+relation_is Above = refl
 
 -- one place of a table is written, if it is there
 set_at : (t : List ℕ) (i w j : ℕ) → (get_or (set t i w) j 0 ≡ get_or t j 0) ⊎ (get_or (set t i w) j 0 ≡ w)
@@ -45,7 +39,7 @@ module _ (anc types sets : List ℕ) where
   pub known_none : {known : List ℕ} → ((i : ℕ) → get_or known i 0 ≡ 0) → Known anc types sets known
   known_none z = record { holds = λ i rel d a b h hd ha hb e. absurd (h (no rel d a b (sym (z i) ∙ e))) }
     where
-      no : (rel : Relation) (d a b : ℕ) → 0 ≡ pack_of rel d a b → d ≡ 0
+      no : (r d a b : ℕ) → 0 ≡ word_of r d a b → d ≡ 0
       no rel d a b e = omega arith
 
   pub known_cleared : (t : List ℕ) {known : List ℕ} → known ≡ replicate (length t) 0 → Known anc types sets known
@@ -54,7 +48,7 @@ module _ (anc types sets : List ℕ) where
   -- a comparison w that is remembered holds, and one that holds may be remembered
   module _ {known : List ℕ} (k : Known anc types sets known) (rel : Relation) (d a b : ℕ) (n : d ≢ 0) (hd : d < 256) (ha : a < 65536) (hb : b < 65536) (w i : ℕ) (hw : w ≡ pack_of rel d a b) where
     pub known_found : eqb (get_or known i 0) w ≡ true → compared_in anc types sets rel d a b ≡ true
-    known_found e = k.holds i rel d a b n hd ha hb (eqb-true _ _ e ∙ hw)
+    known_found e = subst (λ (r : Relation). compared_in anc types sets r d a b ≡ true) (relation_is rel) (k.holds i (number_of rel) d a b n hd ha hb (eqb-true _ _ e ∙ hw))
 
     pub known_kept : compared_in anc types sets rel d a b ≡ true → Known anc types sets (set known i w)
     known_kept h = record {
@@ -62,10 +56,10 @@ module _ (anc types sets : List ℕ) where
           ⊎_elim (λ z. k.holds j rel' d' a' b' n' hd' ha' hb' (sym z ∙ e)) (λ z. at rel' d' a' b' hd' ha' hb' (sym hw ∙ sym z ∙ e)) (set_at known i w j);
     }
       where
-        at : (rel' : Relation) (d' a' b' : ℕ) → d' < 256 → a' < 65536 → b' < 65536 → pack_of rel d a b ≡ pack_of rel' d' a' b' → compared_in anc types sets rel' d' a' b' ≡ true
-        at rel' d' a' b' hd' ha' hb' e =
-            let e3 : rel ≡ rel' = number_one rel rel' (omega arith) in let e2 : d ≡ d' = omega arith in let e1 : b ≡ b' = omega arith in let e0 : a ≡ a' = omega arith in
-            rw (← e0, ← e1, ← e2, ← e3) h
+        at : (r d' a' b' : ℕ) → d' < 256 → a' < 65536 → b' < 65536 → pack_of rel d a b ≡ word_of r d' a' b' → compared_in anc types sets (relation_of r) d' a' b' ≡ true
+        at r d' a' b' hd' ha' hb' e =
+            let e3 : number_of rel ≡ r = omega arith in let e2 : d ≡ d' = omega arith in let e1 : b ≡ b' = omega arith in let e0 : a ≡ a' = omega arith in
+            rw (← e0, ← e1, ← e2, ← e3, relation_is rel) h
 
   -- One level of a comparison
 

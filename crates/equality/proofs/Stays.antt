@@ -9,7 +9,7 @@ use lib.Seq.{get_or-set_other}
 use lib.Dec.{eqb}
 use borrow.Author.Tests.{eqb-true}
 use Rattle.names.specs.Ancestors.{below_by, eff_below_by}
-use Rattle.equality.specs.Known.{Known, keys_by, leaf_by, leaves_of, turned_of, compared_in}
+use Rattle.equality.specs.Known.{Known, keys_by, leaf_by, leaves_of, turned_of, relation_of, compared_in}
 use Rattle.equality.proofs.Words.{by_kind, level_of, first_of, second_of, never}
 use Rattle.equality.specs.declared.Relation.{Relation}
 use Rattle.equality.specs.declared.Relation.TheVariants.{Same}
@@ -74,4 +74,4 @@ module _ (anc types sets : List ℕ) (n w s : ℕ) (free : get_or types n 0 ≡ 
       (level_more (keys_by (below_by anc) r) (keys_by (eff_below_by anc) r) (λ x y. stays d r x y) (λ x y. stays d (turned_of r) x y) (λ x y. stays d Same x y) (get_or types a 0) (get_or types b 0) (get_or sets a 0) (get_or sets b 0) g)
 
   pub known_stays : {known : List ℕ} → Known anc types sets known → Known anc (set types n w) (set sets n s) known
-  known_stays k = record { holds = λ i r d a b h hd ha hb e. stays d r a b (k.holds i r d a b h hd ha hb e) }
+  known_stays k = record { holds = λ i r d a b h hd ha hb e. stays d (relation_of r) a b (k.holds i r d a b h hd ha hb e) }

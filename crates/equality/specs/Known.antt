@@ -22,6 +22,10 @@ number_of Same = 0
 number_of Below = 1
 number_of Above = 2
 
+-- the relation of a number: 1 is below, 2 above, any other equality
+unfoldable pub relation_of : ℕ → Relation
+relation_of n = cond (eqb n 1) Below (cond (eqb n 2) Above Same)
+
 -- the comparison of two keys, or of two effects, over a test whether the first is below the second
 unfoldable pub keys_by : (ℕ → ℕ → Bool) → Relation → ℕ → ℕ → Bool
 keys_by bl rel p q = pick rel (eqb p q) (bl p q) (bl q p)
@@ -42,9 +46,12 @@ leaf_by kind same = cond (eqb kind 0x10) true (cond (eqb kind 0x14) same (cond (
 abbrev pub leaves_of : ℕ → ℕ → Bool
 leaves_of x y = leaf_by (x % 256) (eqb (x / 65536 % 256) (y / 65536 % 256))
 
--- a comparison in one word; no two have the same, and with a level or more it is not 0
+-- a comparison by number in one word; no two have the same, and with a level or more it is not 0
+abbrev pub word_of : ℕ → ℕ → ℕ → ℕ → ℕ
+word_of n d a b = n * 1099511627776 + d * 4294967296 + b * 65536 + a
+
 abbrev pub pack_of : Relation → ℕ → ℕ → ℕ → ℕ
-pack_of rel d a b = number_of rel * 1099511627776 + d * 4294967296 + b * 65536 + a
+pack_of rel d a b = word_of (number_of rel) d a b
 
 -- the one place for a word
 abbrev pub slot_of : ℕ → ℕ
@@ -52,7 +59,7 @@ slot_of w = w % 1021
 
 -- each word that is a comparison is one that holds
 pub record Known (anc types sets known : List ℕ) : Type 0 where
-  pub holds : (i : ℕ) (rel : Relation) (d a b : ℕ) → d ≢ 0 → d < 256 → a < 65536 → b < 65536 → get_or known i 0 ≡ pack_of rel d a b → compared_in anc types sets rel d a b ≡ true
+  pub holds : (i n d a b : ℕ) → d ≢ 0 → d < 256 → a < 65536 → b < 65536 → get_or known i 0 ≡ word_of n d a b → compared_in anc types sets (relation_of n) d a b ≡ true
 
 -- what is remembered is right after entry n is written, whatever is written
 pub record Stays (types : List ℕ) (n : ℕ) (before after : List ℕ) : Type 0 where

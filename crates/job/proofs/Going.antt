@@ -25,15 +25,15 @@ use Rattle.syntax.proofs.ReadFormed.{map_snoc, names_proper, types_earlier}
 use Rattle.syntax.proofs.WordLaws.{filled_none, filled_length, word_at}
 use Rattle.names.specs.Ancestors.{names_in}
 use Rattle.names.proofs.Tables as tables
-use Rattle.entry.specs.Bytes.{width_byte, section_byte, rest_of}
-use Rattle.entry.specs.Entries.{Judged, judged_by, judged_in, stops_of}
+use Rattle.entry.specs.Bytes.{width_byte, rest_of}
+use Rattle.entry.specs.Entries.{Judged, judged_by, judged_in, stops_of, sort_of}
 use Rattle.entry.specs.Shapes.{shape_of, no_shape}
 use Rattle.entry.specs.declared.Shape.{Shape}
 use Rattle.entry.specs.declared.Entry.{Entry}
 use Rattle.entry.specs.declared.Entry.TheVariants.{Named, Typed, Valued, Rights, Formed, Last}
-use Rattle.entry.proofs.OpBytes.{op_byte, section_is, width_is, width_none}
+use Rattle.entry.proofs.OpBytes.{width_is, width_none}
 use Rattle.entry.proofs.Entered.{extended, words_of, new_depth, entry_w}
-use Rattle.entry.proofs.Agree.{Kept, Adds, adds_name, adds_type, adds_value, adds_rights, adds_cmd, Agrees, ag_refuse, ag_last, ag_on, agrees}
+use Rattle.entry.proofs.Agree.{Kept, Adds, adds_name, adds_type, adds_value, adds_rights, adds_cmd, Agrees, ag_refuse, ag_last, ag_on, not_ok, same_entry, sort_on, agrees}
 use Rattle.job.specs.After.{names_after, types_after, sets_after, depths_after, values_after, heads_after, slots_after, shape_after}
 use Rattle.job.specs.Answer.{Answer, refused_by, answer_of, long_enough, long_tables, Cleared, Holds, Filled, Put, Small}
 use Rattle.job.proofs.Filling.{stored, filled_two, filled_five, flat_snoc, five_entries}
@@ -308,9 +308,6 @@ read_none : (f pos : ℕ) (st : State) (b : ℕ) (s : List ℕ) → op_of b ≡ 
 unfolding read_from on_op
 read_none f pos st b s e = ap (λ (y : Option Op). on_op y pos (λ op. onward (command op s st) pos s (λ next. read_from f (pos + 1 + width op) next (drop (width op) s)))) e
 
-not_ok : (m : ℕ) (e : Entry) → ◌≡◌ {A = Judged} (Err m) (Ok e) → ⊥
-not_ok m e h = cc
-
 same_number : (m k : ℕ) → ◌≡◌ {A = Judged} (Err m) (Err k) → m ≡ k
 same_number m k h = cc
 
@@ -322,9 +319,6 @@ stops_entry x J (adds_value y) = refl
 stops_entry x J (adds_rights y) = refl
 stops_entry x J (adds_cmd y l) = refl
 
-same_entry : (x e : Entry) → ◌≡◌ {A = Judged} (Ok x) (Ok e) → x ≡ e
-same_entry x e h = cc
-
 -- reading goes on after a command that adds to the job
 step_on : (bytes : List ℕ) (b : ℕ) (s : List ℕ) (cur : ℕ) (g g' : Shape) (d n t u v h p d' n' t' u' v' h' p' : List ℕ) (kn kt ks kv kh kp : ℕ) → Long kn kt ks kv kh kp
     → (k : Going bytes (b ∷ s) cur g d n t u v h p kn kt ks kv kh kp) (o : Op) → op_of b ≡ some o
@@ -333,7 +327,7 @@ step_on : (bytes : List ℕ) (b : ℕ) (s : List ℕ) (cur : ℕ) (g g' : Shape)
 unfolding stops_of onward
 step_on bytes b s cur g g' d n t u v h p d' n' t' u' v' h' p' kn kt ks kv kh kp long k o eo (ag_refuse m) ex ok e er es w' q = absurd (not_ok m e er)
 step_on bytes b s cur g g' d n t u v h p d' n' t' u' v' h' p' kn kt ks kv kh kp long k o eo ag_last ex ok e er es w' q = absurd (true≢false (ap stops_of (same_entry Last e er) ∙ es))
-step_on bytes b s cur g g' d n t u v h p d' n' t' u' v' h' p' kn kt ks kv kh kp long k o eo (ag_on x a okay l) ex ok e er es w' q = at k.fuel k.enough k.same
+step_on bytes b s cur g g' d n t u v h p d' n' t' u' v' h' p' kn kt ks kv kh kp long k o eo (ag_on x a sort okay l) ex ok e er es w' q = at k.fuel k.enough k.same
   where
     st : State
     st = record { section = cur; job = k.J }
@@ -369,7 +363,7 @@ step_on bytes b s cur g g' d n t u v h p d' n' t' u' v' h' p' kn kt ks kv kh kp 
 pub turn : (bytes left : List ℕ) (cur : ℕ) (g g' : Shape) (d n t u v h p d' n' t' u' v' h' p' : List ℕ) (kn kt ks kv kh kp : ℕ) → Long kn kt ks kv kh kp
     → Going bytes left cur g d n t u v h p kn kt ks kv kh kp → 0 < length left
     → (e : Entry) → Ok e ≡ judged_in (get_or left 0 0) left cur g n t d → stops_of e ≡ false → g' ≡ shape_after e g → Put e g d n t u v h p d' n' t' u' v' h' p'
-    → Going bytes (rest_of left) (section_byte (get_or left 0 0)) g' d' n' t' u' v' h' p' kn kt ks kv kh kp
+    → Going bytes (rest_of left) (sort_of e) g' d' n' t' u' v' h' p' kn kt ks kv kh kp
 turn bytes [] cur g g' d n t u v h p d' n' t' u' v' h' p' kn kt ks kv kh kp long k z e ee es w' q = absurd (omega arith)
 turn bytes (a ∷ s) cur g g' d n t u v h p d' n' t' u' v' h' p' kn kt ks kv kh kp long k z e ee es w' q = at (op_of a) refl
   where
@@ -379,13 +373,13 @@ turn bytes (a ∷ s) cur g g' d n t u v h p d' n' t' u' v' h' p' kn kt ks kv kh 
     ej : Ok e ≡ judged_in a (a ∷ s) cur (shape_of k.J) n t d
     ej = ee ∙ ap (λ (y : Shape). judged_in a (a ∷ s) cur y n t d) k.tables.shape
 
-    at : (o : Option Op) → op_of a ≡ o → Going bytes (rest_of (a ∷ s)) (section_byte a) g' d' n' t' u' v' h' p' kn kt ks kv kh kp
+    at : (o : Option Op) → op_of a ≡ o → Going bytes (rest_of (a ∷ s)) (sort_of e) g' d' n' t' u' v' h' p' kn kt ks kv kh kp
     at none eo = absurd (not_ok 2 e (sym (ej ∙ judged_none a (a ∷ s) cur (shape_of k.J) n t d eo)))
     at (some o) eo =
         let x = agrees k.J n t d (kept k.sofar k.tables) cur a o s eo in
         let y = step_on bytes a s cur g g' d n t u v h p d' n' t' u' v' h' p' kn kt ks kv kh kp long k o eo x refl (step_ok o s st k.sofar) e (sym ej) es w' q in
         let l : drop (width o) s ≡ rest_of (a ∷ s) = sym (rest_is a s o eo) in
-        let c : section_of o ≡ section_byte a = sym (ap section_byte (op_byte a o eo) ∙ section_is o) in
+        let c : section_of o ≡ sort_of e = sym (sort_on x (sym ej) es) in
         subst (λ (i : ℕ). Going bytes (rest_of (a ∷ s)) i g' d' n' t' u' v' h' p' kn kt ks kv kh kp) c
         (subst (λ (m : List ℕ). Going bytes m (section_of o) g' d' n' t' u' v' h' p' kn kt ks kv kh kp) l y)
 
@@ -414,7 +408,7 @@ refused_at_cmd bytes b s cur g d n t u v h p kn kt ks kv kh kp k o eo (ag_refuse
         let same : i ≡ m = same_number i m er in
         y ∙ read_op f (length bytes - suc (length s)) (record { section = cur; job = k.J }) b s o (refuse i) eo ex ∙ ap (λ (j : ℕ). refused_at j (length bytes - suc (length s))) same
 refused_at_cmd bytes b s cur g d n t u v h p kn kt ks kv kh kp k o eo ag_last ex m er = absurd (not_ok m Last (sym er))
-refused_at_cmd bytes b s cur g d n t u v h p kn kt ks kv kh kp k o eo (ag_on x a okay l) ex m er = absurd (not_ok m (entry_w x k.J) (sym er))
+refused_at_cmd bytes b s cur g d n t u v h p kn kt ks kv kh kp k o eo (ag_on x a sort okay l) ex m er = absurd (not_ok m (entry_w x k.J) (sym er))
 
 -- at the end, the job is read where no byte follows
 ended_at : (bytes : List ℕ) (b : ℕ) (s : List ℕ) (cur : ℕ) (g : Shape) (d n t u v h p : List ℕ) (kn kt ks kv kh kp : ℕ)
@@ -429,7 +423,7 @@ ended_at bytes b s cur g d n t u v h p kn kt ks kv kh kp k o eo ag_last ex er = 
         → reading bytes ≡ ended (suc (length bytes - suc (length s))) s k.J
     at zero z y = absurd (omega arith)
     at (suc f) z y = y ∙ read_op f (length bytes - suc (length s)) (record { section = cur; job = k.J }) b s o (finish k.J) eo ex
-ended_at bytes b s cur g d n t u v h p kn kt ks kv kh kp k o eo (ag_on x a okay l) ex er = absurd (true≢false (ap stops_of (sym (same_entry (entry_w x k.J) Last er)) ∙ stops_entry x k.J a))
+ended_at bytes b s cur g d n t u v h p kn kt ks kv kh kp k o eo (ag_on x a sort okay l) ex er = absurd (true≢false (ap stops_of (sym (same_entry (entry_w x k.J) Last er)) ∙ stops_entry x k.J a))
 
 pub stop_refused : (bytes left : List ℕ) (cur : ℕ) (g : Shape) (d n t u v h p : List ℕ) (kn kt ks kv kh kp : ℕ) → Going bytes left cur g d n t u v h p kn kt ks kv kh kp → 0 < length left
     → (m : ℕ) → Err m ≡ judged_in (get_or left 0 0) left cur g n t d → Filled bytes (refused_by m (length bytes - length left)) n t u v h p kn kt ks kv kh kp
@@ -563,9 +557,9 @@ loop_first bytes n t u v h p g eg e z =
 module _ (bytes left : List ℕ) (cur : ℕ) (g : Shape) (d n t u v h p n₀ t₀ u₀ v₀ h₀ p₀ : List ℕ) (k : Loop bytes left cur g d n t u v h p n₀ t₀ u₀ v₀ h₀ p₀) where
   pub loop_turn : 0 < length left → (e : Entry) → Ok e ≡ judged_in (get_or left 0 0) left cur g n t d → stops_of e ≡ false
       → (g' : Shape) (d' n' t' u' v' h' p' : List ℕ) → g' ≡ shape_after e g → Put e g d n t u v h p d' n' t' u' v' h' p'
-      → Loop bytes (rest_of left) (section_byte (get_or left 0 0)) g' d' n' t' u' v' h' p' n₀ t₀ u₀ v₀ h₀ p₀
+      → Loop bytes (rest_of left) (sort_of e) g' d' n' t' u' v' h' p' n₀ t₀ u₀ v₀ h₀ p₀
   loop_turn z e ee es g' d' n' t' u' v' h' p' w' q =
-      loop_of bytes (rest_of left) (section_byte (get_or left 0 0)) g' d' n' t' u' v' h' p' n₀ t₀ u₀ v₀ h₀ p₀ k.long
+      loop_of bytes (rest_of left) (sort_of e) g' d' n' t' u' v' h' p' n₀ t₀ u₀ v₀ h₀ p₀ k.long
       (turn bytes left cur g g' d n t u v h p d' n' t' u' v' h' p' (length n₀) (length t₀) (length u₀) (length v₀) (length h₀) (length p₀) k.long k.going z e ee es w' q)
 
   pub loop_short : length left ≤ 0 → Filled bytes (refused_by 4 (length bytes)) n t u v h p (length n₀) (length t₀) (length u₀) (length v₀) (length h₀) (length p₀)

@@ -7,8 +7,8 @@ use lib.ListN.{length, get_or}
 use Rattle.std.specs.Prelude.{Ok, Err}
 use Rattle.table.specs.declared.Refusal.{Refusal}
 use Rattle.names.specs.Ancestors.{names_in, ancestors_by}
-use Rattle.entry.specs.Bytes.{section_byte, rest_of}
-use Rattle.entry.specs.Entries.{judged_by, stops_of}
+use Rattle.entry.specs.Bytes.{rest_of}
+use Rattle.entry.specs.Entries.{judged_by, stops_of, sort_of}
 use Rattle.entry.specs.declared.Shape.{Shape}
 use Rattle.entry.specs.declared.Entry.{Entry}
 use Rattle.entry.specs.declared.Entry.TheVariants.{Named, Typed, Valued, Rights, Formed, Last}
@@ -56,7 +56,7 @@ module _ {bytes left : List ℕ} {cur : ℕ} {g : Shape} {d n t u v h p n₀ t�
   -- reading goes on
   pub go_on : 0 < length left → {e : Entry} → Ok e ≡ judged_by (get_or left 0 0) left cur g anc n t d → stops_of e ≡ false
       → {g' : Shape} {d' n' t' u' v' h' p' anc' : List ℕ} → g' ≡ shape_after e g → Put e g d n t u v h p d' n' t' u' v' h' p' → anc' ≡ ancestors_after e g.names anc
-      → Reads bytes (rest_of left) (section_byte (get_or left 0 0)) g' d' n' t' u' v' h' p' n₀ t₀ u₀ v₀ h₀ p₀ anc'
+      → Reads bytes (rest_of left) (sort_of e) g' d' n' t' u' v' h' p' n₀ t₀ u₀ v₀ h₀ p₀ anc'
   go_on some {e} ee es {g'} {d'} {n'} {t'} {u'} {v'} {h'} {p'} eg put ea =
       let m = loop_turn bytes left cur g d n t u v h p n₀ t₀ u₀ v₀ h₀ p₀ k.loop some e (judged_kept _ left cur g anc n t d (Ok e) ee k.ancestors) es g' d' n' t' u' v' h' p' eg put in
       record { loop = m; ancestors = ancestors_turn m g n anc e eg put.names ea k.loop.names k.ancestors }

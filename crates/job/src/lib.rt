@@ -31,7 +31,7 @@ fn command<'a>(
         (λ read. (judged_by (get_or job.now 0 0) job.now (section_no cur) g anc.now names.now types.now depths.now ≡ Ok read.0) × (read.1.now ≡ rest_of job.now))
         (λ number. judged_by (get_or job.now 0 0) job.now (section_no cur) g anc.now names.now types.now depths.now ≡ Err number) }
 {
-    let e = judged(job, cur, g, anc, names, types, depths)?;
+    let e = judged(job, cur as u8, g, anc, names, types, depths)?;
     Ok((e, rest(job)))
 }
 
@@ -56,34 +56,40 @@ fn fill(
     let mut anc = names::ancestors(names, g.names);
     // Stays a while: each turn takes off as many bytes as its command has, and a place is what is gone of the job.
     while !left.is_empty() {
-        let place = job.len() - left.len();
-        let (e, next) = command(left, cur, g, &anc, names, types, &depths).map_err(
-            |number| Refusal { number, place },
-        )?;
-        if let Entry::Last = e {
-            // After the end no byte may follow.
-            if left.len() == 1 {
-                return Ok(g);
+        match command(left, cur, g, &anc, names, types, &depths) {
+            Ok((e, next)) => {
+                if let Entry::Last = e {
+                    // After the end no byte may follow.
+                    if left.len() == 1 {
+                        return Ok(g);
+                    }
+                    return Err(Refusal {
+                        number: 7,
+                        place: job.len() - left.len() + 1,
+                    });
+                }
+                cur = e.section();
+                g = add(
+                    &e,
+                    g,
+                    &mut anc,
+                    &mut depths,
+                    names,
+                    types,
+                    sets,
+                    values,
+                    heads,
+                    slots,
+                );
+                left = next;
             }
-            return Err(Refusal {
-                number: 7,
-                place: place + 1,
-            });
+            Err(number) => {
+                return Err(Refusal {
+                    number,
+                    place: job.len() - left.len(),
+                });
+            }
         }
-        cur = Section::of(left[0]);
-        g = add(
-            e,
-            g,
-            &mut anc,
-            &mut depths,
-            names,
-            types,
-            sets,
-            values,
-            heads,
-            slots,
-        );
-        left = next;
     }
     Err(Refusal {
         number: 4,

@@ -30,9 +30,10 @@ fn put_five(s: &mut [u16], i: usize, f: Form)
 }
 
 // One entry more: its words go into the tables, of a name its ancestors too, and the counts with it are handed back.
+// The entry is lent: by value its words are put together before they are looked at, and reading takes 3 % more.
 #[tactic(auto, unfolding(crate::specs::After::names_after, crate::specs::After::types_after, crate::specs::After::sets_after, crate::specs::After::depths_after, crate::specs::After::values_after, crate::specs::After::heads_after, crate::specs::After::slots_after, crate::specs::After::ancestors_after, crate::specs::After::shape_after))]
 pub fn add(
-    e: Entry,
+    e: &Entry,
     g: Shape,
     anc: &mut [u64; MOST_NAMES],
     depths: &mut [u8],
@@ -44,11 +45,11 @@ pub fn add(
     slots: &mut [u16],
 ) -> Shape
     requires { Small g }
-    ensures tables { PutLent e g depths names types sets values heads slots }
-    ensures ancestors { anc.new ≡ ancestors_after e g.names anc.old }
-    ensures counts { result ≡ shape_after e g }
+    ensures tables { PutLent e.now g depths names types sets values heads slots }
+    ensures ancestors { anc.new ≡ ancestors_after e.now g.names anc.old }
+    ensures counts { result ≡ shape_after e.now g }
 {
-    match e {
+    match *e {
         Entry::Named(w) => {
             set_at(names, g.names + 2, w);
             names::enter(anc, g.names + 2, w);

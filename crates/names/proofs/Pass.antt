@@ -2,7 +2,7 @@
 use Rattle.std.specs.Prelude.{◌≡◌, refl, Bool, true, false, cond, ◌||◌, List, [], ◌∷◌, ◌++◌, ◌⊎◌, set, replicate, eqb, ltb}
 use Rattle.std.proofs.Math.Path.{sym, ap, ap₂}
 use Rattle.std.proofs.Common.{◌∙◌, subst, inl, inr, length-set, get_or-set_same, ext_get_or, lt-ltb, ltb-true, ltb-false, eq-eqb, eqb-true}
-use Prim.Native.Nat.{ℕ, zero, suc, ◌+◌, ◌^◌, ◌≤◌, ◌<◌}
+use Prim.Native.Nat.{ℕ, zero, suc, ◌+◌, ◌%◌, ◌^◌, ◌≤◌, ◌<◌}
 use native.Mathlib.Omega.{arith}
 use Rattle.std.proofs.Math.Option.{some, none-ne-some, some-injective}
 use Rattle.std.proofs.Math.ListN.{length, get_or, get_elem?, get_or-replicate}
@@ -47,7 +47,7 @@ unfolding ancestors_by first_two
 by_length ds = pass_length 2 first_two ds
 
 -- names past the 62nd have no entry
-pass_done : (t : List ℕ) (k n : ℕ) → 62 ≤ k → k ≤ n → ancestors_by (names_in t n) ≡ ancestors_by (names_in t k)
+pub pass_done : (t : List ℕ) (k n : ℕ) → 62 ≤ k → k ≤ n → ancestors_by (names_in t n) ≡ ancestors_by (names_in t k)
 unfolding entered
 pass_done t k zero h g = absurd (omega arith)
 pass_done t k (suc n) h g = at (eqb k (suc n)) refl (λ q. pass_done t k n h q)
@@ -59,10 +59,23 @@ pass_done t k (suc n) h g = at (eqb k (suc n)) refl (λ q. pass_done t k n h q)
     at true e f = ap (λ (i : ℕ). ancestors_by (names_in t i)) (sym (eqb-true k (suc n) e))
     at false e f = let z = eqb-false k (suc n) e in let q : k ≤ n = omega arith in next q ∙ f q
 
--- the same as code takes a turn: w is the word of the name
-pub pass_turn : (t : List ℕ) (k : ℕ) {anc x : List ℕ} {w : ℕ} → k < 62 → anc ≡ ancestors_by (names_in t k) → w ≡ get_or t (k + 2) 0 → x ≡ cond (ltb (k + 2) 64) (entered anc (k + 2) (name_of w)) anc
+-- the same as code takes a turn: w is the word of the name, e the entry of its upper name, o its own bit
+pub pass_turn :
+    (t : List ℕ) (k : ℕ) {anc : List ℕ} {w e o : ℕ} → anc ≡ ancestors_by (names_in t k) → w ≡ get_or t (k + 2) 0 → e ≡ get_or anc (w % 256) 0 → o ≡ one_of (k + 2)
+    → set anc (k + 2) (bit_or o e) ≡ ancestors_by (names_in t (k + 1))
+unfolding entered name_of
+pass_turn t k {anc} {w} {e} {o} ha hw he ho =
+    let x : k + 2 ≡ 2 + k = omega arith in
+    let y : k + 1 ≡ suc k = omega arith in
+    let z : e ≡ get_or anc (get_or t (2 + k) 0 % 256) 0 = he ∙ ap (λ (v : ℕ). get_or anc (v % 256) 0) (hw ∙ ap (λ (i : ℕ). get_or t i 0) x) in
+    ap₂ (λ (i b : ℕ). set anc i b) x (ap₂ (λ (a b : ℕ). bit_or a b) (ho ∙ ap one_of x) z)
+    ∙ ap (λ (l : List ℕ). set l (2 + k) (bit_or (one_of (2 + k)) (get_or l (get_or t (2 + k) 0 % 256) 0))) ha
+    ∙ sym (ap (λ (i : ℕ). ancestors_by (names_in t i)) y ∙ pass_next t k)
+
+-- the same by what `enter` does of it, and so for names that have an entry
+pub pass_entered : (t : List ℕ) (k : ℕ) {anc x : List ℕ} {w : ℕ} → k < 62 → anc ≡ ancestors_by (names_in t k) → w ≡ get_or t (k + 2) 0 → x ≡ cond (ltb (k + 2) 64) (entered anc (k + 2) (name_of w)) anc
     → x ≡ ancestors_by (names_in t (k + 1))
-pass_turn t k {anc} {x} {w} h ha hw hx =
+pass_entered t k {anc} {x} {w} h ha hw hx =
     let y : k + 2 ≡ 2 + k = omega arith in
     let z : k + 1 ≡ suc k = omega arith in
     hx

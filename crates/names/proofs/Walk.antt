@@ -76,10 +76,23 @@ low_step (suc k) i s h b = at (s % 2) refl (λ q. low_step k (suc i) (s / 2) q (
         from_odd i s e ∙ ap₂ (λ (a : ℕ) (l : List ℕ). a ∷ l) p (sym (from_even i (bit_and s (s - 1)) (down_even s h) ∙ ap (from (suc i)) (down_odd s e)))
     at (suc (suc r)) e ih = absurd (omega arith)
 
+tz_lt : (k s : ℕ) → 0 < s → s < 2 ^ k → count_trailing_zeros k s < k
+unfolding count_trailing_zeros
+tz_lt zero s h b = absurd (omega arith)
+tz_lt (suc k) s h b = at (s % 2) refl (λ q. tz_lt k (s / 2) q (omega (arith, pow-suc 2 k)))
+  where
+    at : (r : ℕ) → s % 2 ≡ r → (0 < s / 2 → count_trailing_zeros k (s / 2) < k) → under r (count_trailing_zeros k (s / 2)) < suc k
+    at zero e ih = omega (arith, ih (omega arith))
+    at (suc r) e ih = omega arith
+
 -- the lowest member, and the rest
 pub members_step : (s : ℕ) → 0 < s → s < 2 ^ 64 → members s ≡ lowest s ∷ members (bit_and s (s - 1))
 unfolding members lowest from
 members_step s h b = let p : 0 + count_trailing_zeros 64 s ≡ count_trailing_zeros 64 s = omega arith in low_step 64 0 s h b ∙ ap (λ (a : ℕ). a ∷ members (bit_and s (s - 1))) p
+
+pub lowest_lt : (s : ℕ) → 0 < s → s < 2 ^ 64 → lowest s < 64
+unfolding lowest
+lowest_lt s h b = tz_lt 64 s h b
 
 pub members_next : (s : ℕ) {n : ℕ} → s ≢ 0 → s < 2 ^ 64 → n ≡ lowest s → members s ≡ n ∷ members (bit_and s (s - 1))
 members_next s h b e = members_step s (omega arith) b ∙ ap (λ (a : ℕ). a ∷ members (bit_and s (s - 1))) (sym e)

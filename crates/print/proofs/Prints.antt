@@ -168,18 +168,18 @@ pub with_no_room : (T : Ty) (s : Effect) (c : List ℕ) (i : ℕ) (m : System) (
     → both ≡ accepted_line T s ++ ran_line noroom c i m
 with_no_room T s c i m first second both a b e = rw (e, a, b) (accepted_no_room T s c i m)
 
-with_none : (T : Ty) (s : Effect) (first l : List ℕ) → first ≡ accepted_as s (type_sort T) → l ≡ [] → first ≡ accepted_line T s ++ l
+pub with_none : (T : Ty) (s : Effect) (first l : List ℕ) → first ≡ accepted_as s (type_sort T) → l ≡ [] → first ≡ accepted_line T s ++ l
 with_none T s first l a e = a ∙ accepted_line_lem T s ∙ sym (append-nil (accepted_line T s)) ∙ ap (λ z. accepted_line T s ++ z) (sym e)
 
-no_taken : (c : List ℕ) (i : ℕ) (m : System) → ran_line taken c i m ≡ []
+pub no_taken : (c : List ℕ) (i : ℕ) (m : System) → ran_line taken c i m ≡ []
 unfolding ran_line
 no_taken c i m = refl
 
-no_stuck : (c : List ℕ) (i : ℕ) (m : System) → ran_line stuck c i m ≡ []
+pub no_stuck : (c : List ℕ) (i : ℕ) (m : System) → ran_line stuck c i m ≡ []
 unfolding ran_line
 no_stuck c i m = refl
 
-no_denied : (c : List ℕ) (i : ℕ) (m : System) → ran_line denied c i m ≡ []
+pub no_denied : (c : List ℕ) (i : ℕ) (m : System) → ran_line denied c i m ≡ []
 unfolding ran_line
 no_denied c i m = refl
 

@@ -70,14 +70,16 @@ pub trait Printer {
     // Puts the text of the job at the start of a buffer with room for it, and returns how many bytes it has.
     fn print(job: &[u8], buffer: &mut [u8]) -> usize
         requires { room ≤ length buffer.old }
-        ensures { take result buffer.new ≡ text job.now };
+        ensures len { result ≡ length (text job.now) }
+        ensures printed { take result buffer.new ≡ text job.now };
 }
 
 // The text of a job that is read whole, and none of another. Returns how many bytes it has.
 fn reply<P: Printer>(job: &[u8], told: Result<usize, Cut>, buffer: &mut [u8]) -> usize
     requires room { P.room ≤ length buffer.old }
     requires fits { read_length told ≤ length job.now }
-    ensures { take result buffer.new ≡ cond (is_ok told) (P.text (take (read_length told) job.now)) [] }
+    ensures len { result ≡ length (cond (is_ok told) (P.text (take (read_length told) job.now)) []) }
+    ensures printed { take result buffer.new ≡ cond (is_ok told) (P.text (take (read_length told) job.now)) [] }
 {
     match told {
         Ok(n) => P::print(&job[..n], buffer),

@@ -16,12 +16,12 @@ ghost use Rattle.tree.specs.Places.{inherit_at, inherit_to, pass_at, pass_to};
 
 use names::{has, single};
 use table::{
-    MOST_DECLARED, MOST_EXPRESSIONS, MOST_TYPES, Refusal, first_of, get_or, key_of, name_of,
+    Expr, MOST_DECLARED, MOST_EXPRESSIONS, MOST_TYPES, Refusal, first_of, get_or, key_of, name_of,
     second_of,
 };
 use uses::{
     bound_name, bound_var, count, ends_in_operand, first_operands, is_binder, is_body, misused,
-    rebound,
+    rebound, refused,
 };
 
 // The host's variables: the first n.
@@ -289,10 +289,7 @@ fn unscoped<'a>(
     for e in 0..cmds {
         let head = get_or(heads, e, 0);
         if !var_fits(head, vars[e]) || !within(operand_names(masks, slots, e, head), locals[e]) {
-            return Err(Refusal {
-                number: 10,
-                place: e,
-            });
+            return Err(refused(10, Expr(e as u16)));
         }
     }
     Ok(())
@@ -381,9 +378,6 @@ pub fn tree<'a>(
             heads, slots, cmds, names, nnames, types, sets, ntypes, nvalues,
         )
     } else {
-        Err(Refusal {
-            number: 8,
-            place: 0,
-        })
+        Err(refused(8, Expr(0)))
     }
 }

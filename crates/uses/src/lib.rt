@@ -10,7 +10,7 @@ ghost use Rattle.uses.specs.Passes.{arity_of, bound_name, bound_var, counted, is
 ghost use Rattle.uses.specs.Places.{at_first, at_last, first_operands, is_binder, last_is_operand, tally_at};
 
 use names::{has, single};
-use table::{MOST_EXPRESSIONS, Refusal, get_or, key_of, name_of};
+use table::{Expr, MOST_EXPRESSIONS, Refusal, get_or, key_of, name_of};
 
 // How many of the first places of a command's operands are expressions; 0x3C has its own rule.
 #[tactic(auto, unfolding(crate::specs::Passes::arity_of))]
@@ -157,6 +157,17 @@ fn right_count(x: u8, e: usize, n: usize) -> bool
     if e + 1 == n { x == 0 } else { x == 1 }
 }
 
+// A refusal at an expression.
+pub fn refused(number: u8, e: Expr) -> Refusal
+    ensures number { result.number ≡ number }
+    ensures place { result.place ≡ e.0 }
+{
+    Refusal {
+        number,
+        place: usize::from(e.0),
+    }
+}
+
 // Refusal 8: the lowest expression that is not used once; the last is not used at all.
 pub fn misused(counts: &[u8; MOST_EXPRESSIONS], cmds: usize) -> Result<(), Refusal>
     requires { cmds ≤ most_expressions }
@@ -164,10 +175,7 @@ pub fn misused(counts: &[u8; MOST_EXPRESSIONS], cmds: usize) -> Result<(), Refus
 {
     for e in 0..cmds {
         if !right_count(counts[e], e, cmds) {
-            return Err(Refusal {
-                number: 8,
-                place: e,
-            });
+            return Err(refused(8, Expr(e as u16)));
         }
     }
     Ok(())
@@ -193,10 +201,7 @@ pub fn rebound(heads: &[u64], cmds: usize) -> Result<(), Refusal>
             continue;
         }
         if !is_new(vars, locals, head) {
-            return Err(Refusal {
-                number: 9,
-                place: e,
-            });
+            return Err(refused(9, Expr(e as u16)));
         }
         vars |= single(bound_var(head));
         locals |= single(bound_name(head));

@@ -16,4 +16,4 @@ pub returns-else-in_limits : goal.returns-else-in_limits
 unfolding tree_by numbered
 returns-else-in_limits c =
     let left = sym c.in_limits.ensures ∙ c.if-in_limits.false in
-    record { job = (λ J ok h. absurd (true≢false (sym (in_limits_lem _ _ _ (omega (arith, h.cmds_are, ok.some_cmds)) (omega (arith, h.cmds_are, ok.few_cmds)) (omega (arith, h.names_are, ok.few_names)) (omega (arith, h.types_are, ok.few_types))) ∙ left))); always = simp left }
+    record { job = (λ J ok h. absurd (true≢false (sym (in_limits_lem _ _ _ (omega (arith, h.cmds_are, ok.some_cmds)) (omega (arith, h.cmds_are, ok.few_cmds)) (omega (arith, h.names_are, ok.few_names)) (omega (arith, h.types_are, ok.few_types))) ∙ left))); always = rw (c.refused.ensures.number, c.refused.ensures.place) (simp left) }

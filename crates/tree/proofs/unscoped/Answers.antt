@@ -7,12 +7,12 @@ use Rattle.tree.proofs.unscoped.Goals.{then-not-var_fits-via-then-not-var_fits, 
 
 pub returns-then-not-var_fits : goal.returns-then-not-var_fits
 returns-then-not-var_fits c =
-    search_hit (is_scoped c.args.heads.now c.args.slots.now c.args.masks.now c.args.vars.now c.args.locals.now) _ _ 10 c.loop-e-test.true
+    rw (c.refused.ensures.number, c.refused.ensures.place) (search_hit (is_scoped c.args.heads.now c.args.slots.now c.args.masks.now c.args.vars.now c.args.locals.now) _ _ 10 c.loop-e-test.true
     (elim c.then-not-var_fits.branch [
       | then-not-var_fits-via-then-not-var_fits w ↦ scoped_not _ _ _ _ _ _ c.get_or-head.ensures c.var_fits.ensures w.if-not-var_fits.true
       | then-not-var_fits-via-else-not-var_fits+then-not-within w ↦ scoped_is _ _ _ _ _ _ c.get_or-head.ensures c.var_fits.ensures w.if-not-var_fits.false w.operand_names.ensures w.within.ensures ∙ w.if-not-within.true
     ])
-    c.loop-e.invariant
+    c.loop-e.invariant)
 
 pub loop-e-preserved : goal.loop-e-preserved
 loop-e-preserved c = search_on (is_scoped c.args.heads.now c.args.slots.now c.args.masks.now c.args.vars.now c.args.locals.now) _ _ c.loop-e-test.true (scoped_is _ _ _ _ _ _ c.get_or-head.ensures c.var_fits.ensures c.if-not-var_fits.false c.operand_names.ensures c.within.ensures ∙ c.if-not-within.false) c.loop-e.invariant

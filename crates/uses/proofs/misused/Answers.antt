@@ -5,7 +5,7 @@ use Rattle.uses.proofs.misused.Goals as goal
 
 pub returns-then-not-right_count : goal.returns-then-not-right_count
 unfolding right_count
-returns-then-not-right_count c = search_hit (right_count c.args.counts.now c.args.cmds) _ _ 8 c.loop-e-test.true (sym c.right_count.ensures ∙ c.if-not-right_count.true) c.loop-e.invariant
+returns-then-not-right_count c = rw (c.refused.ensures.number, c.refused.ensures.place) (search_hit (right_count c.args.counts.now c.args.cmds) _ _ 8 c.loop-e-test.true (sym c.right_count.ensures ∙ c.if-not-right_count.true) c.loop-e.invariant)
 
 pub loop-e-preserved : goal.loop-e-preserved
 unfolding right_count

@@ -2,4 +2,4 @@ use Rattle.wall.specs.SheetTold.{long_says}
 use Rattle.sheet.proofs.SheetPrinter.print.Goals as goal
 
 pub returns : goal.returns
-returns c = (long_says _ _ _ _ c.sheet.ensures c.requires).1
+returns c = let told = long_says _ _ _ _ c.sheet.ensures c.requires in record { len = told.0; printed = told.1 }
