@@ -105,7 +105,7 @@ pub fn width(op: u8) -> u8
 }
 
 impl Section {
-    // The section of a command byte. Stays tests and no `match` of ranges: with one, whose ranges are tested in another order, reading takes 5 % more.
+    // The section of a command byte. Stays tests and no `match` of ranges: with one, whose ranges are tested in another order, reading takes 1 to 2 % more.
     #[tactic(auto, unfolding(crate::specs::Bytes::section_byte))]
     pub fn of(op: u8) -> Section
         ensures { section_no result ≡ section_byte op }
