@@ -9,13 +9,13 @@ ghost use Rattle.output.specs.Lines.{printed};
 use format::TEXT_BYTES;
 use std::io;
 use std::io::{Read, Write};
-use stream::{Printer, Served};
+use stream::{ExactPrinter, Served};
 use table::MOST_BYTES;
 
 // What the desk prints of a job: its lines.
 struct Lines;
 
-impl Printer for Lines {
+impl ExactPrinter for Lines {
     ghost text = { printed };
 
     ghost room = { 128 };
@@ -35,7 +35,7 @@ fn serve<R: Read, W: Write>(input: &mut R, output: &mut W) -> Served
 {
     let mut job = [0u8; MOST_BYTES];
     let mut text = [0u8; TEXT_BYTES];
-    stream::serve::<Lines, R, W>(input, output, &mut job, &mut text)
+    stream::serve_exact::<Lines, R, W>(input, output, &mut job, &mut text)
 }
 
 fn main(rt: HostRuntime) -> io::Result<()> {

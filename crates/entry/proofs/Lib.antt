@@ -6,3 +6,4 @@ pub mod TypeLaws
 pub mod ValueLaws
 pub mod Agree
 pub mod OpBytes
+pub mod Sorts

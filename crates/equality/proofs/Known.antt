@@ -20,7 +20,7 @@ use Rattle.equality.specs.Known.{Known, number_of, relation_of, word_of, pick, t
 use Rattle.equality.proofs.Words.{by_kind, level_of, first_of, second_of, of_words}
 
 -- the number of a relation is its own
-relation_is : (r : Relation) → relation_of (number_of r) ≡ r
+pub relation_is : (r : Relation) → relation_of (number_of r) ≡ r
 unfolding relation_of number_of
 relation_is Same = refl
 relation_is Below = refl

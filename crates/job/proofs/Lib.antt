@@ -5,3 +5,4 @@ pub mod Ancestors
 pub mod Turn
 pub mod Zeros
 pub mod ReadTables
+pub mod ByByte

@@ -10,14 +10,14 @@ ghost use Rattle.wall.specs.Listed.{sheet_bytes};
 
 use std::io;
 use std::io::{Read, Write};
-use stream::{Printer, Served};
+use stream::{ExactPrinter, Served};
 use table::MOST_BYTES;
 use wall::SHEET_BYTES;
 
 // What the sheet program prints of a job: its sheet.
 struct Sheet;
 
-impl Printer for Sheet {
+impl ExactPrinter for Sheet {
     ghost text = { sheet_of };
 
     ghost room = { sheet_bytes };
@@ -35,7 +35,7 @@ fn serve<R: Read, W: Write>(input: &mut R, output: &mut W) -> Served
 {
     let mut job = [0u8; MOST_BYTES];
     let mut text = [0u8; SHEET_BYTES];
-    stream::serve::<Sheet, R, W>(input, output, &mut job, &mut text)
+    stream::serve_exact::<Sheet, R, W>(input, output, &mut job, &mut text)
 }
 
 fn main(rt: HostRuntime) -> io::Result<()> {

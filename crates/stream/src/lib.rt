@@ -1,12 +1,13 @@
 // Standard input and output of the programs, and any other reader and writer: a read that fails is told from the end of the input, and a write that fails from one that does not.
 #![tactic(auto)]
 
-ghost use Rattle.std.specs.Prelude.{◌≡◌, ℕ, ◌+◌, ◌≤◌, ◌<◌, true, false, cond, List, [], length, take, MatchResult, IfOk, OnOk, IfSome, is_ok};
+ghost use Rattle.std.specs.Prelude.{◌≡◌, ℕ, ◌+◌, ◌≤◌, ◌<◌, true, false, cond, List, [], ◌∷◌, length, take, MatchResult, IfOk, OnOk, IfSome, is_ok};
 ghost use Rattle.std.specs.Io.KnownBytes.{Appends, Consumes, IsAtEnd, Keeps};
 ghost use Rattle.stream.specs.Input.{read_length};
 
 use std::io;
 use std::io::{ErrorKind, Read, Write};
+use std::marker::PhantomData;
 
 // A read failed: so many bytes were read before it.
 #[derive(Clone, Copy)]
@@ -67,6 +68,18 @@ pub trait Printer {
 
     ghost room: { ℕ };
 
+    // Puts the text of the job at the start of a buffer with room for it, and returns how many bytes it has; where the text fills the buffer, any number past it serves.
+    fn print(job: &[u8], buffer: &mut [u8]) -> usize
+        requires { room ≤ length buffer.old }
+        ensures { take result buffer.new ≡ text job.now };
+}
+
+// A printer that returns just how many bytes the text has, so that a text that fills the buffer is not refused for its length. A trait of its own, since it asks more of who implements it.
+pub trait ExactPrinter {
+    ghost text: { List ℕ → List ℕ };
+
+    ghost room: { ℕ };
+
     // Puts the text of the job at the start of a buffer with room for it, and returns how many bytes it has.
     fn print(job: &[u8], buffer: &mut [u8]) -> usize
         requires { room ≤ length buffer.old }
@@ -74,8 +87,23 @@ pub trait Printer {
         ensures printed { take result buffer.new ≡ text job.now };
 }
 
+// Any printer made exact: no more is returned than the buffer has.
+struct Within<P> {
+    of: PhantomData<P>,
+}
+
+impl<P: Printer> ExactPrinter for Within<P> {
+    ghost text = { P.text };
+
+    ghost room = { P.room };
+
+    fn print(job: &[u8], buffer: &mut [u8]) -> usize {
+        P::print(job, buffer).min(buffer.len())
+    }
+}
+
 // The text of a job that is read whole, and none of another. Returns how many bytes it has.
-fn reply<P: Printer>(job: &[u8], told: Result<usize, Cut>, buffer: &mut [u8]) -> usize
+fn reply<P: ExactPrinter>(job: &[u8], told: Result<usize, Cut>, buffer: &mut [u8]) -> usize
     requires room { P.room ≤ length buffer.old }
     requires fits { read_length told ≤ length job.now }
     ensures len { result ≡ length (cond (is_ok told) (P.text (take (read_length told) job.now)) []) }
@@ -95,7 +123,7 @@ pub struct Served {
 }
 
 // Reads a job and writes its text: that of the bytes that the input has, as far as the room for the job goes. Of a job that cannot be read nothing is written.
-pub fn serve<P: Printer, R: Read, W: Write>(
+pub fn serve_exact<P: ExactPrinter, R: Read, W: Write>(
     input: &mut R,
     output: &mut W,
     job: &mut [u8],
@@ -114,6 +142,22 @@ pub fn serve<P: Printer, R: Read, W: Write>(
         read: told.is_ok(),
         written: written.is_ok(),
     }
+}
+
+// The same of any printer, also of one that is not exact.
+pub fn serve<P: Printer, R: Read, W: Write>(
+    input: &mut R,
+    output: &mut W,
+    job: &mut [u8],
+    buffer: &mut [u8],
+) -> Served
+    requires { P.room ≤ length buffer.old }
+    ensures text { result.read ≡ true → result.written ≡ true → IfSome (R.remaining input.old)
+        (λ bytes. Appends (W.contents output.old) (W.contents output.new)
+        (P.text (take (length job.old) bytes))) }
+    ensures none { result.read ≡ false → Keeps (W.contents output.old) (W.contents output.new) }
+{
+    serve_exact::<Within<P>, R, W>(input, output, job, buffer)
 }
 
 #[cfg(test)]
@@ -244,6 +288,58 @@ mod tests {
         let mut full: &mut [u8] = &mut room;
         assert!(rt; write(&mut full, b"six by", 6).is_err());
         assert_eq!(rt; room, *b"six ");
+        Ok(())
+    }
+
+    // Prints a star, and where that fills the buffer returns a byte more.
+    struct Star;
+
+    impl Printer for Star {
+        ghost text = { λ job. 42 ∷ [] };
+
+        ghost room = { 1 };
+
+        fn print(_job: &[u8], buffer: &mut [u8]) -> usize {
+            buffer[0] = b'*';
+            if buffer.len() == 1 { 2 } else { 1 }
+        }
+    }
+
+    // Each printer is served, also one that is not exact where its text fills the buffer.
+    #[test]
+    fn any_printer_is_served(rt: HostRuntime) -> Result<(), Fail> {
+        let mut held = Vec::new(rt.alloc());
+        let mut job = [0u8; 4];
+        let mut wide = [0u8; 9];
+        let mut input: &[u8] = b"job";
+        let served = serve::<Star, &[u8], Vec<u8>>(&mut input, &mut held, &mut job, &mut wide);
+        assert!(rt; served.read && served.written);
+        let mut full = [0u8; 1];
+        let served = serve::<Star, &[u8], Vec<u8>>(&mut input, &mut held, &mut job, &mut full);
+        assert!(rt; served.read && served.written);
+        assert_eq!(rt; held.as_slice(), b"**".as_slice());
+        Ok(())
+    }
+
+    // Of a job that cannot be read no printer's text is written.
+    #[test]
+    fn no_printer_for_a_failed_read(rt: HostRuntime) -> Result<(), Fail> {
+        let mut held = Vec::new(rt.alloc());
+        let mut job = [0u8; 4];
+        let mut text = [0u8; 9];
+        let mut reader = Faulty {
+            left: b"job",
+            reads: 0,
+            fails: 1,
+        };
+        let served = serve::<Star, Faulty<'_>, Vec<u8>>(
+            &mut reader,
+            &mut held,
+            &mut job,
+            &mut text,
+        );
+        assert!(rt; !served.read && served.written);
+        assert_eq!(rt; held.as_slice(), b"".as_slice());
         Ok(())
     }
 }

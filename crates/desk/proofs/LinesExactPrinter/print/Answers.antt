@@ -1,7 +1,7 @@
 use Rattle.std.proofs.Common.{◌≡◌, length, sym, ◌∙◌, rules, length-take-le}
 use Rattle.format.specs.Text.{text_of}
 use Rattle.desk.proofs.Serving.{count_lines, put_lines}
-use Rattle.desk.proofs.LinesPrinter.print.Goals as goal
+use Rattle.desk.proofs.LinesExactPrinter.print.Goals as goal
 
 pub copy_from_slice-requires : goal.copy_from_slice-requires
 copy_from_slice-requires c =

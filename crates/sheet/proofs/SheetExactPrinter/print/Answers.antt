@@ -1,5 +1,5 @@
 use Rattle.wall.specs.SheetTold.{long_says}
-use Rattle.sheet.proofs.SheetPrinter.print.Goals as goal
+use Rattle.sheet.proofs.SheetExactPrinter.print.Goals as goal
 
 pub returns : goal.returns
 returns c = let told = long_says _ _ _ _ c.sheet.ensures c.requires in record { len = told.0; printed = told.1 }
