@@ -74,7 +74,7 @@ pub trait Printer {
         ensures { take result buffer.new ≡ text job.now };
 }
 
-// A printer that returns just how many bytes the text has, so that a text that fills the buffer is not refused for its length. A trait of its own, since it asks more of who implements it.
+// A printer that returns just how many bytes the text has, also where the text fills the buffer, so that `write` can be handed what it returns. A trait of its own, since it asks more of who implements it.
 pub trait ExactPrinter {
     ghost text: { List ℕ → List ℕ };
 
@@ -305,7 +305,7 @@ mod tests {
         }
     }
 
-    // Each printer is served, also one that is not exact where its text fills the buffer.
+    // A printer that is not exact is served too, also where its text fills the buffer.
     #[test]
     fn any_printer_is_served(rt: HostRuntime) -> Result<(), Fail> {
         let mut held = Vec::new(rt.alloc());
